@@ -1,5 +1,5 @@
 -- Step by step: routines that are named are there, no main is called, and what is bound is the execution's own.
-use Rattle.std.proofs.Common.{◌≡◌, ℕ, ◌⊎◌, inl, inr, Bool, true, false, List, [], ◌∷◌, Option, Some, None, refl, sym, ap, ◌∙◌, subst}
+use Rattle.std.proofs.Common.{◌≡◌, ℕ, true, false, List, [], ◌∷◌, Option, Some, None, ap, subst}
 use Rattle.std.specs.Prelude.{drop, is_some, slice_get}
 use Rattle.uc_tree.specs.Programs.{Program}
 use Rattle.uc_tree.specs.Source as src
@@ -12,7 +12,6 @@ use Rattle.uc_machine.specs.declared.exec.Exec.{Exec}
 use Rattle.uc_machine.specs.declared.exec.Owner.TheVariants.{Frame, Fields}
 use Rattle.uc_machine.specs.Pieces as piece
 use Rattle.uc_machine.specs.Pieces.{Value, Number, Place, Running, Object, Nothing, Todo, State, top, below}
-use Rattle.uc_machine.specs.Quiet.{quiet}
 use Rattle.uc_machine.specs.Rides.{Rides, slices, goes_on, ticks, asks}
 use Rattle.uc_meaning.specs.Runs.{World, Runs, gives, no_room, acts, begun, more}
 use Rattle.uc_resolve.specs.Resolve.{source_of}
@@ -37,12 +36,11 @@ use Rattle.uc_letting_laws.proofs.StandingWorlds.{standing_start}
 use Rattle.uc_letting_laws.proofs.LettingWorlds.{both_run}
 use Rattle.uc_calls_laws.specs.Calls.{main_part_of, IsUncalled}
 use Rattle.uc_calls_laws.proofs.CallParts.{law_no_mains}
-use Rattle.uc_putting_laws.specs.PuttingLaws.{setting_of, Fair}
 use Rattle.uc_putting_laws.specs.OwnPlaces.{OwnPlacesAt, OwnPlaces}
 use Rattle.uc_putting_laws.proofs.OwnPlaces.{law_own_places}
 use Rattle.uc_rooted_runs.specs.Binds.{IsOwnPlace, BindsOwnBy, BindsOwn}
-use Rattle.uc_rooted_runs.specs.Mains.{IsNoMain, AreNoMains, CallsNoMainBy, CallsNoMain, IsThere, FindsBy, FindsAll}
-use Rattle.uc_lasting_programs.specs.Finding.{IsFound, LawFinding}
+use Rattle.uc_rooted_runs.specs.Mains.{IsNoMain, AreNoMains, CallsNoMainBy, CallsNoMain, FindsBy, FindsAll}
+use Rattle.uc_lasting_programs.specs.Finding.{LawFinding}
 
 -- routines that are named are there
 

@@ -9,7 +9,7 @@ use Rattle.uc_acts.specs.Known.{is_gone}
 use Rattle.uc_acts.specs.Serves.{left}
 use Rattle.uc_acts.specs.KernelRuns.{InRange}
 use Rattle.uc_machine.specs.declared.exec.Exec.{Exec}
-use Rattle.uc_machine.specs.Pieces.{Value, Object, Todo, EnterNow, RaiseAtNow, Active, State, top}
+use Rattle.uc_machine.specs.Pieces.{Value, Object, Todo, EnterNow, Active, State}
 use Rattle.uc_machine.specs.Quiet.{quiet, Asks}
 use Rattle.uc_machine.specs.Answering.{answered}
 use Rattle.uc_resolve.specs.Resolve.{source_of}

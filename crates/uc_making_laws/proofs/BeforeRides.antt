@@ -1,50 +1,37 @@
 -- Just before an object goes, or is given up, it is nowhere in the world, on the way to what is asked next.
-use Rattle.std.proofs.Common.{◌≡◌, ℕ, ◌<◌, Bool, true, false, List, [], ◌∷◌, ◌++◌, refl, sym, subst}
+use Rattle.std.proofs.Common.{◌≡◌, ℕ, ◌<◌, List, [], ◌∷◌, ◌++◌, refl, sym, subst}
 use Rattle.uc_tree.specs.Source.{Source}
-use Rattle.uc_entry.specs.declared.entry.Options.{Options}
 use Rattle.uc_entry.specs.declared.request.Asked.{Asked}
 use Rattle.uc_acts.specs.Acts.{act}
-use Rattle.uc_acts.specs.Journal.{Journal, is_over}
 use Rattle.uc_acts.specs.Known.{task_count}
-use Rattle.uc_acts.specs.KernelRuns.{InRange}
-use Rattle.uc_acts.specs.Serves.{left}
 use Rattle.uc_machine.specs.declared.exec.Exec.{Exec}
 use Rattle.uc_machine.specs.Monitors.{this_object}
 use Rattle.uc_machine.specs.Pieces as piece
 use Rattle.uc_machine.specs.Pieces.{Value, Todo, GoneNow, GiveUpNow, Active, State}
-use Rattle.uc_machine.specs.Quiet.{quiet}
 use Rattle.uc_machine.specs.Answering.{answered}
 use Rattle.uc_machine.specs.Rides.{Rides, slices, goes_on, ticks, asks}
-use Rattle.uc_meaning.specs.Runs.{World, Runs, AsksIn, acts, more, drawn, world_after}
-use Rattle.uc_state_laws.specs.Fitting.{RunFits}
+use Rattle.uc_meaning.specs.Runs.{Runs, acts, more, drawn, world_after}
 use Rattle.uc_state_laws.proofs.Others.{run_rests}
 use Rattle.uc_state_laws.specs.RoomRuns.{stays}
-use Rattle.uc_state_laws.specs.Opens.{RideMeets, RunMeets}
-use Rattle.uc_name_laws.specs.NameSteps as names
-use Rattle.uc_life_laws.specs.RunningRuns.{RunLeaves}
+use Rattle.uc_state_laws.specs.Opens.{RideMeets}
 use Rattle.uc_life_laws.proofs.NamedWorlds.{run_named, known}
-use Rattle.uc_typing.specs.Typing.{Ty, Table}
+use Rattle.uc_typing.specs.Typing.{Table}
 use Rattle.uc_life_laws.specs.Things.{Few}
 use Rattle.uc_life_laws.specs.Knowing.{KnowsState}
-use Rattle.uc_life_laws.specs.OwnNames.{StaysOwn}
 use Rattle.uc_life_laws.proofs.OwnNamesLemmas.{law_own_names}
 use Rattle.uc_life_laws.specs.Belonging.{Belongs}
-use Rattle.uc_life_laws.specs.Marks.{Marked, Free, Outward, Lone, AllLone, LoneState, LoneStep, Puts}
+use Rattle.uc_life_laws.specs.Marks.{Marked, Free, Outward, AllLone, LoneState, LoneStep, Puts}
 use Rattle.uc_life_laws.proofs.UnmarkedWalk.{law_steps}
 use Rattle.uc_life_laws.proofs.UnmarkedWorlds.{law_runs}
 use Rattle.uc_apart_laws.specs.Before.{Before, BeforeAt, NowhereBefore}
-use Rattle.uc_rooted_runs.specs.Makers.{Outside}
-use Rattle.uc_rooted_runs.specs.Binds.{BindsOwn}
 use Rattle.uc_rooted_runs.specs.FreshStates.{FreshEnv, FreshStep, KeepsFresh}
 use Rattle.uc_rooted_runs.specs.MainRuns.{EndsMains}
-use Rattle.uc_rooted_runs.specs.Mains.{CallsNoMain, FindsAll}
-use Rattle.uc_rooted_runs.specs.OutlastRuns.{with_before, run_made}
-use Rattle.uc_rooted_runs.specs.KeptRuns.{RideKeeps, RunKeeps}
+use Rattle.uc_rooted_runs.specs.OutlastRuns.{with_before}
 use Rattle.uc_rooted_runs.proofs.FreshRuns.{law_fresh, drawn_fresh}
 use Rattle.uc_rooted_runs.proofs.KeptRuns.{ride_keeps, run_keeps}
 use Rattle.uc_rooted_runs.proofs.MainRuns.{law_mains}
-use Rattle.uc_making_laws.specs.OwnThis.{FindsThis, ThisState}
-use Rattle.uc_making_laws.specs.Upheld.{MadeLaterTo, UpheldAt}
+use Rattle.uc_making_laws.specs.OwnThis.{ThisState}
+use Rattle.uc_making_laws.specs.Upheld.{UpheldAt}
 use Rattle.uc_making_laws.specs.BeforeRides.{IsRootedOnWay, RootedOnWay, RootedOnWayBy, LawBeforeRides}
 use Rattle.uc_making_laws.proofs.BeforeWorlds.{before as nowhere_before}
 use Rattle.uc_making_laws.proofs.ThisRuns.{law_this_runs}

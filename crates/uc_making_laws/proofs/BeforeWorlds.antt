@@ -1,5 +1,5 @@
 -- While a task has come to where an object goes, or is given up, it is nowhere in the world as it stands then.
-use Rattle.std.proofs.Common.{◌≡◌, ℕ, ◌==◌, ◌<◌, ◌≤◌, ◌⊎◌, inl, inr, Bool, true, false, List, [], ◌∷◌, Option, Some, None, refl, sym, ap, ◌∙◌, subst, arith, ⊎_elim}
+use Rattle.std.proofs.Common.{◌≡◌, ℕ, ◌==◌, ◌<◌, ◌≤◌, Bool, true, false, List, ◌∷◌, Option, Some, None, refl, sym, ap, ◌∙◌, subst, arith, ⊎_elim}
 use Rattle.std.specs.Prelude.{if◌then◌else◌}
 use Rattle.std.proofs.lemmas.Bool.{eqb-true, eq-eqb, ne_eqb}
 use Rattle.uc_tree.specs.Source.{Source, routine_of}
@@ -16,12 +16,11 @@ use Rattle.uc_meaning.specs.Runs.{World, or_else}
 use Rattle.uc_name_laws.proofs.Homes.{no_both}
 use Rattle.uc_life_laws.proofs.NamedWorlds.{found_none}
 use Rattle.uc_typing.specs.Typing.{Ty, Cell, Obj, Table}
-use Rattle.uc_life_laws.specs.Things.{Few, Base, Stands, lies, inside}
+use Rattle.uc_life_laws.specs.Things.{Few, Stands}
 use Rattle.uc_life_laws.specs.LifeStates.{EnvBy, MembersBy}
-use Rattle.uc_life_laws.specs.Knowing.{main_of}
 use Rattle.uc_life_laws.proofs.Cells.{tested}
 use Rattle.uc_life_laws.proofs.Parked.{found_hand}
-use Rattle.uc_life_laws.specs.Rooted.{Lives, OwnThings, Yet, OwnObject, StandsUpwards}
+use Rattle.uc_life_laws.specs.Rooted.{Lives, OwnThings, Yet, StandsUpwards}
 use Rattle.uc_life_laws.proofs.Fewer.{both_members, both_env}
 use Rattle.uc_life_laws.proofs.Rooted.{stands_split}
 use Rattle.uc_life_laws.specs.OwnNames as own_names

@@ -1,6 +1,5 @@
 -- Nobody else builds or destroys an object that is at home in what is one's own, and at hand of nobody.
-use Rattle.std.proofs.Common.{◌≡◌, ℕ, inl, inr, Bool, List, [], ◌∷◌, Option, Some, None, refl, sym, ap, subst, ⊎_elim}
-use Rattle.std.specs.Prelude.{◌⊎◌}
+use Rattle.std.proofs.Common.{◌≡◌, ℕ, inl, inr, Bool, List, [], ◌∷◌, Option, Some, None, refl, sym, subst}
 use Rattle.uc_acts.specs.Journal.{Journal}
 use Rattle.uc_machine.specs.declared.exec.Exec.{Exec}
 use Rattle.uc_machine.specs.declared.exec.Home.{Home}
@@ -11,10 +10,9 @@ use Rattle.uc_machine.specs.Executions.{Execution, others}
 use Rattle.uc_machine.specs.Pieces as piece
 use Rattle.uc_machine.specs.Pieces.{Value, Object, Todo, Sort, sort, Active, Members}
 use Rattle.uc_meaning.specs.Runs.{World}
-use Rattle.uc_typing.specs.Typing.{Ty, Cell, Obj, Raw, Sig, Table}
-use Rattle.uc_life_laws.specs.Things.{Few, Things, Stands}
+use Rattle.uc_typing.specs.Typing.{Ty, Cell, Obj, Sig, Table}
+use Rattle.uc_life_laws.specs.Things.{Few, Things}
 use Rattle.uc_life_laws.specs.LifeStates.{SlotBy, ParkedBy, HandBy, MembersBy, EnvBy}
-use Rattle.uc_life_laws.specs.Knowing.{InMaking}
 use Rattle.uc_life_laws.specs.Rooted.{InSlot, InParked, InHand, InMembers, Lives}
 use Rattle.uc_life_laws.proofs.Fewer.{both_env}
 use Rattle.uc_life_laws.proofs.Rooted.{env_in, stands_more}
@@ -25,9 +23,9 @@ use Rattle.uc_life_laws.proofs.Own.{law_own}
 use Rattle.uc_apart_laws.specs.Clear.{NotMaking, IsNoHome}
 use Rattle.uc_apart_laws.specs.Nowhere.{IsNowhere, SparesBy, SparesEx}
 use Rattle.uc_apart_laws.proofs.Nowhere.{law_nowhere}
-use Rattle.uc_life_laws.specs.Placed.{Placed, placed}
+use Rattle.uc_life_laws.specs.Placed.{placed}
 use Rattle.uc_rooted_runs.specs.FreshStates.{FreshBy, FreshEx}
-use Rattle.uc_making_laws.specs.OwnThis.{HasHome, Has, ThisStack, ThisEx}
+use Rattle.uc_making_laws.specs.OwnThis.{HasHome, Has, ThisStack}
 use Rattle.uc_making_laws.specs.ThisRuns.{ThisWorld}
 use Rattle.uc_making_laws.specs.NoOthers.{NoThis, LawNoOthers}
 

@@ -24,7 +24,7 @@ use Rattle.uc_machine.specs.Pieces as piece
 use Rattle.uc_machine.specs.Pieces.{Value, Number, Place, Running, Object, Nothing, Todo, Sort, Active, State, Env, Members, Step, Goes, Ticks, Asks, Outcome, Gives, Faults, at, in_env, top, below, number, nought, written}
 use Rattle.uc_typing.specs.Typing.{Ty, Cell, Obj, Table}
 use Rattle.uc_life_laws.specs.Things.{Few, Things}
-use Rattle.uc_making_laws.specs.OwnThis.{HasHome, Has, ThisStack, ThisEx, ThisState, ThisStep}
+use Rattle.uc_making_laws.specs.OwnThis.{HasHome, Has, ThisStack, ThisState, ThisStep}
 use Rattle.uc_life_laws.proofs.Cells.{either}
 use Rattle.uc_life_laws.proofs.Rooted.{stands_more}
 use Rattle.uc_making_laws.proofs.ThisKeeping as kept

@@ -1,6 +1,6 @@
 -- Every quiet step of a task whose activations have their objects, and answers to it.
 use Rattle.std.proofs.Common.{◌≡◌, ℕ, List, [], ◌∷◌, Option, Some, None, refl, subst}
-use Rattle.std.specs.Prelude.{nat_lt, slice_get, drop}
+use Rattle.std.specs.Prelude.{slice_get, drop}
 use Rattle.uc_tree.specs.Source as src
 use Rattle.uc_tree.specs.Source.{Source, Stmts, Routine, routine_of}
 use Rattle.uc_entry.specs.declared.request.Answer.{Answer}

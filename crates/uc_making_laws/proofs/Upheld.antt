@@ -15,7 +15,7 @@ use Rattle.uc_machine.specs.declared.exec.Exec.{Exec}
 use Rattle.uc_machine.specs.declared.exec.Home.{Home}
 use Rattle.uc_machine.specs.declared.exec.Home.TheVariants as home
 use Rattle.uc_machine.specs.Executions.{Execution, members_at}
-use Rattle.uc_machine.specs.Pieces.{Value, Todo, State, Members, Step, Goes, Ticks, Asks}
+use Rattle.uc_machine.specs.Pieces.{Value, Todo, State, Members, Goes, Ticks, Asks}
 use Rattle.uc_machine.specs.Quiet.{quiet}
 use Rattle.uc_machine.specs.Answering.{answered}
 use Rattle.uc_machine.specs.Rides.{Rides, slices, goes_on, ticks, asks}
@@ -27,7 +27,7 @@ use Rattle.uc_step_laws.specs.Holding.{StepHolding}
 use Rattle.uc_step_laws.proofs.Walk.{law_steps}
 use Rattle.uc_state_laws.proofs.Lists.{Once, once_rest, first_once}
 use Rattle.uc_state_laws.specs.Opens.{RideMeets, RunMeets}
-use Rattle.uc_name_laws.specs.Below.{IsBelow, EnvNamed}
+use Rattle.uc_name_laws.specs.Below.{EnvNamed}
 use Rattle.uc_name_laws.specs.NameSteps as names
 use Rattle.uc_name_laws.specs.NameSteps.{Named, StepNamed}
 use Rattle.uc_name_laws.proofs.Homes.{no_both}

@@ -2,12 +2,11 @@
 use Rattle.std.specs.Prelude.{◌≡◌, ℕ, Bool, List, [], ◌∷◌}
 use Rattle.uc_acts.specs.Journal.{Journal}
 use Rattle.uc_machine.specs.declared.exec.Exec.{Exec}
-use Rattle.uc_machine.specs.declared.exec.Home.TheVariants as home
 use Rattle.uc_machine.specs.Pieces.{Value, Object, Active}
 use Rattle.uc_meaning.specs.Runs.{World}
 use Rattle.uc_typing.specs.Typing.{Ty, Sig, Table}
 use Rattle.uc_life_laws.specs.Things.{Few, Things}
-use Rattle.uc_life_laws.specs.LifeStates.{EnvBy, MembersBy}
+use Rattle.uc_life_laws.specs.LifeStates.{EnvBy}
 use Rattle.uc_life_laws.specs.Rooted.{Lives}
 use Rattle.uc_life_laws.specs.Belonging.{Belongs}
 use Rattle.uc_apart_laws.specs.Clear.{NotMaking, IsNoHome}

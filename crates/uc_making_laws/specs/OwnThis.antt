@@ -14,7 +14,7 @@ use Rattle.uc_machine.specs.Pieces as piece
 use Rattle.uc_machine.specs.Pieces.{Value, Todo, CallOnNow, CallUnwrittenNow, SetUpNow, SpawnNow, Active, State, Members, Step, Goes, Ticks, Asks, top, below}
 use Rattle.uc_machine.specs.Quiet.{quiet, home_at, first_state}
 use Rattle.uc_machine.specs.Answering.{answered}
-use Rattle.uc_typing.specs.Typing.{Ty, Cell, Obj, Table}
+use Rattle.uc_typing.specs.Typing.{Cell, Obj, Table}
 use Rattle.uc_life_laws.specs.Things.{Few, Things, Stands}
 use Rattle.uc_life_laws.specs.LifeStates.{EnvBy, MembersBy}
 use Rattle.uc_life_laws.specs.Knowing.{main_of}

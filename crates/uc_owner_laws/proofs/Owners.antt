@@ -1,5 +1,5 @@
 -- By the ranks of executions: whoever is at home where a task stands in what one has at hand is of a task.
-use Rattle.std.proofs.Common.{◌≡◌, ℕ, zero, suc, ◌<◌, ◌⊎◌, inl, inr, ◌&&◌, Bool, true, false, not, List, [], ◌∷◌, refl, ap, ◌∙◌, arith, ⊎_elim}
+use Rattle.std.proofs.Common.{◌≡◌, ℕ, zero, suc, ◌<◌, ◌⊎◌, inl, inr, ◌&&◌, Bool, true, false, not, List, [], refl, ap, ◌∙◌, arith, ⊎_elim}
 use Rattle.std.specs.Prelude.{nat_lt}
 use Rattle.std.proofs.lemmas.Bool.{lt-ltb}
 use Rattle.uc_tree.specs.Programs.{Program}
@@ -18,7 +18,6 @@ use Rattle.uc_life_laws.proofs.Rooted.{things_split, stands_more, stands_split, 
 use Rattle.uc_tasked_laws.specs.Aims.{IsAimed}
 use Rattle.uc_tasked_laws.specs.SeatedStates.{Told, IsFree}
 use Rattle.uc_tasked_laws.specs.TaskedRuns.{is_pending, told_by}
-use Rattle.uc_tasked_laws.specs.TaskedLaws.{InScope}
 use Rattle.uc_tasked_laws.proofs.SeatThings.{law_things}
 use Rattle.uc_owner_laws.specs.Owners.{nothing_yet, KeepsOwners, LawOwners}
 

@@ -1,12 +1,11 @@
 -- What is bound in a frame of the running execution stands in no frame of one that has not begun.
-use Rattle.std.proofs.Common.{◌≡◌, ℕ, Bool, true, false, List, [], ◌∷◌, Option, Some, None, refl, sym, ap, ◌∙◌, subst}
+use Rattle.std.proofs.Common.{◌≡◌, ℕ, Bool, true, List, [], ◌∷◌, Option, Some, None, refl, sym, ap, ◌∙◌, subst}
 use Rattle.std.specs.Prelude.{drop, slice_get, if◌then◌else◌}
-use Rattle.uc_tree.specs.Source.{Source, Routine}
+use Rattle.uc_tree.specs.Source.{Routine}
 use Rattle.uc_machine.specs.declared.exec.Exec.{Exec}
 use Rattle.uc_machine.specs.declared.exec.Owner.TheVariants.{Frame, Fields}
 use Rattle.uc_machine.specs.Executions.{Execution, exec_eq, parked_at, change, value_changed, frame_changed, frames_changed}
 use Rattle.uc_machine.specs.Switches.{one_more, born, new_exec}
-use Rattle.uc_machine.specs.Pieces as piece
 use Rattle.uc_machine.specs.Pieces.{Value, Number, Place, Running, Object, Nothing, Todo, SetUpNow, BindNow, BindMadeNow, State, Env, Goes, at, in_env, address, stored, nought, written, top, below}
 use Rattle.uc_machine.specs.Quiet as quiet
 use Rattle.uc_machine.specs.Quiet.{home_at, fresh}

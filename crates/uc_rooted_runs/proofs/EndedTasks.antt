@@ -11,8 +11,7 @@ use Rattle.uc_entry.specs.declared.request.Asked.{Asked}
 use Rattle.uc_entry.specs.declared.request.Piece.{Piece}
 use Rattle.uc_entry.specs.declared.request.Request.{Request}
 use Rattle.uc_entry.specs.declared.request.Request.TheVariants as ask
-use Rattle.uc_acts.specs.Journal.{Journal, Cost, no_cost, is_over, cost, own_object, inside, asking}
-use Rattle.uc_acts.specs.Queues.{next}
+use Rattle.uc_acts.specs.Journal.{Journal, Cost, no_cost, is_over, cost, own_object, inside}
 use Rattle.uc_acts.specs.Pending.{pending, oldest_in}
 use Rattle.uc_acts.specs.Doors.{site_at, open_at, next_met, blocked}
 use Rattle.uc_acts.specs.Known.{ends, has_ended}

@@ -1,5 +1,5 @@
 -- Names tell the rest, so nobody has at hand what has gone.
-use Rattle.std.proofs.Common.{◌≡◌, ℕ, ◌<◌, ◌≤◌, ◌⊎◌, inl, inr, Bool, true, false, List, [], ◌∷◌, ◌++◌, Option, Some, None, refl, sym, ap, ◌∙◌, subst, ⊎_elim}
+use Rattle.std.proofs.Common.{◌≡◌, ℕ, ◌<◌, ◌≤◌, inl, inr, Bool, true, false, List, [], ◌∷◌, ◌++◌, Option, Some, None, refl, sym, ap, ◌∙◌, subst, ⊎_elim}
 use Rattle.std.specs.Prelude.{if◌then◌else◌}
 use Rattle.std.proofs.lemmas.Bool.{cases_lt}
 use Rattle.uc_tree.specs.Source.{Source, routine_of}
@@ -32,7 +32,7 @@ use Rattle.uc_life_laws.specs.LifeStates.{SlotBy, ParkedBy, HandBy, MembersBy}
 use Rattle.uc_life_laws.specs.Rooted.{InSlot, InParked, InHand, InMembers, Lives}
 use Rattle.uc_life_laws.specs.Ways.{LeavesAt}
 use Rattle.uc_life_laws.proofs.Ways.{law_ways}
-use Rattle.uc_rooted_runs.specs.Makers.{Outside, Makers, seating}
+use Rattle.uc_rooted_runs.specs.Makers.{Makers, seating}
 use Rattle.uc_rooted_runs.specs.Births.{MakesLater, RunSpawnsLater}
 use Rattle.uc_life_laws.specs.OwnNames.{StepOwn, StaysOwn, RunOwns}
 use Rattle.uc_life_laws.proofs.OwnNamesLemmas.{run_first, law_own_names}

@@ -1,5 +1,5 @@
 -- Mains stay the oldest activations where members, executions and who runs change.
-use Rattle.std.proofs.Common.{◌≡◌, ℕ, length, ap, ◌∙◌, true, false, List, ◌∷◌, Option, Some, None, refl, sym, subst}
+use Rattle.std.proofs.Common.{◌≡◌, ℕ, ◌∙◌, true, false, List, Option, Some, None, refl}
 use Rattle.uc_entry.specs.declared.fault.RunFault.TheVariants.{ResumeInUse, SwitchInUnwind}
 use Rattle.uc_entry.specs.Keyed.{find}
 use Rattle.uc_machine.specs.declared.exec.Exec.{Exec}
@@ -9,11 +9,10 @@ use Rattle.uc_machine.specs.declared.exec.Owner.{Owner}
 use Rattle.uc_machine.specs.declared.exec.Owner.TheVariants.{Frame, Fields}
 use Rattle.uc_machine.specs.declared.exec.Stage.{Stage}
 use Rattle.uc_machine.specs.declared.exec.Stage.TheVariants.{Fresh, Started, Ended}
-use Rattle.uc_machine.specs.Executions.{Links, exec_eq, joined, change, parked_at, frames_by, frames_changed, frame_changed, value_changed, with_owned, with_frames, at_depth, list_in}
+use Rattle.uc_machine.specs.Executions.{Links, exec_eq, joined, change, parked_at, frames_by, frames_changed, frame_changed, value_changed, with_owned, with_frames}
 use Rattle.uc_machine.specs.Switches as sw
 use Rattle.uc_machine.specs.Switches.{Moved, To, Stops}
-use Rattle.uc_machine.specs.Pieces.{Value, Number, Place, Running, Object, Nothing, Todo, Active, State, Env, Members, address, stored, nought, written}
-use Rattle.uc_tree.specs.Source.{CleanUp}
+use Rattle.uc_machine.specs.Pieces.{Value, Number, Place, Running, Object, Nothing, Todo, State, Env, Members, address, stored, nought, written}
 use Rattle.uc_life_laws.specs.LifeStates.{SlotBy, ParkedBy, EnvBy}
 use Rattle.uc_rooted_runs.specs.Mains.{MainEx, MainState}
 use Rattle.uc_life_laws.proofs.Cells.{either}

@@ -1,6 +1,6 @@
 -- In each run in which no main is called nobody waits for one, so that where one ends nothing is left to clean up.
 use Rattle.std.proofs.Common.{◌≡◌, ℕ, ◌==◌, List, [], ◌∷◌, Option, Some, None, refl, subst}
-use Rattle.uc_tree.specs.Source.{Source, routine_of}
+use Rattle.uc_tree.specs.Source.{Source}
 use Rattle.uc_entry.specs.declared.entry.Entry.{Entry}
 use Rattle.uc_entry.specs.declared.entry.Options.{Options}
 use Rattle.uc_entry.specs.declared.request.Asked.{Asked}
@@ -13,9 +13,9 @@ use Rattle.uc_machine.specs.Pieces as piece
 use Rattle.uc_machine.specs.Pieces.{Value, Todo, Sort, sort, Active, State, Members}
 use Rattle.uc_machine.specs.Answering.{child_main, child_of}
 use Rattle.uc_machine.specs.Rides.{Rides, slices, goes_on, ticks, asks}
-use Rattle.uc_meaning.specs.Runs.{World, Runs, gives, no_room, acts, begun, more, first_world, with_home, hand_of, drawn, bare, or_else, world_after}
+use Rattle.uc_meaning.specs.Runs.{World, Runs, gives, no_room, acts, begun, more, with_home, hand_of, drawn, bare, or_else, world_after}
 use Rattle.uc_state_laws.specs.Opens.{RideMeets, RunMeets}
-use Rattle.uc_life_laws.specs.LifeStates.{HandBy, MembersBy}
+use Rattle.uc_life_laws.specs.LifeStates.{HandBy}
 use Rattle.uc_life_laws.proofs.Cells.{either}
 use Rattle.uc_life_laws.proofs.Parked as parked
 use Rattle.uc_life_laws.specs.Placed.{placed, stacked}

@@ -1,6 +1,5 @@
 -- In every quiet step of a task mains stay the oldest activations, as long as none is called, and so they do with answers.
 use Rattle.std.proofs.Common.{◌≡◌, ℕ, List, [], ◌∷◌, Option, Some, None, refl, subst}
-use Rattle.uc_machine.specs.declared.exec.Exec.{Exec}
 use Rattle.uc_tree.specs.Source.{CleanUp}
 use Rattle.uc_machine.specs.Pieces.{Active}
 use Rattle.std.specs.Prelude.{nat_lt, slice_get, drop}

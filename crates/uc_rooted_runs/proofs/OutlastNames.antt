@@ -41,7 +41,6 @@ use Rattle.uc_life_laws.specs.Knowing.{main_of}
 use Rattle.uc_life_laws.proofs.Fewer.{both_members, both_env}
 use Rattle.uc_life_laws.specs.OwnNames.{at_hand, IsElsewhere, IsOwn, StepOwn, StaysOwn}
 use Rattle.uc_life_laws.proofs.OwnNamesLemmas.{run_owns, law_own_names}
-use Rattle.uc_life_laws.specs.Placed.{Placed}
 use Rattle.uc_rooted_runs.specs.Makers.{Outside, Makers}
 use Rattle.uc_rooted_runs.specs.Births.{MakesLater, SpawnsLater, RunSpawnsLater}
 use Rattle.uc_rooted_runs.specs.OutlastRuns.{with_before, with_made, made_by, made_behind, ride_made, made_asked, run_made, now, MadeNone, NoneElsewhere}

@@ -1,5 +1,5 @@
 -- In each run those that were made are held, so what was there before their coroutines were built stays.
-use Rattle.std.proofs.Common.{◌≡◌, ℕ, zero, suc, ◌==◌, ◌<◌, ◌≤◌, Bool, true, false, List, [], ◌∷◌, ◌++◌, Option, Some, None, refl, sym, ap, ◌∙◌, subst, arith, ◌⊎◌, inl, inr, ⊎_elim, ◌||◌}
+use Rattle.std.proofs.Common.{◌≡◌, ℕ, zero, suc, ◌==◌, ◌<◌, ◌≤◌, Bool, true, false, List, [], ◌∷◌, ◌++◌, Option, Some, None, refl, sym, ap, ◌∙◌, subst, arith, inl, inr, ⊎_elim, ◌||◌}
 use Rattle.std.specs.Prelude.{if◌then◌else◌, slice_get}
 use Rattle.std.proofs.lemmas.Bool.{eqb-true, cases_lt}
 use Rattle.uc_tree.specs.Source.{Source, Routine, routine_of}
@@ -22,8 +22,7 @@ use Rattle.uc_machine.specs.declared.exec.Home.TheVariants as home
 use Rattle.uc_machine.specs.Executions.{exec_eq, members_at}
 use Rattle.uc_machine.specs.Switches as sw
 use Rattle.uc_machine.specs.Switches.{new_exec}
-use Rattle.uc_machine.specs.Pieces as piece
-use Rattle.uc_machine.specs.Pieces.{Todo, SetUpNow, Active, State, Env, Members, Step, Goes, Ticks, Asks, at, in_env, written, Running}
+use Rattle.uc_machine.specs.Pieces.{Todo, SetUpNow, Active, State, Env, Members, Goes, Ticks, Asks, at, in_env, written, Running}
 use Rattle.uc_machine.specs.Quiet as quiet
 use Rattle.uc_machine.specs.Quiet.{home_at, first_state}
 use Rattle.uc_machine.specs.Answering.{answered, child_main, child_of}
@@ -44,11 +43,11 @@ use Rattle.uc_life_laws.specs.LifeStates.{HandBy, MembersBy, EnvBy}
 use Rattle.uc_life_laws.proofs.Cells.{either, tested}
 use Rattle.uc_life_laws.proofs.Parked as parked
 use Rattle.uc_life_laws.proofs.Fewer.{both_members, both_env}
-use Rattle.uc_answer_laws.specs.Suiting.{Form, IsForm, JustGo, asked_form, form_of_request}
+use Rattle.uc_answer_laws.specs.Suiting.{Form, JustGo, asked_form, form_of_request}
 use Rattle.uc_answer_laws.proofs.Told.{form_push}
 use Rattle.uc_answer_laws.proofs.Runs.{law_suiting}
 use Rattle.uc_answer_laws.proofs.Asking.{law_asking}
-use Rattle.uc_life_laws.specs.Placed.{Placed, stacked, Ends}
+use Rattle.uc_life_laws.specs.Placed.{stacked, Ends}
 use Rattle.uc_life_laws.specs.Held.{Seating, Held, Soon, SoonHere, SoonAsked, AllHeld, HeldEx, HeldState, HeldAsked, HeldAsk, HeldStep, TakesAt, TakesNow}
 use Rattle.uc_life_laws.proofs.HeldLaws.{law_held, held_ends, soon_ends}
 use Rattle.uc_life_laws.proofs.HeldKeeping as kept

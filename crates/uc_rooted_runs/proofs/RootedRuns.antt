@@ -15,7 +15,7 @@ use Rattle.uc_state_laws.specs.Fitting.{RunFits}
 use Rattle.uc_state_laws.specs.Opens.{RunMeets}
 use Rattle.uc_typing.specs.Typing.{Ty, Table}
 use Rattle.uc_life_laws.specs.Things.{Few}
-use Rattle.uc_rooted_runs.specs.Makers.{Outside, Makers}
+use Rattle.uc_rooted_runs.specs.Makers.{Makers}
 use Rattle.uc_rooted_runs.specs.Births.{MakesLater, RunSpawnsLater}
 use Rattle.uc_rooted_runs.specs.Forgetting.{RootsAt, MayRoot, RunRoots}
 use Rattle.uc_rooted_runs.specs.OutlastRuns.{with_before, run_made, now}

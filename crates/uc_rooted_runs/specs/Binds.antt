@@ -1,5 +1,5 @@
 -- States in which what is bound lies in no frame of another execution.
-use Rattle.std.specs.Prelude.{◌≡◌, ℕ, List, ◌∷◌, drop, Some, slice_get}
+use Rattle.std.specs.Prelude.{◌≡◌, List, ◌∷◌, drop, Some, slice_get}
 use Rattle.uc_tree.specs.Source.{Source, Routine}
 use Rattle.uc_machine.specs.declared.exec.Exec.{Exec}
 use Rattle.uc_machine.specs.declared.exec.Owner.TheVariants.{Frame}

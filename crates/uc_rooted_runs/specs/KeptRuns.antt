@@ -26,7 +26,6 @@ use Rattle.uc_life_laws.specs.Knowing.{main_of}
 use Rattle.uc_life_laws.specs.Marks.{Puts}
 use Rattle.uc_life_laws.specs.Lasting.{RunForgets}
 use Rattle.uc_life_laws.specs.Rooted.{IsPlace, Lives, Had}
-use Rattle.uc_life_laws.specs.Placed.{Placed}
 use Rattle.uc_life_laws.specs.Held.{Soon}
 use Rattle.uc_life_laws.specs.Ways.{LeavesAt}
 use Rattle.uc_rooted_runs.specs.Makers.{Outside, Makers, seating}

@@ -4,7 +4,7 @@ use Rattle.uc_tree.specs.Source.{Purpose, TaskMain, CoroutineMain, Procedure, Fu
 use Rattle.uc_machine.specs.declared.exec.Exec.{Exec}
 use Rattle.uc_machine.specs.declared.exec.Home.{Home}
 use Rattle.uc_machine.specs.Executions.{Execution}
-use Rattle.uc_machine.specs.Pieces.{Value, Todo, CallNow, CallOnNow, CallUnwrittenNow, LiveNow, EnterNow, MakeNow, BindMadeNow, Unwind, Sort, sort, IsFinish, IsFinishCoroutine, Active, State, Env, Members, Step, Goes, Ticks, Asks}
+use Rattle.uc_machine.specs.Pieces.{Value, Todo, CallNow, CallOnNow, CallUnwrittenNow, LiveNow, EnterNow, MakeNow, BindMadeNow, Unwind, Sort, sort, IsFinish, IsFinishCoroutine, Active, State, Members, Step, Goes, Ticks, Asks}
 use Rattle.uc_life_laws.specs.LifeStates.{MembersBy, EnvBy}
 use Rattle.uc_life_laws.specs.Held.{AreLines}
 

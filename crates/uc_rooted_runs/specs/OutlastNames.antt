@@ -21,7 +21,6 @@ use Rattle.uc_name_laws.specs.NameSteps as names
 use Rattle.uc_name_laws.specs.NameSteps.{IsBorn}
 use Rattle.uc_life_laws.specs.RunningRuns.{RunLeaves}
 use Rattle.uc_life_laws.specs.Knowing.{main_of}
-use Rattle.uc_life_laws.specs.Placed.{Placed}
 use Rattle.uc_rooted_runs.specs.Makers.{Outside, Makers}
 use Rattle.uc_rooted_runs.specs.Births.{AllMadeLater}
 use Rattle.uc_rooted_runs.specs.Outlasting.{IsAlone}

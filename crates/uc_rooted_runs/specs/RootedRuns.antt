@@ -17,7 +17,6 @@ use Rattle.uc_typing.specs.Typing.{Ty, Table}
 use Rattle.uc_life_laws.specs.Things.{Few, Base}
 use Rattle.uc_life_laws.specs.Lasting.{RunForgets}
 use Rattle.uc_life_laws.specs.Rooted.{IsPlace, Lives, RootedBeside}
-use Rattle.uc_life_laws.specs.Placed.{Placed}
 use Rattle.uc_rooted_runs.specs.Makers.{Outside, Makers}
 use Rattle.uc_rooted_runs.specs.Births.{AllMadeLater}
 use Rattle.uc_rooted_runs.specs.FreshStates.{KeepsFresh}
