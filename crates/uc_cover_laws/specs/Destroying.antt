@@ -39,7 +39,6 @@ module _ (source : Source) (w : Seat) where
         (h : Shape) (i n j : ℕ) (k : Shape) (written : Bool) → j < n →
         IsScoped (DestroysAll n (calling_at written d (Element n k (OfObject (OwnField h i)) (OfObject Counted)))) x.body →
         Destroying d (further (At k j) (further (FieldAt h i) v)) → Destroying r v
-
     mutex : {r d : ℕ} {v : Value} (x : Routine) → slice_get source.routines r ≡ Some x → x.params ≡ 0 →
         (h : Shape) (i o : ℕ) (written : Bool) → IsScoped (Destroys (OfObject (EndOn d written (Load (OfObject (OwnField h i)))))) x.body →
         w.home o ≡ further (FieldAt h i) v → Destroying d (Object o) → Destroying r v
