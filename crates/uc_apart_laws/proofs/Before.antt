@@ -34,7 +34,7 @@ module _ (t : Table) (few : Few) (source : Source) (places : (n : Exec) (w : Val
         same : (if u == u then s else w.tasks u) ≡ s
         same = ap (λ b. if b then s else w.tasks u) (eq-eqb u u refl)
 
-    apart : (s : State) → Before t few j w u s source → (k : KnowsState t few [] s) → IsApart t few source s k
+    pub apart : (s : State) → Before t few j w u s source → (k : KnowsState t few [] s) → IsApart t few source s k
     apart s h k = law_clear.step t few places source s k (by s.run.control (h k))
       where
         by : (l : List Todo) → BeforeAt t few j w u s source k l → IsClearAt t few source s k l

@@ -4,7 +4,6 @@ ghost use Rattle.std.specs.Prelude.{◌≡◌, nat_eq, if◌then◌else◌, slic
 ghost use Rattle.uc_frames.specs.Searches.{is_named as is_named_by};
 ghost use Rattle.uc_tree.specs.Source.{Source};
 ghost use Rattle.uc_machine.specs.Quiet.{State};
-ghost use Rattle.uc_machine.specs.Raising.{why_by};
 ghost use Rattle.uc_code.specs.Layout.{laid_of};
 ghost use Rattle.uc_frames.specs.UnwindingStands.{Unwinds};
 ghost use Rattle.uc_coroutine.specs.UnwindingSteps.{IsOwn, UnwoundTo};
@@ -85,26 +84,26 @@ pub(crate) fn pass_on(work: &mut Work) -> bool
 {
     match work.raised() {
         None => false,
-        Some(why) => match work.caller() {
+        Some(_) => match work.caller() {
             None => false,
-            Some(waits) => {
-                let given = work.result();
-                let made = work.leave_unwinding(why_on(why, waits), given);
-                made
-            }
-        },
-    }
-}
-
-// Why the one that waits is unwound now: for this reason, unless it is unwound by a destruction, which nothing within it ends.
-fn why_on(why: UnwindReason, waits: Option<UnwindReason>) -> UnwindReason
-    ensures { result ≡ why_by why waits }
-{
-    match waits {
-        None => why,
-        Some(waits) => match waits {
-            UnwindReason::Event { .. } | UnwindReason::ReturnTo(_) => why,
-            UnwindReason::Destroyed => UnwindReason::Destroyed,
+            Some(waits) => match waits {
+                None => {
+                    let made = work.pass_unwinding();
+                    made
+                }
+                Some(why) => match why {
+                    UnwindReason::Event { .. } | UnwindReason::ReturnTo(_) => {
+                        let made = work.pass_unwinding();
+                        made
+                    }
+                    // Nothing within a destruction ends it.
+                    UnwindReason::Destroyed => {
+                        let given = work.result();
+                        let made = work.leave_unwinding(UnwindReason::Destroyed, given);
+                        made
+                    }
+                },
+            },
         },
     }
 }

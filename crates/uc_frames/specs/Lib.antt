@@ -15,3 +15,4 @@ pub mod UnwindingStands
 pub mod Weight
 pub mod Objects
 pub mod Engaged
+pub mod PassedAlike

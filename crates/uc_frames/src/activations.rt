@@ -9,6 +9,7 @@ ghost use Rattle.uc_frames.specs.BareReturns.{left_bare};
 ghost use Rattle.uc_frames.specs.Machine.{line_in, line_at};
 ghost use Rattle.uc_frames.specs.Calls.{left, called, object_call, plain_call};
 ghost use Rattle.uc_frames.specs.Objects.{arrived_at};
+ghost use Rattle.uc_frames.specs.PassedAlike.{passed_alike};
 ghost use Rattle.uc_frames.specs.Unwinding.{IsCaller, unwound_by, cleaning, catching, passed, handled};
 ghost use Rattle.uc_tree.specs.declared.limits.TheConstants.{CALLS};
 
@@ -117,6 +118,17 @@ impl Work {
         ensures err { OnErr result (self.new ≡ self.old) }
     {
         let called = self.task.running.leave(given)?;
+        Ok(called)
+    }
+
+    /// The same, where the one that waits is handed a number.
+    #[inline(always)]
+    pub fn leave_with(&mut self, number: i64) -> Result<bool, AllocError>
+        ensures called { IfOk result (λ called. called ≡ nat_lt 0 (length self.old.callers)) }
+        ensures after { OnOk result (self.new ≡ left (Cell.Number number) self.old.callers self.old) }
+        ensures err { OnErr result (self.new ≡ self.old) }
+    {
+        let called = self.task.running.leave_with(number)?;
         Ok(called)
     }
 
@@ -236,6 +248,16 @@ impl Work {
         ensures after { self.new ≡ passed why given self.old.callers self.old }
     {
         let called = self.task.running.leave_unwinding(why, given);
+        called
+    }
+
+    /// The running activation is left with its frame, and the one that waits for it is unwound in its turn, for the same reason and with
+    /// the same for a return that arrives. Where none waits, all stays as it is, and the answer is false.
+    pub fn pass_unwinding(&mut self) -> bool
+        ensures called { result ≡ nat_lt 0 (length self.old.callers) }
+        ensures after { self.new ≡ passed_alike self.old.callers self.old }
+    {
+        let called = self.task.running.pass_unwinding();
         called
     }
 

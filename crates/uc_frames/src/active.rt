@@ -1,6 +1,6 @@
 // An activation of a routine or a handler.
 
-ghost use Rattle.std.specs.Prelude.{◌≡◌, [], ◌∷◌, None, false};
+ghost use Rattle.std.specs.Prelude.{◌≡◌, [], ◌∷◌, None, true, false};
 ghost use Rattle.uc_machine.specs.Executions.{begun};
 ghost use Rattle.uc_frames.specs.Block.{completed, Told};
 ghost use Rattle.uc_frames.specs.Unwinding.{operands_of, handler_of};
@@ -62,6 +62,21 @@ impl Activation {
         }
     }
 
+    // The same where nothing exceptional is said.
+    #[inline(always)]
+    pub(crate) fn begin_plain(&mut self, entry: u32, this: Cell, frame: u32, counts: bool)
+        requires told { Told self.old }
+        requires plain { self.old.is_exceptional ≡ false }
+        ensures begins { completed self.new [] ≡ begun entry this frame Cell.Nothing counts }
+        ensures told { Told self.new }
+    {
+        self.next = entry;
+        self.this = this;
+        self.frame = frame;
+        self.counts = counts;
+        self.elements = 0;
+    }
+
     // Nothing exceptional is said any more.
     #[cold]
     #[inline(never)]
@@ -93,6 +108,28 @@ impl Activation {
         }
     }
 
+    // The same, where neither says anything exceptional. The answer is whether it is so; else it stays as it is.
+    #[inline(always)]
+    pub(crate) fn copy_plain(&mut self, other: &Activation) -> bool
+        requires told { Told self.old }
+        requires other { Told other.now }
+        ensures made { result ≡ true → self.new ≡ other.now }
+        ensures plain { result ≡ true → other.now.is_exceptional ≡ false }
+        ensures stays { result ≡ false → self.new ≡ self.old }
+    {
+        if self.is_exceptional || other.is_exceptional {
+            return false;
+        }
+        self.next = other.next;
+        if !(is_nothing(&self.this) && is_nothing(&other.this)) {
+            self.this = other.this;
+        }
+        self.frame = other.frame;
+        self.counts = other.counts;
+        self.elements = other.elements;
+        true
+    }
+
     #[cold]
     #[inline(never)]
     fn copy_exceptional(&mut self, other: &Activation)
@@ -102,6 +139,22 @@ impl Activation {
         self.handles = other.handles;
         self.raised = other.raised;
         self.result = other.result;
+    }
+
+    // It is another, which is unwound as it was itself.
+    #[inline(always)]
+    pub(crate) fn unwind_on(&mut self, other: &Activation)
+        ensures { self.new ≡ record other.now { is_exceptional = true; raised = self.old.raised; result = self.old.result } }
+    {
+        self.next = other.next;
+        if !(is_nothing(&self.this) && is_nothing(&other.this)) {
+            self.this = other.this;
+        }
+        self.frame = other.frame;
+        self.counts = other.counts;
+        self.elements = other.elements;
+        self.is_exceptional = true;
+        self.handles = other.handles;
     }
 
     // An activation as a handler of a resumption begins.

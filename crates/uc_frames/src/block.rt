@@ -1,14 +1,15 @@
 // The cells of an execution in one block.
 
-ghost use Rattle.std.specs.Prelude.{◌≡◌, ◌∷◌, ◌++◌, ◌+◌, ◌-◌, ◌≤◌, [], length, drop, replicate, reverse, slice_index_or, slice_set, max, vec_capacity, IfOk, OnOk, OnErr};
+ghost use Rattle.std.specs.Prelude.{◌≡◌, ◌∷◌, ◌++◌, ◌+◌, ◌-◌, ◌≤◌, [], length, drop, replicate, reverse, slice_index_or, slice_set, max, vec_capacity, IfOk, OnOk, OnErr, MatchOption, true, false};
 ghost use Rattle.uc_machine.specs.Executions.{at_depth, frame_changed, list_in, values_cleared};
 ghost use Rattle.uc_frames.specs.CellNumbers.{number_within};
+ghost use Rattle.uc_frames.specs.declared.cell.Cell.{Cell};
 ghost use Rattle.uc_frames.specs.Block.{frame_of, with_call, with_frame, with_return, without_call};
 ghost use Rattle.uc_frames.specs.Calls.{call_frame};
 ghost use Rattle.uc_frames.specs.Machine.{below, cell_written, nought, top};
 ghost use Rattle.uc_frames.specs.Unwinding.{operands_of};
 
-use crate::cell::{Cell, is_writable, number_in_place};
+use crate::cell::{Cell, is_writable, number_in_place, write_over};
 use crate::event::Event;
 use crate::frames::{clear, zeros};
 use std::alloc::{AllocError, Global};
@@ -119,6 +120,19 @@ impl Block {
             self.cells[length - 1 - count]
         } else {
             Cell::Nothing
+        }
+    }
+
+    // The newest operand, if there is one.
+    #[inline(always)]
+    pub(crate) fn newest_operand(&self) -> Option<&Cell>
+        ensures { MatchOption result (self.now.operands ≡ []) (λ c. top self.now.operands ≡ c.now) }
+    {
+        let length = self.cells.len();
+        if 0 < length - self.newest.start {
+            Some(&self.cells[length - 1])
+        } else {
+            None
         }
     }
 
@@ -247,7 +261,7 @@ impl Block {
 
     // The same where the frame is not the newest one.
     #[inline(never)]
-    pub(crate) fn number_older(&self, depth: u32, at: u64) -> Option<i64>
+    fn number_older(&self, depth: u32, at: u64) -> Option<i64>
         ensures { result ≡ number_within (slice_index_or (list_in (at_depth self.now.frames depth)) at nought) }
     {
         match extent_at(self.newest, &self.older, depth) {
@@ -256,14 +270,25 @@ impl Block {
         }
     }
 
-    // The same, where the frame is as likely an older one.
+    // What a cell of a frame holds, where the frame is as likely an older one.
     #[inline(always)]
-    pub(crate) fn read_at(&self, depth: u32, at: u64) -> Cell
+    fn read_at(&self, depth: u32, at: u64) -> Cell
         ensures { result ≡ slice_index_or (list_in (at_depth self.now.frames depth)) at nought }
     {
-        match extent_at(self.newest, &self.older, depth) {
+        match self.cell(depth, at) {
             None => Cell::Number(0),
-            Some(extent) => cell_in(&self.cells, extent, at),
+            Some(cell) => *cell,
+        }
+    }
+
+    // The cell at a place of a frame, if there is one.
+    #[inline(always)]
+    pub(crate) fn cell(&self, depth: u32, at: u64) -> Option<&Cell>
+        ensures { MatchOption result (slice_index_or (list_in (at_depth self.now.frames depth)) at nought ≡ nought) (λ c. slice_index_or (list_in (at_depth self.now.frames depth)) at nought ≡ c.now) }
+    {
+        match extent_at(self.newest, &self.older, depth) {
+            None => None,
+            Some(extent) => place_in(&self.cells, extent, at),
         }
     }
 
@@ -277,6 +302,35 @@ impl Block {
         }
     }
 
+    // A number is written at a place of a frame; a binding stays.
+    #[inline(always)]
+    pub(crate) fn write_number(&mut self, depth: u32, at: u64, number: i64)
+        ensures { self.new ≡ record self.old { frames = frame_changed depth (cell_written at (Cell.Number number)) self.old.frames } }
+    {
+        if let Some(extent) = extent_at(self.newest, &self.older, depth) {
+            put_number_in(&mut self.cells, extent, at, number);
+        }
+    }
+
+    // The same, where the frame is most likely the newest one.
+    #[inline(always)]
+    pub(crate) fn write_newest(&mut self, depth: u32, at: u64, number: i64)
+        ensures { self.new ≡ record self.old { frames = frame_changed depth (cell_written at (Cell.Number number)) self.old.frames } }
+    {
+        if depth as usize == self.older.len() {
+            put_number_in(&mut self.cells, self.newest, at, number);
+        } else {
+            self.write_older(depth, at, number);
+        }
+    }
+
+    #[inline(never)]
+    fn write_older(&mut self, depth: u32, at: u64, number: i64)
+        ensures { self.new ≡ record self.old { frames = frame_changed depth (cell_written at (Cell.Number number)) self.old.frames } }
+    {
+        self.write_number(depth, at, number);
+    }
+
     // So many cells of a frame are 0, from this one on.
     pub(crate) fn clear(&mut self, depth: u32, from: u32, count: u32)
         ensures { self.new ≡ record self.old { frames = frame_changed depth (values_cleared from count nought) self.old.frames } }
@@ -284,6 +338,32 @@ impl Block {
         if let Some(extent) = extent_at(self.newest, &self.older, depth) {
             clear_in(&mut self.cells, extent, from, count);
         }
+    }
+
+    // A call of a routine that takes so many of the newest operands, its parameters among them, where that needs no more room and no more
+    // cells. The answer is whether it does not; else all stays as it is.
+    #[inline(always)]
+    pub(crate) fn enter_in_place(&mut self, routine: RoutineCode, taken: u64) -> bool
+        ensures made { result ≡ true → self.new ≡ with_call taken (call_frame routine self.old.operands) self.old }
+        ensures stays { result ≡ false → self.new ≡ self.old }
+    {
+        let taken = taken as usize;
+        let params = routine.params as usize;
+        let length = self.cells.len();
+        if length - self.newest.start < taken || taken < params {
+            return false;
+        }
+        if routine.params < routine.cells {
+            return false;
+        }
+        if self.older.len() >= self.older.capacity() {
+            return false;
+        }
+        self.older.push_reserved(self.newest);
+        self.newest.floor = length - taken;
+        self.newest.base = length - params;
+        self.newest.start = length;
+        true
     }
 
     // A call of a routine that takes so many of the newest operands, its parameters among them.
@@ -370,6 +450,21 @@ impl Block {
             self.cells.truncate(self.newest.floor);
             self.newest = extent;
         }
+    }
+
+    // The same, where that one is handed a number.
+    #[inline(always)]
+    pub(crate) fn leave_with(&mut self, number: i64) -> Result<(), AllocError>
+        ensures ok { OnOk result (self.new ≡ with_return (Cell.Number number ∷ []) self.old.waiting self.old) }
+        ensures err { OnErr result (self.new ≡ self.old) }
+    {
+        have_room(&mut self.cells)?;
+        if let Some(extent) = self.older.pop() {
+            self.cells.truncate(self.newest.floor);
+            self.cells.push_reserved(Cell::Number(number));
+            self.newest = extent;
+        }
+        Ok(())
     }
 
     // The newest activation is left, if another waits, whose operands go.
@@ -467,6 +562,20 @@ fn cell_in(cells: &Vec<Cell>, extent: Extent, at: u64) -> Cell
     }
 }
 
+// The cell itself, if there is one.
+#[inline(always)]
+fn place_in(cells: &Vec<Cell>, extent: Extent, at: u64) -> Option<&Cell>
+    requires { (extent.base ≤ extent.start) × (extent.start ≤ length cells.now.items) }
+    ensures { MatchOption result (slice_index_or (frame_of extent cells.now.items) at nought ≡ nought) (λ c. slice_index_or (frame_of extent cells.now.items) at nought ≡ c.now) }
+{
+    let at = at as usize;
+    if at < extent.start - extent.base {
+        Some(&cells[extent.base + at])
+    } else {
+        None
+    }
+}
+
 // The number in a cell of the frame of an activation, if one is there; 0 where there is no cell.
 #[inline(always)]
 fn number_at(cells: &Vec<Cell>, extent: Extent, at: u64) -> Option<i64>
@@ -494,6 +603,19 @@ fn put_in(cells: &mut Vec<Cell>, extent: Extent, at: u64, cell: Cell)
         if is_writable(&cells[at]) {
             cells[at] = cell;
         }
+    }
+}
+
+// The same of a number.
+#[inline(always)]
+fn put_number_in(cells: &mut Vec<Cell>, extent: Extent, at: u64, number: i64)
+    requires { (extent.base ≤ extent.start) × (extent.start ≤ length cells.old.items) }
+    ensures items { cells.new.items ≡ with_frame extent (cell_written at (Cell.Number number) (frame_of extent cells.old.items)) cells.old.items }
+    ensures len { length cells.new.items ≡ length cells.old.items }
+{
+    let at = at as usize;
+    if at < extent.start - extent.base {
+        write_over(&mut cells[extent.base + at], number);
     }
 }
 

@@ -31,6 +31,7 @@ pub fn number_in(cell: Cell) -> i64
 }
 
 /// The execution that a cell names, if it names one.
+#[inline(always)]
 pub fn exec_in(cell: Cell) -> Option<Exec>
     ensures { result ≡ exec_named cell }
 {
@@ -89,5 +90,19 @@ pub(crate) fn is_writable(old: &Cell) -> bool
         Cell::Running(_) => false,
         Cell::Object(_) => false,
         Cell::Nothing => true,
+    }
+}
+
+// A number is written over a cell; a binding stays.
+#[inline(always)]
+pub(crate) fn write_over(cell: &mut Cell, number: i64)
+    ensures { cell.new ≡ stored (Cell.Number number) cell.old }
+{
+    match cell {
+        Cell::Number(n) => *n = number,
+        Cell::Nothing => *cell = Cell::Number(number),
+        Cell::Place(_, _) => {}
+        Cell::Running(_) => {}
+        Cell::Object(_) => {}
     }
 }

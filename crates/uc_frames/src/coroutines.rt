@@ -24,7 +24,17 @@ impl Work {
     pub fn own_exec(&self) -> Option<Exec>
         ensures { result ≡ own_exec self.now }
     {
-        exec_in(self.read(self.this()))
+        self.exec_at(&self.task.running.run.this)
+    }
+
+    // The execution of the coroutine at a place, which its first cell names.
+    fn exec_at(&self, place: &Cell) -> Option<Exec>
+        ensures { result ≡ exec_at place.now self.now.env }
+    {
+        match self.find(place) {
+            None => None,
+            Some(cell) => exec_in(*cell),
+        }
     }
 
     /// The execution that a `resume` resumes: a main runs in that of its own, and so does a handler that stands in it.
@@ -52,7 +62,7 @@ impl Work {
     pub fn is_live(&self, count: u32) -> bool
         ensures { result ≡ is_live (exec_at (top (drop count self.now.run.operands)) self.now.env) self.now.env }
     {
-        match exec_in(self.read(self.below(count))) {
+        match self.exec_at(&self.below(count)) {
             None => false,
             Some(exec) => self.is_live_at(exec),
         }

@@ -16,16 +16,6 @@ pub(crate) fn zeros(alloc: Global, cells: u32) -> Result<Vec<Cell>, AllocError>
     Ok(all)
 }
 
-// The cell at a place, 0 where there is none.
-pub(crate) fn get(cells: &[Cell], at: u64) -> Cell
-    ensures { result ≡ slice_index_or cells.now at nought }
-{
-    match cells.get(at as usize) {
-        None => Cell::Number(0),
-        Some(cell) => *cell,
-    }
-}
-
 // A cell is written at a place, if there is one.
 pub(crate) fn put(cells: &mut [Cell], at: u64, cell: Cell)
     ensures { cells.new ≡ cell_written at cell cells.old }

@@ -10,7 +10,7 @@ ghost use Rattle.uc_frames.specs.Engaged.{engaged_in};
 ghost use Rattle.uc_frames.specs.Machine.{nought, cell_written, lively, pended};
 
 use crate::cell::Cell;
-use crate::frames::{get, put, zeros};
+use crate::frames::{put, zeros};
 use crate::numbered::position_in_order;
 use crate::parked::ParkedStack;
 use std::alloc::{AllocError, Global};
@@ -87,11 +87,11 @@ impl House {
         })
     }
 
-    // The field at a place, 0 where there is none.
-    pub(crate) fn field(&self, at: u64) -> Cell
-        ensures { result ≡ slice_index_or self.now.values at nought }
+    // The field at a place, if there is one.
+    pub(crate) fn field(&self, at: u64) -> Option<&Cell>
+        ensures { MatchOption result (slice_index_or self.now.values at nought ≡ nought) (λ c. slice_index_or self.now.values at nought ≡ c.now) }
     {
-        get(&self.cells, at)
+        self.cells.get(at as usize)
     }
 
     // A cell is written to a field; a binding stays.

@@ -1,6 +1,6 @@
 // An execution that does not run.
 
-ghost use Rattle.std.specs.Prelude.{◌≡◌, IfOk, OnOk, OnErr, slice_index_or};
+ghost use Rattle.std.specs.Prelude.{◌≡◌, IfOk, OnOk, OnErr, MatchOption, slice_index_or};
 ghost use Rattle.uc_machine.specs.Executions.{at_depth, list_in, frame_changed};
 ghost use Rattle.uc_frames.specs.Machine.{nought, cell_written, fresh_execution, lively, pended};
 
@@ -42,11 +42,11 @@ impl ParkedStack {
         Ok(ParkedStack { stack })
     }
 
-    // The cell at a place of a frame, 0 where there is none. The oldest frame has depth 0.
-    pub(crate) fn read(&self, depth: u32, at: u64) -> Cell
-        ensures { result ≡ slice_index_or (list_in (at_depth self.now.frames depth)) at nought }
+    // The cell at a place of a frame, if there is one. The oldest frame has depth 0.
+    pub(crate) fn cell(&self, depth: u32, at: u64) -> Option<&Cell>
+        ensures { MatchOption result (slice_index_or (list_in (at_depth self.now.frames depth)) at nought ≡ nought) (λ c. slice_index_or (list_in (at_depth self.now.frames depth)) at nought ≡ c.now) }
     {
-        self.stack.block.read_at(depth, at)
+        self.stack.block.cell(depth, at)
     }
 
     // A cell is written at a place of a frame; a binding stays.

@@ -1,12 +1,13 @@
 // The stack of one execution.
 
-ghost use Rattle.std.specs.Prelude.{◌≡◌, ◌<◌, ◌≤◌, ◌+◌, ◌∷◌, ◌++◌, [], All, List, length, take, nat_lt, None, Some, IfOk, OnOk, OnErr, MatchOption, true};
+ghost use Rattle.std.specs.Prelude.{◌≡◌, ◌<◌, ◌≤◌, ◌+◌, ◌∷◌, ◌++◌, [], All, List, length, take, nat_lt, None, Some, IfOk, OnOk, OnErr, MatchOption, true, false};
 ghost use Rattle.uc_machine.specs.Executions.{at_depth};
 ghost use Rattle.uc_machine.specs.Switches.{unwound_there};
 ghost use Rattle.uc_frames.specs.declared.cell.Cell.{Cell};
 ghost use Rattle.uc_frames.specs.Block.{completed, Told, call_made, call_left, handler_made, unwound_back};
 ghost use Rattle.uc_frames.specs.BareReturns.{call_over};
 ghost use Rattle.uc_frames.specs.Machine.{first_execution};
+ghost use Rattle.uc_frames.specs.PassedAlike.{unwound_alike};
 ghost use Rattle.uc_frames.specs.Unwinding.{IsCaller};
 ghost use Rattle.uc_tree.specs.declared.limits.TheConstants.{CALLS};
 
@@ -100,9 +101,49 @@ impl Stack {
         self.waiting as u32
     }
 
-    // Makes a call. A part of who calls, so that what is known of the call there is not asked here. Executions of `u32::MAX` frames, or activations that wait, make no more.
+    // Makes a call. A part of who calls, so that what is known of the call there is not asked here. What a call seldom needs stands apart,
+    // so that nothing is kept for it. Executions of `u32::MAX` frames, or activations that wait, make no more.
     #[inline(always)]
     pub(crate) fn enter(&mut self, call: Call) -> Result<(), AllocError>
+        requires { call.counts ≡ true → self.old.links.calls < CALLS }
+        ensures ok { OnOk result (self.new ≡ call_made call self.old) }
+        ensures err { OnErr result (self.new ≡ self.old) }
+    {
+        if !self.enter_in_place(call) {
+            self.enter_with_room(call)?;
+        }
+        Ok(())
+    }
+
+    // Makes a call where that needs no more room and no more cells, and neither who calls nor what stands in its place says anything
+    // exceptional. The answer is whether it does not; else all stays as it is.
+    #[inline(always)]
+    fn enter_in_place(&mut self, call: Call) -> bool
+        requires { call.counts ≡ true → self.old.links.calls < CALLS }
+        ensures made { result ≡ true → self.new ≡ call_made call self.old }
+        ensures stays { result ≡ false → self.new ≡ self.old }
+    {
+        let depth = self.block.depth();
+        let waiting = self.waiting;
+        if depth >= u32::MAX as usize || waiting as u32 == u32::MAX {
+            return false;
+        }
+        if !wait_at(&mut self.callers, waiting, &self.run) {
+            return false;
+        }
+        if !self.block.enter_in_place(call.routine, call.taken) {
+            return false;
+        }
+        self.waiting = waiting + 1;
+        self.run
+            .begin_plain(call.routine.entry, call.this, depth as u32, call.counts);
+        self.links.enter(call.counts);
+        true
+    }
+
+    // Makes a call, for which room is made where it needs more.
+    #[inline(never)]
+    fn enter_with_room(&mut self, call: Call) -> Result<(), AllocError>
         requires { call.counts ≡ true → self.old.links.calls < CALLS }
         ensures ok { OnOk result (self.new ≡ call_made call self.old) }
         ensures err { OnErr result (self.new ≡ self.old) }
@@ -178,6 +219,24 @@ impl Stack {
         true
     }
 
+    // The same, where that one is handed a number.
+    #[inline(always)]
+    pub(crate) fn leave_with(&mut self, number: i64) -> Result<bool, AllocError>
+        ensures called { IfOk result (λ called. called ≡ nat_lt 0 (length self.old.callers)) }
+        ensures after { OnOk result (self.new ≡ call_left (Cell.Number number) self.old.callers self.old) }
+        ensures err { OnErr result (self.new ≡ self.old) }
+    {
+        let waiting = self.waiting;
+        if waiting == 0 {
+            return Ok(false);
+        }
+        self.block.leave_with(number)?;
+        self.links.leave(self.run.counts);
+        self.run.copy_from(&self.callers[waiting - 1]);
+        self.waiting = waiting - 1;
+        Ok(true)
+    }
+
     // The newest activation is left with its frame, and the one that waits for it is unwound in its turn, for this reason and with
     // what a return that arrives hands over. The answer is whether one waits.
     pub(crate) fn leave_unwinding(&mut self, why: UnwindReason, given: Cell) -> bool
@@ -198,12 +257,49 @@ impl Stack {
         true
     }
 
+    // The same, where that one is unwound as the one that is left.
+    pub(crate) fn pass_unwinding(&mut self) -> bool
+        ensures called { result ≡ nat_lt 0 (length self.old.callers) }
+        ensures after { self.new ≡ unwound_alike self.old.callers self.old }
+    {
+        let waiting = self.waiting;
+        if waiting == 0 {
+            return false;
+        }
+        self.block.leave_unwinding();
+        self.links.leave(self.run.counts);
+        self.run.unwind_on(&self.callers[waiting - 1]);
+        self.waiting = waiting - 1;
+        true
+    }
+
     // Its newest activation is unwound for this reason, from where it stands.
     pub(crate) fn unwind(&mut self, why: UnwindReason)
         ensures { self.new ≡ unwound_there why self.old }
     {
         self.run.is_exceptional = true;
         self.run.raised = Some(why);
+    }
+}
+
+// An activation waits at this place, behind those that wait there, where a place is there and nothing exceptional is said. The answer is
+// whether it is so.
+#[inline(always)]
+fn wait_at(callers: &mut Vec<Activation>, at: usize, waiting: &Activation) -> bool
+    requires place { at ≤ length callers.old.items }
+    requires told { All Told callers.old.items }
+    requires waits { Told waiting.now }
+    ensures made { result ≡ true → take (at + 1) callers.new.items ≡ take at callers.old.items ++ waiting.now ∷ [] }
+    ensures room { result ≡ true → at < length callers.new.items }
+    ensures plain { result ≡ true → waiting.now.is_exceptional ≡ false }
+    ensures below { take at callers.new.items ≡ take at callers.old.items }
+    ensures len { length callers.new.items ≡ length callers.old.items }
+    ensures told { All Told callers.new.items }
+{
+    if at < callers.len() {
+        callers[at].copy_plain(waiting)
+    } else {
+        false
     }
 }
 

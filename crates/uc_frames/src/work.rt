@@ -1,12 +1,12 @@
 // The cells of a task with its hand: its memory, and the items that it gathers.
 
-ghost use Rattle.std.specs.Prelude.{◌≡◌, [], None, Some, IfOk, OnOk, OnErr, MatchOption};
+ghost use Rattle.std.specs.Prelude.{◌≡◌, [], ◌∷◌, None, Some, IfOk, OnOk, OnErr, MatchOption};
 ghost use Rattle.std.specs.Option.{is_some, option_map};
 ghost use Rattle.uc_machine.specs.Executions.{frame_changed, frames_changed, members_at, parked_at, change, value_at, with_owned};
 ghost use Rattle.uc_machine.specs.Quiet.{with_piece};
 ghost use Rattle.uc_frames.specs.CellNumbers.{number_within};
 ghost use Rattle.uc_frames.specs.Calls.{this_place};
-ghost use Rattle.uc_frames.specs.Machine.{nought, cell_written, shifted, loaded, written, this_frame, cleared, with_hand, first_machine};
+ghost use Rattle.uc_frames.specs.Machine.{nought, below, top, cell_written, shifted, loaded, written, this_frame, cleared, with_hand, first_machine};
 
 use crate::cell::{Cell, further_on, number_in_place};
 use crate::members::{House, Members};
@@ -96,19 +96,15 @@ impl Work {
     }
 
     /// The number in the cell so many behind the place of the object at hand, if it holds one.
-    #[inline(always)]
+    #[inline(never)]
     pub fn own_number(&self, cell: u32) -> Option<i64>
         ensures { result ≡ number_within (loaded (this_place cell self.now) self.now.env) }
     {
-        let running = &*self.task.running;
-        match &running.run.this {
+        match &self.task.running.run.this {
             Cell::Place(Owner::Frame { exec, depth }, at) => {
-                if self.runs(*exec) {
-                    running
-                        .block
-                        .number_older(*depth, at.saturating_add(u64::from(cell)))
-                } else {
-                    self.own_number_apart(cell)
+                match self.frame_cell(*exec, *depth, at.saturating_add(u64::from(cell))) {
+                    None => Some(0),
+                    Some(cell) => number_in_place(cell),
                 }
             }
             _ => self.own_number_apart(cell),
@@ -123,6 +119,83 @@ impl Work {
         number_in_place(&self.read(further_on(u64::from(cell), self.this())))
     }
 
+    /// Writes a number to the cell so many behind the place of the object at hand, where that holds no binding.
+    #[inline(never)]
+    pub fn hold_number(&mut self, cell: u32, number: i64)
+        ensures { self.new ≡ record self.old { env = written (this_place cell self.old) (Cell.Number number) self.old.env } }
+    {
+        match &self.task.running.run.this {
+            Cell::Place(Owner::Frame { exec, depth }, at) => {
+                let exec = *exec;
+                let depth = *depth;
+                let at = at.saturating_add(u64::from(cell));
+                if self.runs(exec) {
+                    self.task.running.block.write_number(depth, at, number);
+                } else {
+                    self.write_parked(exec, depth, at, Cell::Number(number));
+                }
+            }
+            _ => self.hold_number_apart(cell, number),
+        }
+    }
+
+    // The same, wherever the object stands.
+    #[inline(never)]
+    fn hold_number_apart(&mut self, cell: u32, number: i64)
+        ensures { self.new ≡ record self.old { env = written (this_place cell self.old) (Cell.Number number) self.old.env } }
+    {
+        let place = further_on(u64::from(cell), self.this());
+        self.write(place, Cell::Number(number));
+    }
+
+    /// Writes a number to the place that is the newest operand, which goes. Where the place holds a binding, or the operand is no place, or
+    /// nothing in hand is there, nothing is written.
+    #[inline(never)]
+    pub fn put_number(&mut self, number: i64)
+        ensures { self.new ≡ record self.old { run = record self.old.run { operands = below self.old.run.operands }; env = written (top self.old.run.operands) (Cell.Number number) self.old.env } }
+    {
+        match self.task.running.block.newest_operand() {
+            Some(Cell::Place(Owner::Frame { exec, depth }, at)) => {
+                let exec = *exec;
+                let depth = *depth;
+                let at = *at;
+                let _ = self.pop();
+                if self.runs(exec) {
+                    self.task.running.block.write_number(depth, at, number);
+                } else {
+                    self.write_parked(exec, depth, at, Cell::Number(number));
+                }
+            }
+            _ => self.put_number_apart(number),
+        }
+    }
+
+    // The same, whatever the operand is.
+    #[inline(never)]
+    fn put_number_apart(&mut self, number: i64)
+        ensures { self.new ≡ record self.old { run = record self.old.run { operands = below self.old.run.operands }; env = written (top self.old.run.operands) (Cell.Number number) self.old.env } }
+    {
+        let place = self.pop();
+        self.write(place, Cell::Number(number));
+    }
+
+    /// What the place that is the newest operand names is an operand in its place.
+    #[inline(never)]
+    pub fn load(&mut self) -> Result<(), AllocError>
+        ensures ok { OnOk result (self.new ≡ record self.old { run = record self.old.run { operands = loaded (top self.old.run.operands) self.old.env ∷ below self.old.run.operands } }) }
+        ensures err { OnErr result (self.new ≡ self.old) }
+    {
+        let cell = match self.task.running.block.newest_operand() {
+            None => Cell::Number(0),
+            Some(place) => match self.find(place) {
+                None => Cell::Number(0),
+                Some(cell) => *cell,
+            },
+        };
+        self.replace(cell)?;
+        Ok(())
+    }
+
     /// A cell of the frame of the running activation is written; a binding stays.
     #[inline(always)]
     pub fn set(&mut self, cell: u32, value: Cell)
@@ -132,36 +205,65 @@ impl Work {
         self.task.running.block.write(frame, u64::from(cell), value);
     }
 
+    /// The same of a number.
+    #[inline(always)]
+    pub fn set_number(&mut self, cell: u32, number: i64)
+        ensures { self.new ≡ record self.old { env = written (shifted cell (Cell.Place (this_frame self.old) 0)) (Cell.Number number) self.old.env } }
+    {
+        let frame = self.task.running.run.frame;
+        self.task
+            .running
+            .block
+            .write_newest(frame, u64::from(cell), number);
+    }
+
     /// What the place in a cell holds, a mutex object its first field; 0 where the cell is no place, or nothing in hand is there.
     pub fn read(&self, place: Cell) -> Cell
         ensures { result ≡ loaded place self.now.env }
     {
-        match place {
-            Cell::Place(owner, at) => self.read_at(owner, at),
-            Cell::Object(object) => self.read_at(Owner::Fields(object), 0),
-            Cell::Number(_) => Cell::Number(0),
-            Cell::Running(_) => Cell::Number(0),
-            Cell::Nothing => Cell::Number(0),
+        match self.find(&place) {
+            None => Cell::Number(0),
+            Some(cell) => *cell,
         }
     }
 
-    fn read_at(&self, owner: Owner, at: u64) -> Cell
-        ensures { result ≡ value_at owner at nought self.now.env }
+    // The cell that a place leads to, a mutex object to its first field, if one in hand is there.
+    pub(crate) fn find(&self, place: &Cell) -> Option<&Cell>
+        ensures { MatchOption result (loaded place.now self.now.env ≡ nought) (λ c. loaded place.now self.now.env ≡ c.now) }
     {
-        match owner {
-            Owner::Frame { exec, depth } => {
-                if self.runs(exec) {
-                    return self.task.running.block.read_at(depth, at);
-                }
-                match self.parked(exec) {
-                    None => Cell::Number(0),
-                    Some(stack) => stack.read(depth, at),
-                }
-            }
-            Owner::Fields(object) => match self.members(Home::Object(object)) {
-                None => Cell::Number(0),
-                Some(members) => members.field(at),
+        match place {
+            Cell::Place(owner, at) => match owner {
+                Owner::Frame { exec, depth } => self.frame_cell(*exec, *depth, *at),
+                Owner::Fields(object) => self.field(*object, *at),
             },
+            Cell::Object(object) => self.field(*object, 0),
+            Cell::Number(_) => None,
+            Cell::Running(_) => None,
+            Cell::Nothing => None,
+        }
+    }
+
+    // The cell of a frame, if one in hand is there.
+    #[inline(always)]
+    fn frame_cell(&self, exec: Exec, depth: u32, at: u64) -> Option<&Cell>
+        ensures { MatchOption result (value_at (Owner.Frame exec depth) at nought self.now.env ≡ nought) (λ c. value_at (Owner.Frame exec depth) at nought self.now.env ≡ c.now) }
+    {
+        if self.runs(exec) {
+            return self.task.running.block.cell(depth, at);
+        }
+        match self.parked(exec) {
+            None => None,
+            Some(stack) => stack.cell(depth, at),
+        }
+    }
+
+    // The cell of an object's fields, if one in hand is there.
+    fn field(&self, object: u32, at: u64) -> Option<&Cell>
+        ensures { MatchOption result (value_at (Owner.Fields object) at nought self.now.env ≡ nought) (λ c. value_at (Owner.Fields object) at nought self.now.env ≡ c.now) }
+    {
+        match self.members(Home::Object(object)) {
+            None => None,
+            Some(members) => members.field(at),
         }
     }
 

@@ -16,6 +16,7 @@ use Rattle.uc_putting_laws.specs.CleanedSpots.{Site, NoSite, AnySite, IsAtVariab
 use Rattle.uc_putting_laws.specs.Calling.{PlainExpr, PlainExprs, PlainMaybe, PlainItems, PlainTargets, PlainDeclared, PlainNew, Binds, PlaceAt, CallsAt, MakesAt, MakesEach, EndsAt, EndsEach, EndsNumber, Evaluates, FillsBy, SweepsBy, CleansBy, RaisesBy, CallingStmt, CallingStmts, CallingEvent, CallingHandlers, CallingTask, CallingClauses, Opening, CallingBody, CallingRoutine, CallingSource}
 use Rattle.uc_putting_laws.specs.PuttingLaws.{special_of}
 use Rattle.uc_putting_laws.proofs.Routines.{law_calling}
+use Rattle.uc_homed_ends.proofs.Wholes.{plain_whole}
 use Rattle.uc_homed_ends.specs.EndCode.{FreeExpr, FreeExprs, FreeMaybe, FreeItems, FreeTargets, FreeDeclared, FreeRaised, EndsSpot, EndsElement, FreeSweep, FreeClean, FreeStmt, FreeStmts, FreeEvent, FreeHandlers, FreeTask, FreeClauses, FreeRoutine, FreeSource}
 
 -- what opens next behind a statement
@@ -27,11 +28,11 @@ abbrev site_of : Near → Site → Type 0
 site_of Nothing_near x = NoSite x
 site_of (Near_by ss) x = OpensFor ss x
 
-module _ (t : Table) (source : Source) (special : ℕ → Bool) where
+module _ (t : Table) (source : Source) (special : ℕ → Bool) (plain : (r : ℕ) → special r ≡ false → (t.routine r).whole ≡ false) where
   -- expressions
 
   mutual
-    expr : (e : Expr) → PlainExpr t source special e → FreeExpr e
+    expr : (e : Expr) → PlainExpr t source special e → FreeExpr t e
     expr (src.Literal n) h = tt
     expr (src.Variable k) h = tt
     expr (src.Element n s e i) h = (expr e h.0, expr i h.1)
@@ -59,7 +60,7 @@ module _ (t : Table) (source : Source) (special : ℕ → Bool) where
     expr (src.OfObject (src.CallOn r e args)) h = (expr e h.1.0, exprs args h.1.1)
     expr (src.OfObject (src.CallLive r e args)) h = (expr e h.1.0, exprs args h.1.1)
     expr (src.OfObject (src.CallUnwritten r e)) h = expr e h.1
-    expr (src.OfObject (src.EnterOn m r e args)) h = (expr e h.1.0, exprs args h.1.1)
+    expr (src.OfObject (src.EnterOn m r e args)) h = (plain r h.0, expr e h.1.0, exprs args h.1.1)
     expr (src.OfObject (src.EndOn r w e)) h = absurd h.0
     expr (src.OfObject (src.Bind p e)) h = absurd h.0
     expr (src.OfObject (src.MakeOn c r w p args)) h = absurd h.0
@@ -74,81 +75,81 @@ module _ (t : Table) (source : Source) (special : ℕ → Bool) where
     expr (src.OfObject (src.IsEmpty e)) h = expr e h.1
     expr (src.OfObject (src.FrontOf e)) h = expr e h.1
 
-    exprs : (es : Exprs) → PlainExprs t source special es → FreeExprs es
+    exprs : (es : Exprs) → PlainExprs t source special es → FreeExprs t es
     exprs src.NoExprs h = tt
     exprs (src.MoreExprs e es) h = (expr e h.0, exprs es h.1)
 
-  maybe : (e : Option Expr) → PlainMaybe t source special e → FreeMaybe e
+  maybe : (e : Option Expr) → PlainMaybe t source special e → FreeMaybe t e
   maybe None h = tt
   maybe (Some e) h = expr e h
 
-  items : (is : List Item) → PlainItems t source special is → FreeItems is
+  items : (is : List Item) → PlainItems t source special is → FreeItems t is
   items [] h = tt
   items (src.Show f e ∷ is) h = (expr e h.0, items is h.1)
   items (src.ShowText k ∷ is) h = (tt, items is h.1)
 
-  targets : (xs : List Target) → PlainTargets t source special xs → FreeTargets xs
+  targets : (xs : List Target) → PlainTargets t source special xs → FreeTargets t xs
   targets [] h = tt
   targets (x ∷ xs) h = (expr x.place h.0, targets xs h.1)
 
-  declared : (ds : List Declared) → PlainDeclared t source special ds → FreeDeclared ds
+  declared : (ds : List Declared) → PlainDeclared t source special ds → FreeDeclared t ds
   declared [] h = tt
   declared (d ∷ ds) h = (maybe d.value h.0, declared ds h.1)
 
-  newly : (e : Expr) → PlainNew t source special e → FreeExpr e
+  newly : (e : Expr) → PlainNew t source special e → FreeExpr t e
   newly (OfObject src.NewCluster) h = tt
   newly (OfObject (src.NewProcessor e)) h = expr e h
   newly e h = absurd h
 
-  new_or : (e : Expr) → PlainExpr t source special e ⊎ PlainNew t source special e → FreeExpr e
+  new_or : (e : Expr) → PlainExpr t source special e ⊎ PlainNew t source special e → FreeExpr t e
   new_or e (inl h) = expr e h
   new_or e (inr h) = newly e h
 
   module _ (r : Reach) where
     module _ (P : Site → Type 0) where
-      place : (e : Expr) → PlaceAt t source special r P e → FreeExpr e
+      place : (e : Expr) → PlaceAt t source special r P e → FreeExpr t e
       place (Variable k) h = tt
       place (OfObject (OwnField s i)) h = tt
       place (Element n s e i) h = (place e h.0, expr i h.1)
       place e h = absurd h
 
-      calls : (e : Expr) → CallsAt t source special r P e → FreeExpr e
+      calls : (e : Expr) → CallsAt t source special r P e → FreeExpr t e
       calls (OfObject (src.CallOn q p args)) h = (place p h.1, exprs args h.2)
       calls (OfObject (src.CallUnwritten q p)) h = place p h.1
       calls e h = absurd h
 
-    binds : (e : Expr) → Binds t source special r e → FreeExpr e
+    binds : (e : Expr) → Binds t source special r e → FreeExpr t e
     binds (OfObject (src.Bind p e)) h = (place AnySite p h.0, new_or e h.1)
     binds e h = absurd h
 
-    number : (e : Expr) → EndsNumber t source special r e → FreeExpr e
+    number : (e : Expr) → EndsNumber t source special r e → FreeExpr t e
     number (OfObject (src.EndCluster (Load p))) h = place AnySite p h
     number (OfObject (src.EndProcessor (Load p))) h = place AnySite p h
     number e h = absurd h
 
-    raises : (x : Raised) → RaisesBy t source special r x → FreeRaised x
+    raises : (x : Raised) → RaisesBy t source special r x → FreeRaised t x
     raises (src.Plainly n) h = tt
     raises (src.BuiltAt n k e) h = calls (λ x. IsAtVariable k x) e h
     raises (src.AgainFrom k) h = tt
 
     module _ (P : Site → Type 0) where
-      makes : (e : Expr) → MakesAt t source special r P e → FreeExpr e
+      makes : (e : Expr) → MakesAt t source special r P e → FreeExpr t e
       makes (OfObject (src.MakeOn c q w (Variable k) args)) h = (tt, exprs args h.2)
       makes (OfObject (src.MakeOn c q w (OfObject (OwnField s i)) args)) h = (tt, exprs args h.2)
       makes e h = absurd h
 
-      makes_each : (e : Expr) → MakesEach t source special r P e → FreeExpr e
+      makes_each : (e : Expr) → MakesEach t source special r P e → FreeExpr t e
       makes_each (OfObject (src.MakeOn c q w (Element n Binding (Variable k) (OfObject Counted)) args)) h = ((tt, tt), exprs args h.2)
       makes_each (OfObject (src.MakeOn c q w (Element n Binding (OfObject (OwnField s i)) (OfObject Counted)) args)) h = ((tt, tt), exprs args h.2)
       makes_each e h = absurd h
 
-      evaluates : (e : Expr) → Evaluates t source special r P e → FreeExpr e
+      evaluates : (e : Expr) → Evaluates t source special r P e → FreeExpr t e
       evaluates e (inl h) = expr e h
       evaluates e (inr (inl h)) = binds e h
       evaluates e (inr (inr (inl h))) = calls P e h
       evaluates e (inr (inr (inr h))) = makes e h
 
-      fills : (e : Expr) → FillsBy t source special r P e → FreeExpr e
+      fills : (e : Expr) → FillsBy t source special r P e → FreeExpr t e
       fills e (inl h) = binds e h
       fills e (inr (inl h)) = calls P e h
       fills e (inr (inr h)) = makes_each e h
@@ -157,19 +158,19 @@ module _ (t : Table) (source : Source) (special : ℕ → Bool) where
         spot : (e : Expr) → EndsAt t source special r P e → Fine t g sc e → EndsSpot t e
         spot (OfObject (EndOn q w (Load (Variable k)))) h f =
             let x = f.1.1 in
-            (OfVariable k, record { routine = q; written = w; class = x.0; is = refl; this = x.2; whole = h.2.whole; mutex = x.4 })
+            (OfVariable k, record { routine = q; written = w; class = x.0; is = refl; this = x.2; whole = h.2.whole; mutex = x.4; params = f.1.2 })
         spot (OfObject (EndOn q w (Load (OfObject (OwnField s i))))) h f =
             let x = f.1.1 in
-            (OfField s i, record { routine = q; written = w; class = x.0; is = refl; this = x.2; whole = h.2.whole; mutex = x.4 })
+            (OfField s i, record { routine = q; written = w; class = x.0; is = refl; this = x.2; whole = h.2.whole; mutex = x.4; params = f.1.2 })
         spot e h f = absurd h
 
         element : (e : Expr) → EndsEach t source special r P e → Fine t g sc e → EndsElement t e
         element (OfObject (EndOn q w (Load (Element n Binding (Variable k) (OfObject Counted))))) h f =
             let x = f.1.1 in
-            (n, OfVariable k, record { routine = q; written = w; class = x.0; is = refl; this = x.2; whole = h.2.whole; mutex = x.4 })
+            (n, OfVariable k, record { routine = q; written = w; class = x.0; is = refl; this = x.2; whole = h.2.whole; mutex = x.4; params = f.1.2 })
         element (OfObject (EndOn q w (Load (Element n Binding (OfObject (OwnField s i)) (OfObject Counted))))) h f =
             let x = f.1.1 in
-            (n, OfField s i, record { routine = q; written = w; class = x.0; is = refl; this = x.2; whole = h.2.whole; mutex = x.4 })
+            (n, OfField s i, record { routine = q; written = w; class = x.0; is = refl; this = x.2; whole = h.2.whole; mutex = x.4; params = f.1.2 })
         element e h f = absurd h
 
         sweeps : (e : Expr) → SweepsBy t source special r P e → Fine t g sc e → FreeSweep t e
@@ -257,4 +258,4 @@ module _ (t : Table) (source : Source) (special : ℕ → Bool) where
   free_source calling sound n = routine (special n) (t.routine n) (slice_get source.routines n) (calling.routines n) (λ x e. sound.routines n x e)
 
 pub free_of : (p : Program) → IsFormed p → breaks_of p ≡ [] → FreeSource (table_of p) (source_of p)
-free_of p formed accepted = free_source (table_of p) (source_of p) (special_of p) (law_calling p formed accepted) (law_sound p formed accepted)
+free_of p formed accepted = free_source (table_of p) (source_of p) (special_of p) (plain_whole p) (law_calling p formed accepted) (law_sound p formed accepted)

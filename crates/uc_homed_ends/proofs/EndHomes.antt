@@ -1,5 +1,6 @@
 -- What is read of a variable before a mutex object ends is at home there, since it was as its scope was left.
 use Rattle.std.proofs.Common.{◌≡◌, ℕ, inl, inr, ◌⊎◌, Bool, true, false, List, [], ◌∷◌, Some, refl, sym, ◌∙◌, subst}
+use Rattle.uc_tree.specs.declared.limits.TheConstants.{DESTRUCTOR}
 use Rattle.uc_tree.specs.Programs.{Program}
 use Rattle.uc_tree.specs.Source.{Shape, Binding, Source}
 use Rattle.uc_entry.specs.declared.entry.Options.{Options}
@@ -48,11 +49,11 @@ use Rattle.uc_putting_laws.specs.PuttingLaws.{setting_of, FairAt, Fair}
 use Rattle.uc_homed_ends.specs.EndCode.{EndSite, AtSpot, AtElement}
 use Rattle.uc_homed_ends.specs.EndLists.{NoEnding, FreeList, FreeActive}
 use Rattle.uc_homed_ends.specs.EndWays as ways
-use Rattle.uc_homed_ends.specs.EndWays.{Stage, Ends, Loads, Finds, Arrays, Counts, Picks, todo_at, Found, Leaves, Way, NowState}
+use Rattle.uc_homed_ends.specs.EndWays.{Stage, Ends, Loads, Finds, Arrays, Counts, Picks, todo_at, Found, Leaves, Way, Enters, NowState, nothing_told}
 use Rattle.uc_homed_ends.specs.EndLaws.{LawCode, LawWays}
 use Rattle.uc_homed_ends.specs.HomedEnds.{ReadsAt, Reads, LawReads, IsElsewhere, RestAt, Rest, LawFair}
 use Rattle.uc_homed_ends.proofs.EndCodes.{free_of}
-use Rattle.uc_homed_ends.proofs.EndRuns.{run_ways, leads_ways}
+use Rattle.uc_homed_ends.proofs.EndRuns.{run_ways, leads_ways, comes_way}
 
 -- mutex objects in scope are at home in each state of a ride
 
@@ -214,8 +215,16 @@ module _ (t : Table) (owns : Owns) (few : Few) (Z : ℕ → ℕ → Type 0) wher
       by Picks (AtElement n p) e f l = let q : LoadNow ∷ todo ≡ todo_at Picks (AtElement n p) w.routine w.written w.todo = sym c ∙ e in absurd (cc)
       by ways.Reads x e f l = ends x f l
 
-  reading_of : (s : State) (todo : List Todo) → s.run.control ≡ LoadNow ∷ todo → IsEnding todo → FreeActive t s.run ⊎ Way t HomedHere s → Reading s
-  reading_of s todo c e (inl h) = absurd (no_ending todo (subst (FreeList t) c h).0 e)
+  no_load : (s : State) (todo : List Todo) → s.run.control ≡ LoadNow ∷ todo → Enters t nothing_told s → ⊥
+  no_load s todo c e = by e.control
+    where
+      by : (s.run.control ≡ piece.EnterNow DESTRUCTOR e.routine ∷ e.todo) ⊎ (s.run.control ≡ piece.TickNow ∷ (piece.EnterNow DESTRUCTOR e.routine ∷ e.todo)) → ⊥
+      by (inl q) = let f : LoadNow ∷ todo ≡ piece.EnterNow DESTRUCTOR e.routine ∷ e.todo = sym c ∙ q in cc
+      by (inr q) = let f : LoadNow ∷ todo ≡ piece.TickNow ∷ (piece.EnterNow DESTRUCTOR e.routine ∷ e.todo) = sym c ∙ q in cc
+
+  reading_of : (s : State) (todo : List Todo) → s.run.control ≡ LoadNow ∷ todo → IsEnding todo → (FreeActive t s.run ⊎ Enters t nothing_told s) ⊎ Way t HomedHere s → Reading s
+  reading_of s todo c e (inl (inl h)) = absurd (no_ending todo (subst (FreeList t) c h).0 e)
+  reading_of s todo c e (inl (inr h)) = absurd (no_load s todo c h)
   reading_of s todo c e (inr w) = reading_at s todo c w
 
   -- that of a variable
@@ -251,7 +260,7 @@ module _ (p : Program) (owns : Owns) (few : Few) (homes : ℕ → Value) (many :
   abbrev g : Setting
   g = setting_of p few
 
-  fair_here : (s : State) → NowState (table_of p) (HomedHere (table_of p) owns few (Sized p)) s → made.Binds (source_of p) homes many s → Rest g s → Fair g s
+  pub fair_here : (s : State) → NowState (table_of p) (HomedHere (table_of p) owns few (Sized p)) s → made.Binds (source_of p) homes many s → Rest g s → Fair g s
   fair_here s h b r = by s.run.control refl b r
     where
       read : (todo : List Todo) → (x : Reading (table_of p) owns few (Sized p) s) (y : EndSite) → x.site ≡ y → (IsElsewhere s (top s.run.operands) → IsHome few (loaded (top s.run.operands) s.env) (top s.run.operands)) → IsHome few (loaded (top s.run.operands) s.env) (top s.run.operands)
@@ -310,14 +319,17 @@ module _ (P Q : State → Type 0) where
   leads_both (runs.ticks e l) m n = ((m.0, n.0), leads_both l m.1 n.1)
 
 module _ (p : Program) (formed : IsFormed p) (accepted : breaks_of p ≡ []) (owns : Owns) (few : Few) (input : List ℕ) (opts : Options) (range : InRange opts) where
-  abbrev Now : State → Type 0
+  abbrev pub Now : State → Type 0
   Now s = NowState (table_of p) (HomedHere (table_of p) owns few (Sized p)) s
 
-  ways_of : {j : Journal} {w : World} (r : Runs (source_of p) input opts j w) → RunFits (source_of p) input opts j w r → RunMeets (Opens (table_of p) owns few) (source_of p) input opts j w r → RunMeets Now (source_of p) input opts j w r
-  ways_of r f o = (run_ways (table_of p) (HomedHere (table_of p) owns few (Sized p)) (source_of p) (free_of p formed accepted) input opts range r f (run_homed p formed accepted owns few input opts r o)).1
+  pub ways_of : {j : Journal} {w : World} (r : Runs (source_of p) input opts j w) → RunFits (source_of p) input opts j w r → RunMeets (Opens (table_of p) owns few) (source_of p) input opts j w r → RunMeets Now (source_of p) input opts j w r
+  ways_of r f o = (run_ways (table_of p) (HomedHere (table_of p) owns few (Sized p)) (source_of p) (free_of p formed accepted) input opts range r f (run_homed p formed accepted owns few input opts r o))
+
+  pub way_at : {j : Journal} {w : World} (r : Runs (source_of p) input opts j w) → RunFits (source_of p) input opts j w r → RunMeets (Opens (table_of p) owns few) (source_of p) input opts j w r → is_over j ≡ false → (n : ℕ) (s : State) (c : Comes (source_of p) j w n s) → LeadsMeet (Opens (table_of p) owns few) (source_of p) (answered (source_of p) c.given (drawn j w n)) s c.leads → Now s
+  way_at r f o on n s c l = comes_way (table_of p) (HomedHere (table_of p) owns few (Sized p)) (source_of p) (free_of p formed accepted) input opts range r f (run_homed p formed accepted owns few input opts r o) on n s c (leads_homed p formed accepted owns few input opts r o n s c l)
 
   leads_of : {j : Journal} {w : World} (r : Runs (source_of p) input opts j w) → RunFits (source_of p) input opts j w r → RunMeets (Opens (table_of p) owns few) (source_of p) input opts j w r → is_over j ≡ false → (n : ℕ) (s : State) (c : Comes (source_of p) j w n s) → LeadsMeet (Opens (table_of p) owns few) (source_of p) (answered (source_of p) c.given (drawn j w n)) s c.leads → LeadsMeet Now (source_of p) (answered (source_of p) c.given (drawn j w n)) s c.leads
-  leads_of r f o on n s c l = (leads_ways (table_of p) (HomedHere (table_of p) owns few (Sized p)) (source_of p) (free_of p formed accepted) input opts range r f (run_homed p formed accepted owns few input opts r o) on n s c (leads_homed p formed accepted owns few input opts r o n s c l)).1
+  leads_of r f o on n s c l = (leads_ways (table_of p) (HomedHere (table_of p) owns few (Sized p)) (source_of p) (free_of p formed accepted) input opts range r f (run_homed p formed accepted owns few input opts r o) on n s c (leads_homed p formed accepted owns few input opts r o n s c l))
 
 pub law_code : LawCode
 law_code p formed accepted = free_of p formed accepted

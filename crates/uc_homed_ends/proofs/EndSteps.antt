@@ -56,9 +56,9 @@ module _ (tb : Table) where
   -- what a piece is for one who leaves it
 
   abbrev pub FreeSort : Sort → Type 0
-  FreeSort (piece.IsLoop o t e b) = FreeExpr t × FreeMaybe e × FreeStmt tb b
+  FreeSort (piece.IsLoop o t e b) = FreeExpr tb t × FreeMaybe tb e × FreeStmt tb b
   FreeSort (piece.IsClean c) = FreeClean tb c
-  FreeSort (piece.IsFill n b d) = FreeExpr b × FreeSweep tb d
+  FreeSort (piece.IsFill n b d) = FreeExpr tb b × FreeSweep tb d
   FreeSort (piece.IsSweep e) = FreeSweep tb e
   FreeSort (piece.IsPart c) = FreeClean tb c
   FreeSort (piece.IsGuard hs) = FreeHandlers tb hs
@@ -121,7 +121,7 @@ module _ (tb : Table) where
 
   -- to-do lists
 
-  pub starts : (cell : ℕ) (v : Option Expr) (todo : List Todo) → FreeMaybe v → FreeList tb todo → FreeList tb (quiet.starting cell v todo)
+  pub starts : (cell : ℕ) (v : Option Expr) (todo : List Todo) → FreeMaybe tb v → FreeList tb todo → FreeList tb (quiet.starting cell v todo)
   starts cell None todo n h = h
   starts cell (Some e) todo n h = ((tt, tt), ((n, tt), (tt, h)))
 
@@ -130,21 +130,21 @@ module _ (tb : Table) where
   converts src.Truth todo h = (tt, h)
   converts k todo h = h
 
-  pub stepped : (e : Option Expr) (todo : List Todo) → FreeMaybe e → FreeList tb todo → FreeList tb (quiet.step_todo e todo)
+  pub stepped : (e : Option Expr) (todo : List Todo) → FreeMaybe tb e → FreeList tb todo → FreeList tb (quiet.step_todo e todo)
   stepped None todo n h = h
   stepped (Some e) todo n h = ((n, tt), (tt, h))
 
-  pub tested : (o : Order) (t : Expr) (e : Option Expr) (b : Stmt) (todo : List Todo) → FreeExpr t → FreeMaybe e → FreeStmt tb b → FreeList tb todo → FreeList tb (quiet.test_todo o t e b todo)
+  pub tested : (o : Order) (t : Expr) (e : Option Expr) (b : Stmt) (todo : List Todo) → FreeExpr tb t → FreeMaybe tb e → FreeStmt tb b → FreeList tb todo → FreeList tb (quiet.test_todo o t e b todo)
   tested src.TestFirst t e b todo k l m h = ((k, tt), ((k, l, m), h))
   tested src.BodyFirst t e b todo k l m h = ((k, tt), ((k, l, m), h))
   tested src.NoTest t e b todo k l m h = ((k, l, m), h)
 
-  looped : (o : Order) (t : Expr) (e : Option Expr) (b : Stmt) (todo : List Todo) → FreeExpr t → FreeMaybe e → FreeStmt tb b → FreeList tb todo → FreeList tb (quiet.loop_todo o t e b todo)
+  looped : (o : Order) (t : Expr) (e : Option Expr) (b : Stmt) (todo : List Todo) → FreeExpr tb t → FreeMaybe tb e → FreeStmt tb b → FreeList tb todo → FreeList tb (quiet.loop_todo o t e b todo)
   looped src.TestFirst t e b todo k l m h = ((k, tt), ((k, l, m), h))
   looped src.BodyFirst t e b todo k l m h = ((k, l, m), h)
   looped src.NoTest t e b todo k l m h = ((k, l, m), h)
 
-  loop_left : (w : Way) (o : Order) (t : Expr) (e : Option Expr) (b : Stmt) (todo : List Todo) → FreeExpr t × FreeMaybe e × FreeStmt tb b → FreeList tb todo → FreeList tb (quiet.loop_left w o t e b todo)
+  loop_left : (w : Way) (o : Order) (t : Expr) (e : Option Expr) (b : Stmt) (todo : List Todo) → FreeExpr tb t × FreeMaybe tb e × FreeStmt tb b → FreeList tb todo → FreeList tb (quiet.loop_left w o t e b todo)
   loop_left src.ToBreak o t e b todo n h = h
   loop_left src.ToContinue o t e b todo n h = (n, h)
   loop_left src.ToReturn o t e b todo n h = (tt, h)
@@ -162,11 +162,11 @@ module _ (tb : Table) where
   left_behind w piece.IsFinish todo n h = (tt, h)
   left_behind w piece.IsFinishCoroutine todo n h = (tt, h)
 
-  pub filled : (b : Bool) (n : ℕ) (e d : Expr) (todo : List Todo) → FreeExpr e × FreeSweep tb d → FreeList tb todo → FreeList tb (quiet.fill_todo b n e d todo)
+  pub filled : (b : Bool) (n : ℕ) (e d : Expr) (todo : List Todo) → FreeExpr tb e × FreeSweep tb d → FreeList tb todo → FreeList tb (quiet.fill_todo b n e d todo)
   filled false n e d todo k h = h
   filled true n e d todo k h = ((k.0, tt), (tt, (tt, (k, h))))
 
-  raised : (r : Raised) (todo : List Todo) → FreeRaised r → NoEnding todo → FreeList tb todo → FreeList tb (raising.raised_todo r todo)
+  raised : (r : Raised) (todo : List Todo) → FreeRaised tb r → NoEnding todo → FreeList tb todo → FreeList tb (raising.raised_todo r todo)
   raised (src.Plainly n) todo k e h = ((tt, tt), ((tt, tt), ((tt, e), h)))
   raised (src.BuiltAt n c x) todo k e h = (tt, ((k, tt), (tt, ((tt, tt), ((tt, tt), ((tt, e), h))))))
   raised (src.AgainFrom c) todo k e h = ((tt, tt), ((tt, tt), ((tt, e), h)))
@@ -176,7 +176,7 @@ module _ (tb : Table) where
 
   -- a clean-up that ends no mutex object as a whole
   abbrev pub PlainClean : CleanUp → Type 0
-  PlainClean (src.Destroys e) = FreeExpr e
+  PlainClean (src.Destroys e) = FreeExpr tb e
   PlainClean (src.DestroysAll m e) = FreeSweep tb e
   PlainClean c = Unit {0}
 
@@ -208,11 +208,11 @@ module _ (tb : Table) where
   branch (suc zero) (src.MoreClauses guard b cs) todo n h = (n.1, h)
   branch (suc (suc k)) (src.MoreClauses guard b cs) todo n h = branch (suc k) cs todo n.2 h
 
-  pub item : (i : Item) (todo : List Todo) → FreeItem i → FreeList tb todo → FreeList tb (quiet.item_todo i todo)
+  pub item : (i : Item) (todo : List Todo) → FreeItem tb i → FreeList tb todo → FreeList tb (quiet.item_todo i todo)
   item (src.Show f e) todo n h = ((n, tt), (tt, h))
   item (src.ShowText k) todo n h = (tt, h)
 
-  pub item_value : (i : Item) (todo : List Todo) → FreeItem i → NoEnding todo → FreeList tb todo → FreeList tb (quiet.item_value i todo)
+  pub item_value : (i : Item) (todo : List Todo) → FreeItem tb i → NoEnding todo → FreeList tb todo → FreeList tb (quiet.item_value i todo)
   item_value (src.Show f e) todo n a h = ((n, a), h)
   item_value (src.ShowText k) todo n a h = h
 
@@ -253,7 +253,7 @@ module _ (tb : Table) where
 
     -- expressions
 
-    object : (o : ObjectExpr) (todo : List Todo) → FreeObject o → FreeList tb todo → FreeStep tb (quiet.object_step o todo s)
+    object : (o : ObjectExpr) (todo : List Todo) → FreeObject tb o → FreeList tb todo → FreeStep tb (quiet.object_step o todo s)
     object src.This todo n h = go _ _ h
     object (src.OwnField k i) todo n h = go _ _ h
     object (src.GetOwn k i) todo n h = go _ _ h
@@ -262,7 +262,7 @@ module _ (tb : Table) where
     object (src.CallOn r a args) todo n h = go _ _ ((n.0, tt), (n.1, (tt, (tt, h))))
     object (src.CallLive r a args) todo n h = go _ _ ((n.0, tt), (n.1, (tt, (tt, (tt, h)))))
     object (src.CallUnwritten r a) todo n h = go _ _ ((n, tt), (tt, h))
-    object (src.EnterOn m r a args) todo n h = go _ _ ((n.0, tt), (n.1, (tt, (tt, (tt, h)))))
+    object (src.EnterOn m r a args) todo n h = go _ _ ((n.1, tt), (n.2, (tt, (n.0, (tt, h)))))
     object (src.EndOn r w a) todo n h = absurd n
     object (src.Bind a b) todo n h = go _ _ ((n.0, tt), ((n.1, tt), (tt, h)))
     object (src.MakeOn c r false a args) todo n h = go _ _ ((n.0, tt), (n.1, (tt, (tt, h))))
@@ -279,7 +279,7 @@ module _ (tb : Table) where
     object (src.FrontOf a) todo n h = go _ _ ((n, tt), (tt, h))
 
     -- where no object is entered behind it
-    pub eval : (a : Expr) (todo : List Todo) → FreeExpr a → NoEnding todo → FreeList tb todo → FreeStep tb (quiet.eval_step a todo s)
+    pub eval : (a : Expr) (todo : List Todo) → FreeExpr tb a → NoEnding todo → FreeList tb todo → FreeStep tb (quiet.eval_step a todo s)
     eval (src.Literal k) todo n e h = go _ _ h
     eval (src.Variable k) todo n e h = go _ _ h
     eval (src.Element m k a i) todo n e h = go _ _ ((n.0, tt), ((n.1, tt), (tt, h)))
@@ -328,7 +328,7 @@ module _ (tb : Table) where
 
     -- statements
 
-    pub swept_free : (n : ℕ) (e : Expr) (todo : List Todo) → FreeExpr e → FreeList tb todo → FreeStep tb (quiet.sweep_step n e todo s)
+    pub swept_free : (n : ℕ) (e : Expr) (todo : List Todo) → FreeExpr tb e → FreeList tb todo → FreeStep tb (quiet.sweep_step n e todo s)
     swept_free zero e todo n h = go _ _ h
     swept_free (suc m) e todo n h = record { run = ((n, tt), (tt, (inl n, h))); callers = callers; env = env }
 

@@ -2,6 +2,7 @@
 -- what it ends.
 use Rattle.std.proofs.Common.{◌≡◌, ℕ, zero, suc, inl, inr, ◌⊎◌, Bool, true, false, List, [], ◌∷◌, ◌++◌, drop, Option, Some, None, refl, sym, ap, ◌∙◌, subst}
 use Rattle.std.specs.Prelude.{pos, nat_lt, slice_get, if◌then◌else◌}
+use Rattle.uc_tree.specs.declared.limits.TheConstants.{DESTRUCTOR}
 use Rattle.uc_tree.specs.Source as src
 use Rattle.uc_tree.specs.Source.{Source, Expr, CleanUp, Routine, routine_or_none, routine_of}
 use Rattle.uc_entry.specs.declared.fault.RunFault.TheVariants.{NoReturn}
@@ -11,12 +12,13 @@ use Rattle.uc_entry.specs.declared.request.Asked.{Asked}
 use Rattle.uc_entry.specs.declared.request.Request.{Request}
 use Rattle.uc_entry.specs.declared.request.Request.TheVariants as ask
 use Rattle.uc_machine.specs.Executions.{take_operands, values_cleared}
+use Rattle.uc_machine.specs.declared.exec.Exec.{Exec}
 use Rattle.uc_machine.specs.Raising as raising
 use Rattle.uc_machine.specs.Monitors as monitors
 use Rattle.uc_machine.specs.Quiet as quiet
 use Rattle.uc_machine.specs.Quiet.{first_state}
 use Rattle.uc_machine.specs.Pieces as piece
-use Rattle.uc_machine.specs.Pieces.{Value, Todo, State, Members, Step, Goes, Ticks, Asks, at, top, below, further, number}
+use Rattle.uc_machine.specs.Pieces.{Value, Todo, State, Members, Step, Goes, Ticks, Asks, at, top, below, further, loaded, number}
 use Rattle.uc_machine.specs.Answering.{answered, entered, new_members, with_operand}
 use Rattle.uc_machine.specs.Rides as rides
 use Rattle.uc_machine.specs.Rides.{Rides}
@@ -31,7 +33,7 @@ use Rattle.uc_life_laws.specs.Ending.{Spot, OfVariable, OfField, place_at}
 use Rattle.uc_homed_ends.specs.EndCode.{EndSite, AtSpot, AtElement, EndOf, FreeSweep, FreeExpr, FreeStmt, FreeClean, FreeRoutine, FreeSource}
 use Rattle.uc_homed_ends.specs.EndLists.{FreePiece, FreeList, FreeActive, FreeMembers, FreeState, FreeStep}
 use Rattle.uc_homed_ends.specs.EndWays as ways
-use Rattle.uc_homed_ends.specs.EndWays.{Stage, Ends, Loads, Finds, Arrays, Counts, Picks, Reads, todo_at, Found, Leaves, OneLess, Way, NowState, NowStep}
+use Rattle.uc_homed_ends.specs.EndWays.{Stage, Ends, Loads, Finds, Arrays, Counts, Picks, Reads, todo_at, Found, Leaves, OneLess, Way, Enters, RestState, RestBy, NowBy, NowStep}
 use Rattle.uc_homed_ends.proofs.EndSteps as steps
 
 -- a piece at which no mutex object is ended
@@ -45,21 +47,29 @@ same_place : (p : Spot) (todo : List Todo) (vs : List Value) (s : State) → pla
 same_place (OfVariable k) todo vs s = refl
 same_place (OfField h i) todo vs s = refl
 
-module _ (tb : Table) (P : State → Type 0) where
+module _ (tb : Table) (P : State → Type 0) (Q : Exec → Value → Type 0) where
   -- on no such way
-  free_now : (x : Step) → FreeStep tb x → NowStep tb P x
-  free_now (Goes s) h = record { run = inl h.run; callers = h.callers; env = h.env }
-  free_now (Ticks s) h = h
+  free_now : (x : Step) → FreeStep tb x → NowStep tb P Q x
+  free_now (Goes s) h = record { run = inl (inl h.run); callers = h.callers; env = h.env }
+  free_now (Ticks s) h = record { run = inl h.run; callers = h.callers; env = h.env }
   free_now (Asks r s) h = by r h
     where
-      by : (r : Request) → FreeState tb s → NowStep tb P (Asks r s)
+      by : (r : Request) → FreeState tb s → NowStep tb P Q (Asks r s)
       by (ask.Fault m) h = h.env
       by r h = h
 
-  pub now_free : (s : State) → FreeState tb s → NowState tb P s
-  now_free s h = record { run = inl h.run; callers = h.callers; env = h.env }
+  pub rest_free : (s : State) → FreeState tb s → RestState tb Q s
+  rest_free s h = record { run = inl h.run; callers = h.callers; env = h.env }
 
-module _ (tb : Table) (P : State → Type 0) (source : Source) (known : FreeSource tb source) where
+  pub now_rest : (s : State) → RestState tb Q s → NowBy tb P Q s
+  now_rest s h = record { run = inl h.run; callers = h.callers; env = h.env }
+
+  asked_rest : (r : Request) (s : State) → NowStep tb P Q (Asks r s) → RestBy tb Q r s
+  asked_rest ask.Slice s h = rest_free s h
+  asked_rest (ask.Fault m) s h = h
+  asked_rest r s h = h
+
+module _ (tb : Table) (P : State → Type 0) (Q : Exec → Value → Type 0) (loads : (s : State) → P s → (w : Way tb P s) (x : EndSite) (b : Bool) → s.run.control ≡ piece.LoadNow ∷ ways.entering w.routine b w.todo → Found Reads x s → Leaves x w.routine b w.start.run.control → Q s.env.exec (loaded (top s.run.operands) s.env)) (source : Source) (known : FreeSource tb source) where
   module _ (s : State) (callers : AllWait (FreeActive tb) (FreeActive tb) s.callers) (env : RestsEnv (FreeActive tb) (FreeActive tb) s.env) where
     go : (todo : List Todo) (vs : List Value) → FreeList tb todo → FreeState tb (at todo vs s)
     go = steps.go tb s callers env
@@ -74,7 +84,7 @@ module _ (tb : Table) (P : State → Type 0) (source : Source) (known : FreeSour
     acts piece.KeepNow todo u n h c = steps.go_in tb s callers env _ _ _ h (steps.write tb s callers env _ _)
     acts (piece.SetNow k) todo u n h c = steps.go_in tb s callers env _ _ _ h (steps.write tb s callers env (piece.variable_at k s) (piece.Number (number (top s.run.operands))))
     acts piece.BindNow todo u n h c = steps.go_in tb s callers env _ _ _ h (steps.write tb s callers env _ _)
-    acts (piece.Choose e f) todo u n h c = go _ _ ((either FreeExpr (piece.is_zero (number (top s.run.operands))) f e n.1 n.0, n.2), h)
+    acts (piece.Choose e f) todo u n h c = go _ _ ((either (FreeExpr tb) (piece.is_zero (number (top s.run.operands))) f e n.1 n.0, n.2), h)
     acts (piece.Branch a b) todo u n h c = go _ _ (either (FreeStmt tb) (piece.is_zero (number (top s.run.operands))) b a n.1 n.0, h)
     acts (piece.TurnNow o t e b) todo u n h c = go _ _ (n.2, (n, h))
     acts (piece.Arguments src.NoExprs) todo u n h c = go _ _ h
@@ -173,6 +183,7 @@ module _ (tb : Table) (P : State → Type 0) (source : Source) (known : FreeSour
         this = en.this;
         whole = en.whole;
         mutex = en.mutex;
+        params = en.params;
         start = s;
         leaves = l;
         held = held;
@@ -183,47 +194,47 @@ module _ (tb : Table) (P : State → Type 0) (source : Source) (known : FreeSour
         callers = k;
       }
 
-      cleaned : (x : CleanUp) (todo : List Todo) → s.run.control ≡ piece.Clean x ∷ todo → FreeClean tb x → FreeList tb todo → NowStep tb P (quiet.act source (piece.Clean x) todo s)
-      cleaned (src.Destroys x) todo e (inl f) h = free_now tb P (quiet.act source (piece.Clean (src.Destroys x)) todo s) (go _ _ ((f, tt), (tt, h)))
+      cleaned : (x : CleanUp) (todo : List Todo) → s.run.control ≡ piece.Clean x ∷ todo → FreeClean tb x → FreeList tb todo → NowStep tb P Q (quiet.act source (piece.Clean x) todo s)
+      cleaned (src.Destroys x) todo e (inl f) h = free_now tb P Q (quiet.act source (piece.Clean (src.Destroys x)) todo s) (go _ _ ((f, tt), (tt, h)))
       cleaned (src.Destroys x) todo e (inr (p, en)) h =
           record { run = inr (way_from (at (piece.Eval x ∷ (piece.DropNow ∷ todo)) s.run.operands s) x (AtSpot p) en (piece.DropNow ∷ todo) refl (tt, h) (todo, inl (e ∙ ap (λ x. piece.Clean (src.Destroys x) ∷ todo) en.is)) refl refl refl refl tt); callers = callers; env = env }
-      cleaned x todo e n h = free_now tb P (quiet.act source (piece.Clean x) todo s) (go _ _ (steps.cleans tb x todo n h))
+      cleaned x todo e n h = free_now tb P Q (quiet.act source (piece.Clean x) todo s) (go _ _ (steps.cleans tb x todo n h))
 
-      swept : (m : ℕ) (x : Expr) (todo : List Todo) → s.run.elements ≡ m → s.run.control ≡ piece.Sweep x ∷ todo → FreeSweep tb x → FreeList tb todo → NowStep tb P (quiet.sweep_step m x todo s)
-      swept m x todo q e (inl f) h = free_now tb P (quiet.sweep_step m x todo s) (steps.swept_free tb s callers env m x todo f h)
-      swept zero x todo q e (inr (n, p, en)) h = free_now tb P (quiet.sweep_step zero x todo s) (go _ _ h)
+      swept : (m : ℕ) (x : Expr) (todo : List Todo) → s.run.elements ≡ m → s.run.control ≡ piece.Sweep x ∷ todo → FreeSweep tb x → FreeList tb todo → NowStep tb P Q (quiet.sweep_step m x todo s)
+      swept m x todo q e (inl f) h = free_now tb P Q (quiet.sweep_step m x todo s) (steps.swept_free tb s callers env m x todo f h)
+      swept zero x todo q e (inr (n, p, en)) h = free_now tb P Q (quiet.sweep_step zero x todo s) (go _ _ h)
       swept (suc m) x todo q e (inr (n, p, en)) h =
           let u : State = at (piece.Eval x ∷ (piece.DropNow ∷ (piece.Sweep x ∷ todo))) s.run.operands (quiet.with_elements m s) in
           record { run = inr (way_from u x (AtElement n p) en (piece.DropNow ∷ (piece.Sweep x ∷ todo)) refl (tt, (inr (n, p, en), h)) (todo, e ∙ ap (λ x. piece.Sweep x ∷ todo) en.is) refl refl refl refl q); callers = callers; env = env }
 
-      left_scope : (x : CleanUp) (b : Bool) (todo : List Todo) → s.run.control ≡ piece.Unwind ∷ (piece.Clean x ∷ todo) → FreeClean tb x → FreeList tb todo → NowStep tb P (raising.scope_left x b todo s)
-      left_scope (src.Destroys x) b todo e (inl f) h = free_now tb P (raising.scope_left (src.Destroys x) b todo s) (steps.scope tb s callers env (src.Destroys x) b todo f h)
+      left_scope : (x : CleanUp) (b : Bool) (todo : List Todo) → s.run.control ≡ piece.Unwind ∷ (piece.Clean x ∷ todo) → FreeClean tb x → FreeList tb todo → NowStep tb P Q (raising.scope_left x b todo s)
+      left_scope (src.Destroys x) b todo e (inl f) h = free_now tb P Q (raising.scope_left (src.Destroys x) b todo s) (steps.scope tb s callers env (src.Destroys x) b todo f h)
       left_scope (src.Destroys x) b todo e (inr (p, en)) h =
           record { run = inr (way_from (at (piece.Eval x ∷ (piece.DropNow ∷ (piece.Unwind ∷ todo))) [] s) x (AtSpot p) en (piece.DropNow ∷ (piece.Unwind ∷ todo)) refl (tt, (tt, h)) (todo, inr (inl (e ∙ ap (λ x. piece.Unwind ∷ (piece.Clean (src.Destroys x) ∷ todo)) en.is))) refl refl refl refl tt); callers = callers; env = env }
-      left_scope x b todo e n h = free_now tb P (raising.scope_left x b todo s) (steps.scope tb s callers env x b todo n h)
+      left_scope x b todo e n h = free_now tb P Q (raising.scope_left x b todo s) (steps.scope tb s callers env x b todo n h)
 
-      left_part : (x : CleanUp) (todo : List Todo) → s.run.control ≡ piece.Unwind ∷ (piece.Part x ∷ todo) → FreeClean tb x → FreeList tb todo → NowStep tb P (raising.unwind_past (piece.IsPart x) todo s)
-      left_part (src.Destroys x) todo e (inl f) h = free_now tb P (raising.unwind_past (piece.IsPart (src.Destroys x)) todo s) (go _ _ ((f, tt), (tt, (tt, h))))
+      left_part : (x : CleanUp) (todo : List Todo) → s.run.control ≡ piece.Unwind ∷ (piece.Part x ∷ todo) → FreeClean tb x → FreeList tb todo → NowStep tb P Q (raising.unwind_past (piece.IsPart x) todo s)
+      left_part (src.Destroys x) todo e (inl f) h = free_now tb P Q (raising.unwind_past (piece.IsPart (src.Destroys x)) todo s) (go _ _ ((f, tt), (tt, (tt, h))))
       left_part (src.Destroys x) todo e (inr (p, en)) h =
           record { run = inr (way_from (at (piece.Eval x ∷ (piece.DropNow ∷ (piece.Unwind ∷ todo))) [] s) x (AtSpot p) en (piece.DropNow ∷ (piece.Unwind ∷ todo)) refl (tt, (tt, h)) (todo, inr (inr (e ∙ ap (λ x. piece.Unwind ∷ (piece.Part (src.Destroys x) ∷ todo)) en.is))) refl refl refl refl tt); callers = callers; env = env }
-      left_part x todo e n h = free_now tb P (raising.unwind_past (piece.IsPart x) todo s) (go _ _ (steps.cleans tb x (piece.Unwind ∷ todo) n (tt, h)))
+      left_part x todo e n h = free_now tb P Q (raising.unwind_past (piece.IsPart x) todo s) (go _ _ (steps.cleans tb x (piece.Unwind ∷ todo) n (tt, h)))
 
-      unwound : (todo : List Todo) → s.run.control ≡ piece.Unwind ∷ todo → FreeList tb todo → FreeList tb s.run.control → NowStep tb P (raising.unwind_step todo s)
-      unwound [] e h c = free_now tb P (raising.unwind_step [] s) (steps.left_all tb s callers env c)
+      unwound : (todo : List Todo) → s.run.control ≡ piece.Unwind ∷ todo → FreeList tb todo → FreeList tb s.run.control → NowStep tb P Q (raising.unwind_step todo s)
+      unwound [] e h c = free_now tb P Q (raising.unwind_step [] s) (steps.left_all tb s callers env c)
       unwound (piece.Clean x ∷ todo) e h c = left_scope x _ todo e h.0 h.1
       unwound (piece.Part x ∷ todo) e h c = left_part x todo e h.0 h.1
-      unwound (p ∷ todo) e h c = free_now tb P (raising.unwind_step (p ∷ todo) s) (steps.unwind_past tb s callers env (piece.sort p) todo (steps.sorted tb p todo h.0) tt h.1)
+      unwound (p ∷ todo) e h c = free_now tb P Q (raising.unwind_step (p ∷ todo) s) (steps.unwind_past tb s callers env (piece.sort p) todo (steps.sorted tb p todo h.0) tt h.1)
 
-      first : (p : Todo) (todo : List Todo) → s.run.control ≡ p ∷ todo → FreePiece tb p todo → FreeList tb todo → FreeList tb s.run.control → NowStep tb P (quiet.act source p todo s)
+      first : (p : Todo) (todo : List Todo) → s.run.control ≡ p ∷ todo → FreePiece tb p todo → FreeList tb todo → FreeList tb s.run.control → NowStep tb P Q (quiet.act source p todo s)
       first (piece.Clean x) todo e n h c = cleaned x todo e n h
       first (piece.Sweep x) todo e n h c = swept s.run.elements x todo refl e n h
       first piece.Unwind todo e n h c = unwound todo e h c
-      first p todo e n h c = free_now tb P (quiet.act source p todo s) (acts p todo tt n h c)
+      first p todo e n h c = free_now tb P Q (quiet.act source p todo s) (acts p todo tt n h c)
 
     -- on the way from there
 
-    module _ (w : Way tb P s) where
-      next : (k : Stage) (x : EndSite) (b : Bool) (u : State) → u.run.control ≡ todo_at k x w.routine b w.todo → Found k x u → Leaves x w.routine b w.start.run.control → u.env ≡ s.env → u.run.frame ≡ s.run.frame → u.run.this ≡ s.run.this → u.callers ≡ s.callers → OneLess x w.start.run.elements u.run.elements → NowState tb P u
+    module _ (held : P s) (w : Way tb P s) where
+      next : (k : Stage) (x : EndSite) (b : Bool) (u : State) → u.run.control ≡ todo_at k x w.routine b w.todo → Found k x u → Leaves x w.routine b w.start.run.control → u.env ≡ s.env → u.run.frame ≡ s.run.frame → u.run.this ≡ s.run.this → u.callers ≡ s.callers → OneLess x w.start.run.elements u.run.elements → NowBy tb P Q u
       next k x b u c f l e g o r m = record {
         run = inr (record {
           stage = k;
@@ -238,6 +249,7 @@ module _ (tb : Table) (P : State → Type 0) (source : Source) (known : FreeSour
           this = w.this;
           whole = w.whole;
           mutex = w.mutex;
+          params = w.params;
           start = w.start;
           leaves = l;
           held = w.held;
@@ -251,70 +263,94 @@ module _ (tb : Table) (P : State → Type 0) (source : Source) (known : FreeSour
         env = subst (RestsEnv (FreeActive tb) (FreeActive tb)) (sym e) env;
       }
 
-      picked : (n : ℕ) (p : Spot) (b : Bool) (c : Bool) → top (below s.run.operands) ≡ place_at p s → Leaves (AtElement n p) w.routine b w.start.run.control → OneLess (AtElement n p) w.start.run.elements s.run.elements → NowStep tb P (piece.element_step src.Binding (if c then Some s.run.elements else None) (piece.LoadNow ∷ ways.entering w.routine b w.todo) (top (below s.run.operands)) (below (below s.run.operands)) s)
+      picked : (n : ℕ) (p : Spot) (b : Bool) (c : Bool) → top (below s.run.operands) ≡ place_at p s → Leaves (AtElement n p) w.routine b w.start.run.control → OneLess (AtElement n p) w.start.run.elements s.run.elements → NowStep tb P Q (piece.element_step src.Binding (if c then Some s.run.elements else None) (piece.LoadNow ∷ ways.entering w.routine b w.todo) (top (below s.run.operands)) (below (below s.run.operands)) s)
       picked n p b false f l m = env
       picked n p b true f l m =
           let todo : List Todo = piece.LoadNow ∷ ways.entering w.routine b w.todo in
           let vs : List Value = further (piece.At src.Binding s.run.elements) (top (below s.run.operands)) ∷ below (below s.run.operands) in
           next Reads (AtElement n p) b (at todo vs s) refl (ap (λ v. further (piece.At src.Binding s.run.elements) v) (f ∙ sym (same_place p todo vs s))) l refl refl refl refl m
 
-      read : (b : Bool) → FreeList tb (ways.entering w.routine b w.todo)
-      read false = (tt, (tt, w.free))
-      read true = (tt, (tt, (tt, w.free)))
+      -- what has been read is entered next
+      read : (x : EndSite) (b : Bool) → s.run.control ≡ piece.LoadNow ∷ ways.entering w.routine b w.todo → Found Reads x s → Leaves x w.routine b w.start.run.control → Enters tb Q (at (ways.entering w.routine b w.todo) (loaded (top s.run.operands) s.env ∷ below s.run.operands) s)
+      read x false c f l = record {
+        routine = w.routine;
+        todo = piece.CallUnwrittenNow w.routine ∷ w.todo;
+        control = inl refl;
+        free = (tt, w.free);
+        params = w.params;
+        told = loads s held w x false c f l;
+      }
+      read x true c f l = record {
+        routine = w.routine;
+        todo = piece.CallOnNow w.routine ∷ w.todo;
+        control = inr refl;
+        free = (tt, w.free);
+        params = w.params;
+        told = loads s held w x true c f l;
+      }
 
-      onward : (k : Stage) (x : EndSite) (b : Bool) → Found k x s → Leaves x w.routine b w.start.run.control → OneLess x w.start.run.elements s.run.elements → NowStep tb P (quiet.act_todo source (todo_at k x w.routine b w.todo) s)
-      onward Ends x false f l m = next Loads x false _ refl tt l refl refl refl refl m
-      onward Ends x true f l m = next Loads x true _ refl tt l refl refl refl refl m
-      onward Loads x b f l m = next Finds x b _ refl tt l refl refl refl refl m
-      onward Finds (AtSpot (OfVariable k)) b f l m = next Reads (AtSpot (OfVariable k)) b _ refl refl l refl refl refl refl m
-      onward Finds (AtSpot (OfField h i)) b f l m = next Reads (AtSpot (OfField h i)) b _ refl refl l refl refl refl refl m
-      onward Finds (AtElement n p) b f l m = next Arrays (AtElement n p) b _ refl tt l refl refl refl refl m
-      onward Arrays (AtSpot p) b f l m = absurd f
-      onward Arrays (AtElement n (OfVariable k)) b f l m = next Counts (AtElement n (OfVariable k)) b _ refl refl l refl refl refl refl m
-      onward Arrays (AtElement n (OfField h i)) b f l m = next Counts (AtElement n (OfField h i)) b _ refl refl l refl refl refl refl m
-      onward Counts (AtSpot p) b f l m = absurd f
-      onward Counts (AtElement n p) b f l m = next Picks (AtElement n p) b (at (todo_at Picks (AtElement n p) w.routine b w.todo) (piece.Number (pos s.run.elements) ∷ s.run.operands) s) refl (refl, f ∙ sym (same_place p (todo_at Picks (AtElement n p) w.routine b w.todo) (piece.Number (pos s.run.elements) ∷ s.run.operands) s)) l refl refl refl refl m
-      onward Picks (AtSpot p) b f l m = absurd f
-      onward Picks (AtElement n p) b f l m = subst (λ v. NowStep tb P (piece.element_step src.Binding (piece.index_in n (number v)) (piece.LoadNow ∷ ways.entering w.routine b w.todo) (top (below s.run.operands)) (below (below s.run.operands)) s)) (sym f.0) (picked n p b (nat_lt s.run.elements n) f.1 l m)
-      onward Reads x b f l m = record { run = inl (read b); callers = callers; env = env }
+      onward : (k : Stage) (x : EndSite) (b : Bool) → s.run.control ≡ todo_at k x w.routine b w.todo → Found k x s → Leaves x w.routine b w.start.run.control → OneLess x w.start.run.elements s.run.elements → NowStep tb P Q (quiet.act_todo source (todo_at k x w.routine b w.todo) s)
+      onward Ends x false c f l m = next Loads x false _ refl tt l refl refl refl refl m
+      onward Ends x true c f l m = next Loads x true _ refl tt l refl refl refl refl m
+      onward Loads x b c f l m = next Finds x b _ refl tt l refl refl refl refl m
+      onward Finds (AtSpot (OfVariable k)) b c f l m = next Reads (AtSpot (OfVariable k)) b _ refl refl l refl refl refl refl m
+      onward Finds (AtSpot (OfField h i)) b c f l m = next Reads (AtSpot (OfField h i)) b _ refl refl l refl refl refl refl m
+      onward Finds (AtElement n p) b c f l m = next Arrays (AtElement n p) b _ refl tt l refl refl refl refl m
+      onward Arrays (AtSpot p) b c f l m = absurd f
+      onward Arrays (AtElement n (OfVariable k)) b c f l m = next Counts (AtElement n (OfVariable k)) b _ refl refl l refl refl refl refl m
+      onward Arrays (AtElement n (OfField h i)) b c f l m = next Counts (AtElement n (OfField h i)) b _ refl refl l refl refl refl refl m
+      onward Counts (AtSpot p) b c f l m = absurd f
+      onward Counts (AtElement n p) b c f l m = next Picks (AtElement n p) b (at (todo_at Picks (AtElement n p) w.routine b w.todo) (piece.Number (pos s.run.elements) ∷ s.run.operands) s) refl (refl, f ∙ sym (same_place p (todo_at Picks (AtElement n p) w.routine b w.todo) (piece.Number (pos s.run.elements) ∷ s.run.operands) s)) l refl refl refl refl m
+      onward Picks (AtSpot p) b c f l m = absurd f
+      onward Picks (AtElement n p) b c f l m = subst (λ v. NowStep tb P Q (piece.element_step src.Binding (piece.index_in n (number v)) (piece.LoadNow ∷ ways.entering w.routine b w.todo) (top (below s.run.operands)) (below (below s.run.operands)) s)) (sym f.0) (picked n p b (nat_lt s.run.elements n) f.1 l m)
+      onward Reads x b c f l m = record { run = inl (inr (read x b c f l)); callers = callers; env = env }
 
-      go_on : NowStep tb P (quiet.quiet source s)
-      go_on = subst (λ l. NowStep tb P (quiet.act_todo source l s)) (sym w.control) (onward w.stage w.site w.written w.found w.leaves w.elements)
+      go_on : NowStep tb P Q (quiet.quiet source s)
+      go_on = subst (λ l. NowStep tb P Q (quiet.act_todo source l s)) (sym w.control) (onward w.stage w.site w.written w.control w.found w.leaves w.elements)
 
-  pub walk : (s : State) → P s → NowState tb P s → NowStep tb P (quiet.quiet source s)
+    -- one who has loaded what it ends
+
+    enters_now : Enters tb Q s → NowStep tb P Q (quiet.quiet source s)
+    enters_now e = by e.control
+      where
+        by : (s.run.control ≡ piece.EnterNow DESTRUCTOR e.routine ∷ e.todo) ⊎ (s.run.control ≡ piece.TickNow ∷ (piece.EnterNow DESTRUCTOR e.routine ∷ e.todo)) → NowStep tb P Q (quiet.quiet source s)
+        by (inl c) =
+            subst (λ l. NowStep tb P Q (quiet.act_todo source l s)) (sym c) (free_now tb P Q (quiet.act source (piece.EnterNow DESTRUCTOR e.routine) e.todo s) (steps.enter tb s callers env DESTRUCTOR (slice_get source.routines e.routine) e.todo e.free))
+        by (inr c) =
+            subst (λ l. NowStep tb P Q (quiet.act_todo source l s)) (sym c) (record { run = inr (record { routine = e.routine; todo = e.todo; control = inl refl; free = e.free; params = e.params; told = e.told }); callers = callers; env = env })
+
+  pub walk : (s : State) → P s → NowBy tb P Q s → NowStep tb P Q (quiet.quiet source s)
   walk s held h = by_run h.run
     where
-      by : (l : List Todo) → s.run.control ≡ l → FreeList tb s.run.control → NowStep tb P (quiet.act_todo source l s)
-      by [] e c = free_now tb P (quiet.act_todo source [] s) (steps.returned tb s h.callers h.env _ s.callers h.callers c)
+      by : (l : List Todo) → s.run.control ≡ l → FreeList tb s.run.control → NowStep tb P Q (quiet.act_todo source l s)
+      by [] e c = free_now tb P Q (quiet.act_todo source [] s) (steps.returned tb s h.callers h.env _ s.callers h.callers c)
       by (p ∷ todo) e c = let n : FreeList tb (p ∷ todo) = subst (FreeList tb) e c in first s h.callers h.env held p todo e n.0 n.1 c
 
-      by_run : FreeActive tb s.run ⊎ Way tb P s → NowStep tb P (quiet.quiet source s)
-      by_run (inl c) = by s.run.control refl c
-      by_run (inr w) = go_on s h.callers h.env w
+      by_run : (FreeActive tb s.run ⊎ Enters tb Q s) ⊎ Way tb P s → NowStep tb P Q (quiet.quiet source s)
+      by_run (inl (inl c)) = by s.run.control refl c
+      by_run (inl (inr e)) = enters_now s h.callers h.env e
+      by_run (inr w) = go_on s h.callers h.env held w
 
   -- rides
 
-  abbrev pub AskedFree : Request → State → Type 0
-  AskedFree r s = NowStep tb P (Asks r s)
-
-  pub ridden : {s u : State} {q k : ℕ} {a : Asked} (d : Rides source s q u k a) → RideMeets P source s q u k a d → NowState tb P s → (q ≡ 0 → FreeState tb s) → AskedFree a.request u × RideMeets (NowState tb P) source s q u k a d
+  pub ridden : {s u : State} {q k : ℕ} {a : Asked} (d : Rides source s q u k a) → RideMeets P source s q u k a d → NowBy tb P Q s → (q ≡ 0 → RestState tb Q s) → RestBy tb Q a.request u × RideMeets (NowBy tb P Q) source s q u k a d
   ridden rides.slices m h f = (f refl, tt)
   ridden (rides.goes_on {s} {t} e d) m h f =
-      let k = ridden d m.1 (subst (NowStep tb P) e (walk s m.0 h)) (λ q. absurd (cc)) in
+      let k = ridden d m.1 (subst (NowStep tb P Q) e (walk s m.0 h)) (λ q. absurd (cc)) in
       (k.0, (h, k.1))
   ridden (rides.ticks {s} {t} e d) m h f =
-      let g : FreeState tb t = subst (NowStep tb P) e (walk s m.0 h) in
-      let k = ridden d m.1 (now_free tb P t g) (λ q. g) in
+      let g : RestState tb Q t = subst (NowStep tb P Q) e (walk s m.0 h) in
+      let k = ridden d m.1 (now_rest tb P Q t g) (λ q. g) in
       (k.0, (h, k.1))
-  ridden (rides.asks {s} {t} e) m h f = (subst (NowStep tb P) e (walk s m h), h)
+  ridden (rides.asks {s} {t} {q} {r} e) m h f = (asked_rest tb P Q r t (subst (NowStep tb P Q) e (walk s m h)), h)
 
-  pub led : {s u : State} (l : Leads source s u) → LeadsMeet P source s u l → NowState tb P s → NowState tb P u × LeadsMeet (NowState tb P) source s u l
+  pub led : {s u : State} (l : Leads source s u) → LeadsMeet P source s u l → NowBy tb P Q s → NowBy tb P Q u × LeadsMeet (NowBy tb P Q) source s u l
   led runs.stays m h = (h, tt)
   led (runs.goes {s} {u} e l) m h =
-      let k = led l m.1 (subst (NowStep tb P) e (walk s m.0 h)) in
+      let k = led l m.1 (subst (NowStep tb P Q) e (walk s m.0 h)) in
       (k.0, (h, k.1))
   led (runs.ticks {s} {u} e l) m h =
-      let k = led l m.1 (now_free tb P u (subst (NowStep tb P) e (walk s m.0 h))) in
+      let k = led l m.1 (now_rest tb P Q u (subst (NowStep tb P Q) e (walk s m.0 h))) in
       (k.0, (h, k.1))
 
 module _ (tb : Table) (source : Source) (known : FreeSource tb source) where

@@ -3,3 +3,12 @@ pub mod EndWalk
 pub mod EndCodes
 pub mod EndRuns
 pub mod EndHomes
+pub mod BoundCells
+pub mod BoundKeeping
+pub mod BoundSteps
+pub mod BoundWalk
+pub mod BoundWorlds
+pub mod BoundRuns
+pub mod Wholes
+pub mod Ended
+pub mod Found

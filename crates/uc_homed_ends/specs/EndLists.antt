@@ -1,5 +1,5 @@
 -- To-do lists in which mutex objects are ended by clean-ups alone: nothing in them is evaluated or loaded for that yet.
-use Rattle.std.specs.Prelude.{List, [], ◌∷◌, Option}
+use Rattle.std.specs.Prelude.{◌≡◌, false, List, [], ◌∷◌, Option}
 use Rattle.uc_machine.specs.Pieces as piece
 use Rattle.uc_machine.specs.Pieces.{Todo, Active, State, Members, Step, Goes, Ticks, Asks}
 use Rattle.uc_site_laws.specs.Resting.{RestsMembers, RestsState}
@@ -19,26 +19,27 @@ NoEnding todo = Unit {0}
 module _ (t : Table) where
   -- a piece, with what is to do behind it
   abbrev pub FreePiece : Todo → List Todo → Type 0
-  FreePiece (piece.Eval e) todo = FreeExpr e × NoEnding todo
+  FreePiece (piece.Eval e) todo = FreeExpr t e × NoEnding todo
   FreePiece piece.LoadNow todo = NoEnding todo
-  FreePiece (piece.Choose e f) todo = FreeExpr e × FreeExpr f × NoEnding todo
+  FreePiece (piece.Choose e f) todo = FreeExpr t e × FreeExpr t f × NoEnding todo
   FreePiece (piece.Branch a b) todo = FreeStmt t a × FreeStmt t b
-  FreePiece (piece.Arguments es) todo = FreeExprs es
-  FreePiece (piece.FillNow n b d) todo = FreeExpr b × FreeSweep t d
-  FreePiece (piece.TurnNow o e step b) todo = FreeExpr e × FreeMaybe step × FreeStmt t b
-  FreePiece (piece.Again o e step b) todo = FreeExpr e × FreeMaybe step × FreeStmt t b
-  FreePiece (piece.Items is) todo = FreeItems is
-  FreePiece (piece.Values is) todo = FreeItems is
-  FreePiece (piece.Pieces is) todo = FreeItems is
-  FreePiece (piece.Targets xs) todo = FreeTargets xs
-  FreePiece (piece.Variables ds) todo = FreeDeclared ds
+  FreePiece (piece.Arguments es) todo = FreeExprs t es
+  FreePiece (piece.FillNow n b d) todo = FreeExpr t b × FreeSweep t d
+  FreePiece (piece.TurnNow o e step b) todo = FreeExpr t e × FreeMaybe t step × FreeStmt t b
+  FreePiece (piece.Again o e step b) todo = FreeExpr t e × FreeMaybe t step × FreeStmt t b
+  FreePiece (piece.Items is) todo = FreeItems t is
+  FreePiece (piece.Values is) todo = FreeItems t is
+  FreePiece (piece.Pieces is) todo = FreeItems t is
+  FreePiece (piece.Targets xs) todo = FreeTargets t xs
+  FreePiece (piece.Variables ds) todo = FreeDeclared t ds
   FreePiece (piece.Do a) todo = FreeStmt t a
   FreePiece (piece.Rest ss) todo = FreeStmts t ss
-  FreePiece (piece.InLoop o e step b) todo = FreeExpr e × FreeMaybe step × FreeStmt t b
+  FreePiece (piece.InLoop o e step b) todo = FreeExpr t e × FreeMaybe t step × FreeStmt t b
   FreePiece (piece.Clean c) todo = FreeClean t c
   FreePiece (piece.Sweep e) todo = FreeSweep t e
   FreePiece (piece.Part c) todo = FreeClean t c
   FreePiece (piece.Guard hs) todo = FreeHandlers t hs
+  FreePiece (piece.EnterNow m r) todo = (t.routine r).whole ≡ false
   FreePiece (piece.Guards cs) todo = FreeClauses t cs
   FreePiece (piece.ChooseNow cs) todo = FreeClauses t cs
   FreePiece p todo = Unit {0}

@@ -1,8 +1,11 @@
 -- On the way from the clean-up of a mutex object to where that is read: nothing changes but what is to do and operands.
-use Rattle.std.specs.Prelude.{◌≡◌, ℕ, suc, pos, ◌⊎◌, Bool, true, List, ◌∷◌, Some}
+use Rattle.std.specs.Prelude.{◌≡◌, ℕ, suc, pos, ◌⊎◌, Bool, true, List, [], ◌∷◌, Some}
+use Rattle.uc_tree.specs.declared.limits.TheConstants.{DESTRUCTOR}
 use Rattle.uc_tree.specs.Source.{Binding, Load, OfObject, EndOn, Counted}
+use Rattle.uc_entry.specs.declared.request.Request.{Request}
 use Rattle.uc_entry.specs.declared.request.Request.TheVariants as ask
-use Rattle.uc_machine.specs.Pieces.{Number, At, Todo, Eval, LoadNow, ElementNow, Clean, Part, Sweep, Unwind, State, Step, Goes, Ticks, Asks, further, top, below}
+use Rattle.uc_machine.specs.declared.exec.Exec.{Exec}
+use Rattle.uc_machine.specs.Pieces.{Value, Number, At, Todo, Eval, LoadNow, ElementNow, TickNow, EnterNow, Clean, Part, Sweep, Unwind, State, Step, Goes, Ticks, Asks, further, top, below}
 use Rattle.uc_site_laws.specs.Resting.{AllWait, RestsEnv}
 use Rattle.uc_typing.specs.Typing.{Table}
 use Rattle.uc_state_laws.specs.Endings.{OnObject, behind_end}
@@ -79,6 +82,7 @@ module _ (t : Table) (P : State → Type 0) where
     pub this : (t.routine routine).this ≡ Some class
     pub whole : (t.routine routine).whole ≡ true
     pub mutex : t.mutex class ≡ true
+    pub params : [] ≡ (t.routine routine).params
     pub start : State
     pub leaves : Leaves site routine written start.run.control
     pub held : P start
@@ -88,14 +92,45 @@ module _ (t : Table) (P : State → Type 0) where
     pub object : s.run.this ≡ start.run.this
     pub callers : s.callers ≡ start.callers
 
-  -- who runs is on no such way, or it is on one
-  pub record NowState (s : State) : Type 0 where
-    pub run : FreeActive t s.run ⊎ Way s
+-- who has loaded what it ends enters that next, behind a tick where somebody wrote the destructor; so much is told then of who does it and of what
+module _ (t : Table) (Q : Exec → Value → Type 0) where
+  pub record Enters (s : State) : Type 0 where
+    pub routine : ℕ
+    pub todo : List Todo
+    pub control : (s.run.control ≡ EnterNow DESTRUCTOR routine ∷ todo) ⊎
+        (s.run.control ≡ TickNow ∷ (EnterNow DESTRUCTOR routine ∷ todo))
+    pub free : FreeList t todo
+    pub params : [] ≡ (t.routine routine).params
+    pub told : Q s.env.exec (top s.run.operands)
+
+  -- a task at rest, of which the running activation may stand there
+  pub record RestState (s : State) : Type 0 where
+    pub run : FreeActive t s.run ⊎ Enters s
+    pub callers : AllWait (FreeActive t) (FreeActive t) s.callers
+    pub env : RestsEnv (FreeActive t) (FreeActive t) s.env
+
+  -- behind a request it stands there where it was cut off alone
+  abbrev pub RestBy : Request → State → Type 0
+  RestBy ask.Slice s = RestState s
+  RestBy (ask.Fault m) s = RestsEnv (FreeActive t) (FreeActive t) s.env
+  RestBy r s = FreeState t s
+
+module _ (t : Table) (P : State → Type 0) (Q : Exec → Value → Type 0) where
+  -- who runs stands there, is on such a way, or on none
+  pub record NowBy (s : State) : Type 0 where
+    pub run : (FreeActive t s.run ⊎ Enters t Q s) ⊎ Way t P s
     pub callers : AllWait (FreeActive t) (FreeActive t) s.callers
     pub env : RestsEnv (FreeActive t) (FreeActive t) s.env
 
   abbrev pub NowStep : Step → Type 0
-  NowStep (Goes s) = NowState s
-  NowStep (Ticks s) = FreeState t s
+  NowStep (Goes s) = NowBy s
+  NowStep (Ticks s) = RestState t Q s
   NowStep (Asks (ask.Fault m) s) = RestsEnv (FreeActive t) (FreeActive t) s.env
   NowStep (Asks r s) = FreeState t s
+
+-- so it is, whatever is told of what is loaded
+abbrev pub nothing_told : Exec → Value → Type 0
+nothing_told n v = Unit {0}
+
+abbrev pub NowState : Table → (State → Type 0) → State → Type 0
+NowState t P s = NowBy t P nothing_told s

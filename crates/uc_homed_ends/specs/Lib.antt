@@ -3,3 +3,7 @@ pub mod EndLists
 pub mod EndWays
 pub mod EndLaws
 pub mod HomedEnds
+pub mod BoundHomes
+pub mod BoundLaws
+pub mod Ended
+pub mod Found

@@ -1,6 +1,9 @@
 // The laws: each is a function whose contract is the law.
 
+ghost use Rattle.uc_homed_ends.specs.BoundLaws.{LawBoundSteps, LawOpens, LawSet};
+ghost use Rattle.uc_homed_ends.specs.Ended.{LawEnded};
 ghost use Rattle.uc_homed_ends.specs.EndLaws.{LawCode, LawWays};
+ghost use Rattle.uc_homed_ends.specs.Found.{LawFound};
 ghost use Rattle.uc_homed_ends.specs.HomedEnds.{LawFair, LawReads};
 
 /// In the source of every program that breaks no rule mutex objects are ended by clean-ups alone.
@@ -22,4 +25,35 @@ pub fn law_reads()
 /// So of homes nothing is left to find for marks that are put but where fields and elements end.
 pub fn law_fair()
     ensures { LawFair }
+{}
+
+/// A variable that is a mutex object holds a number until it is bound, and from then on, up to its scope,
+/// the object that is at home there: of a task as it begins, and each step that finds what it is to find,
+/// and each answer, keep that.
+pub fn law_bound_steps()
+    ensures { LawBoundSteps }
+{}
+
+/// So in each run of a program of the grammar that breaks no rule and is within its limits, as long as all
+/// that was asked fits, the object is at home at the variable where its scope opens, by the homes that the
+/// run tells in the end.
+pub fn law_set()
+    ensures { LawSet }
+{}
+
+/// So each scope opens where the mutex objects that it is of are at home, as long as those of objects and
+/// of arrays do.
+pub fn law_opens()
+    ensures { LawOpens }
+{}
+
+/// What is entered to be destroyed is not gone, where it was not as it was loaded for that.
+pub fn law_ended()
+    ensures { LawEnded }
+{}
+
+/// So of homes nothing is left to find for marks that are put but what objects and arrays hold as their
+/// scopes open, and what fields and elements hold as they end: in each such run, and in what is asked next.
+pub fn law_found()
+    ensures { LawFound }
 {}

@@ -1,5 +1,5 @@
--- What a step asks: a call is that of the member at the head, an event is raised at the newest operand.
-use Rattle.std.proofs.Common.{◌≡◌, ℕ, zero, suc, Bool, true, false, List, [], ◌∷◌, length, drop, Option, Some, None, refl, subst}
+-- What a step asks: a call is that of the member at the head, what goes is the object at hand, an event is raised at the newest operand.
+use Rattle.std.proofs.Common.{◌≡◌, ℕ, zero, suc, inl, inr, Bool, true, false, List, [], ◌∷◌, length, drop, Option, Some, None, refl, subst}
 use Rattle.std.specs.Prelude.{nat_eq, nat_lt, slice_get}
 use Rattle.uc_tree.specs.declared.limits.TheConstants.{CALLS, PENDING_EVENTS}
 use Rattle.uc_tree.specs.Source as src
@@ -29,7 +29,7 @@ module _ (source : Source) (s : State) where
   abbrev AskStep : Step → Type 0
   AskStep (Goes u) = Unit {0}
   AskStep (Ticks u) = Unit {0}
-  AskStep (Asks r u) = AskedAt r s
+  AskStep (Asks r u) = AskedAt r s u
 
   -- the end of an activation
 
@@ -335,8 +335,8 @@ module _ (source : Source) (s : State) where
   acts (piece.BindMadeNow k r) todo z = bind (slice_get source.routines r) todo
   acts piece.MadeNow todo z = unless (monitors.this_object s) _ todo tt
   acts (piece.SpawnNow r) todo z = unless (monitors.this_object s) _ (piece.ChildNow r ∷ todo) tt
-  acts piece.GoneNow todo z = tt
-  acts piece.GiveUpNow todo z = tt
+  acts piece.GoneNow todo z = record { object = refl; todo = todo; lets_go = inl z; run = refl; callers = refl; exec = refl; own = refl; house = refl; hand = refl }
+  acts piece.GiveUpNow todo z = record { object = refl; todo = todo; lets_go = inr z; run = refl; callers = refl; exec = refl; own = refl; house = refl; hand = refl }
   acts (piece.ConditionNow k m) todo z = condition k _ todo
   acts piece.WaitNow todo z = unless (monitors.this_object s) _ todo tt
   acts piece.SignalBlockNow todo z = unless (monitors.this_object s) _ todo tt

@@ -6,14 +6,16 @@ use Rattle.uc_tree.specs.Source as src
 use Rattle.uc_tree.specs.Source.{Purpose, Routine, Source}
 use Rattle.uc_entry.specs.declared.entry.Options.{Options}
 use Rattle.uc_entry.specs.declared.request.Asked.{Asked}
-use Rattle.uc_acts.specs.Journal.{Journal, own_object}
+use Rattle.uc_acts.specs.Journal.{Journal, own_object, is_over}
+use Rattle.uc_acts.specs.Serves.{left}
 use Rattle.uc_acts.specs.KernelRuns.{InRange}
 use Rattle.uc_machine.specs.declared.exec.Exec.{Exec}
 use Rattle.uc_machine.specs.declared.exec.Owner.TheVariants.{Frame, Fields}
 use Rattle.uc_machine.specs.Pieces as piece
 use Rattle.uc_machine.specs.Pieces.{Value, Number, Place, Running, Object, Nothing, Todo, State, top, below}
+use Rattle.uc_machine.specs.Answering.{answered}
 use Rattle.uc_machine.specs.Rides.{Rides, slices, goes_on, ticks, asks}
-use Rattle.uc_meaning.specs.Runs.{World, Runs, gives, no_room, acts, begun, more}
+use Rattle.uc_meaning.specs.Runs.{World, Runs, AsksIn, drawn, gives, no_room, acts, begun, more}
 use Rattle.uc_resolve.specs.Resolve.{source_of}
 use Rattle.uc_rules.specs.Breaks.{breaks_of}
 use Rattle.uc_sound.specs.SoundFormed.{IsFormed}
@@ -162,15 +164,19 @@ module _ (p : Program) (formed : IsFormed p) (ok : breaks_of p ≡ []) where
   found own s v = (state_finds (main_part_of p) (source_of p) own s v, state_calls (main_part_of p) (source_of p) (law_no_mains p formed ok).mains own s v)
 
   module _ (input : List ℕ) (opts : Options) (range : InRange opts) where
+    -- on the way to what is asked next
+    pub ride_found : {j : Journal} {w : World} (r : Runs (source_of p) input opts j w) → RunFits (source_of p) input opts j w r → RunAlone (source_of p) input opts j w r → is_over j ≡ false → (q t n : ℕ) (s : State) (asked : Asked) (d : AsksIn (source_of p) opts j w q t n s asked) → RideMeets (λ v. FindsAll (source_of p) v × CallsNoMain (source_of p) v) (source_of p) (answered (source_of p) d.given (drawn j w t)) (left opts j t) s n asked d.rides
+    ride_found {j} {w} r f g on q t n s asked d =
+        let rests = run_rests (source_of p) input opts range r f on in
+        let deeps = deep_run (source_of p) input opts range r f on in
+        let x = both_run (main_part_of p) (source_of p) entered inner law_steps law_free law_drawn input opts range r f g on in
+        ride_map (Standing (own_object t j)) Found (found (own_object t j)) d.rides (ride_stands (own_object t j) d.rides (standing_start (main_part_of p) (source_of p) inner entered.ends input opts range rests on deeps x.standing q t n s asked d))
+
     run_found : {j : Journal} {w : World} (r : Runs (source_of p) input opts j w) → RunFits (source_of p) input opts j w r → RunAlone (source_of p) input opts j w r → RunMeets Found (source_of p) input opts j w r
     run_found begun f g = tt
     run_found (more r o (gives q t s le)) f g = (run_found r f.0 g.0, tt)
     run_found (more r o (no_room q t s le)) f g = (run_found r f.0 g.0, tt)
-    run_found (more {j} {w} r o (acts q t n s asked d)) f g =
-        let rests = run_rests (source_of p) input opts range r f.0 o in
-        let deeps = deep_run (source_of p) input opts range r f.0 o in
-        let x = both_run (main_part_of p) (source_of p) entered inner law_steps law_free law_drawn input opts range r f.0 g.0 o in
-        (run_found r f.0 g.0, ride_map (Standing (own_object t j)) Found (found (own_object t j)) d.rides (ride_stands (own_object t j) d.rides (standing_start (main_part_of p) (source_of p) inner entered.ends input opts range rests o deeps x.standing q t n s asked d)))
+    run_found (more r o (acts q t n s asked d)) f g = (run_found r f.0 g.0, ride_found r f.0 g.0 o q t n s asked d)
 
 pub law_finding : LawFinding
 law_finding = record {

@@ -2,50 +2,79 @@
 use Rattle.std.proofs.Common.{◌≡◌, ℕ, ℤ, ◌⊎◌, inl, inr, ◌++◌, Bool, true, false, List, [], ◌∷◌, refl, sym, subst}
 use Rattle.uc_tree.specs.Programs.{Program}
 use Rattle.uc_tree.specs.Source.{Source}
+use Rattle.uc_entry.specs.declared.entry.Entry.{Entry}
 use Rattle.uc_entry.specs.declared.entry.Options.{Options}
 use Rattle.uc_entry.specs.declared.request.Asked.{Asked}
 use Rattle.uc_entry.specs.declared.request.Request.{Request}
 use Rattle.uc_entry.specs.declared.request.Request.TheVariants as ask
 use Rattle.uc_acts.specs.Journal.{Journal, is_over}
 use Rattle.uc_acts.specs.Known.{is_gone}
-use Rattle.uc_acts.specs.Acts.{act}
 use Rattle.uc_acts.specs.KernelRuns.{InRange}
 use Rattle.uc_acts.specs.Serves.{left}
-use Rattle.uc_machine.specs.Pieces.{Todo, EnterNow}
+use Rattle.uc_machine.specs.declared.exec.Exec.{Exec}
+use Rattle.uc_machine.specs.Pieces.{Value, Todo, EnterNow, Active}
 use Rattle.uc_machine.specs.Quiet.{State, Goes, Ticks, Asks, quiet}
 use Rattle.uc_machine.specs.Rides as rides
 use Rattle.uc_machine.specs.Rides.{Rides}
 use Rattle.uc_machine.specs.Answering.{answered}
-use Rattle.uc_meaning.specs.Runs.{World, Runs, AsksIn, drawn, world_after, acts, more}
+use Rattle.uc_meaning.specs.Runs.{World, May, Runs, AsksIn, drawn, more}
 use Rattle.uc_resolve.specs.Resolve.{source_of}
 use Rattle.uc_rules.specs.Breaks.{breaks_of}
 use Rattle.uc_sound.specs.SoundFormed.{IsFormed}
 use Rattle.uc_sound.specs.Tables.{table_of}
+use Rattle.uc_sound.proofs.SoundLemmas.{law_sound}
 use Rattle.uc_state_laws.specs.Fitting.{RunFits}
+use Rattle.uc_state_laws.specs.Limits.{IsWithinLimits}
 use Rattle.uc_state_laws.specs.RoomRuns as rooms
 use Rattle.uc_state_laws.specs.RoomRuns.{Leads, Comes}
+use Rattle.uc_state_laws.specs.Endings.{RideHolds}
 use Rattle.uc_state_laws.specs.Opens.{RideMeets, RunMeets, LeadsMeet}
+use Rattle.uc_typing.specs.Typing.{Ty}
+use Rattle.uc_typing.specs.States.{Sound}
+use Rattle.uc_life_laws.specs.Things.{Few, Base}
+use Rattle.uc_life_laws.specs.LifeStates.{LifeState}
 use Rattle.uc_life_laws.specs.Knowing.{KnowsState}
-use Rattle.uc_life_laws.specs.KnownRuns.{Meets, NamesMade}
-use Rattle.uc_life_laws.specs.Endings.{AllIsMet}
-use Rattle.uc_life_laws.proofs.KnownWorlds.{law_named, law_known_runs}
-use Rattle.uc_life_laws.proofs.NamedAsks.{asked_by}
-use Rattle.uc_life_laws.proofs.Endings.{made_endings, law_endings}
+use Rattle.uc_life_laws.specs.KnownAnswers.{MainPasses}
+use Rattle.uc_life_laws.specs.KnownRuns.{PassesBelow, Meets, NamesMade}
+use Rattle.uc_life_laws.specs.Belonging.{Belongs}
+use Rattle.uc_life_laws.specs.Endings.{RawsPass, MeetsOutside}
+use Rattle.uc_life_laws.specs.Rooted.{IsPlace}
+use Rattle.uc_life_laws.proofs.KnownWorlds.{law_known_runs}
 use Rattle.uc_life_laws.specs.Lasting.{lasting, RunForgets}
 use Rattle.uc_life_laws.proofs.Called.{law_called}
 use Rattle.uc_life_laws.proofs.Lasting.{law_raised}
-use Rattle.uc_apart_laws.proofs.Before.{law_before}
+use Rattle.uc_putting_laws.specs.PuttingLaws.{special_of, setting_of, Fair}
+use Rattle.uc_homed_ends.proofs.Found.{law_found}
 use Rattle.uc_tasked_laws.specs.SeatedStates as seated
-use Rattle.uc_tasked_laws.specs.TaskedRuns.{told_by}
-use Rattle.uc_letting_laws.specs.AloneRuns.{RunAlone}
+use Rattle.uc_tasked_laws.specs.TaskedRuns.{told_by, RunFair}
 use Rattle.uc_request_laws.specs.ApartRuns.{StepApart}
 use Rattle.uc_request_laws.specs.Lasting.{IsLasting}
 use Rattle.uc_request_laws.proofs.ApartLemmas.{law_apart_runs}
-use Rattle.uc_request_laws.proofs.LastingLemmas.{law_lasting}
+use Rattle.uc_request_laws.proofs.LastingLemmas.{names_made, law_lasting}
 use Rattle.uc_owner_laws.proofs.OwnerRuns.{law_owner_runs}
+use Rattle.uc_putting_laws.proofs.PuttingRuns.{law_runs as law_puts}
+use Rattle.uc_running_laws.proofs.RunningLemmas.{run_leaves}
+use Rattle.uc_rooted_runs.specs.UnmarkedRuns.{RunLeft}
+use Rattle.uc_rooted_runs.proofs.UnmarkedRuns.{law_unmarked_runs}
+use Rattle.uc_making_laws.proofs.NoOthers.{law_no_others}
+use Rattle.uc_homed_ends.specs.Ended.{Loads}
+use Rattle.uc_homed_ends.proofs.Ended.{law_ended}
+use Rattle.uc_making_laws.specs.BeforeRides.{RaisesUpwards, RaisesUpwardsBy}
+use Rattle.uc_making_laws.specs.ForgetsThis.{RunGoes, IsLeftNowhere}
+use Rattle.uc_lasting_programs.specs.Forgetting.{IsLeftOf}
 use Rattle.uc_lasting_programs.specs.LastingPrograms.{IsLeftFor, LawLastingPrograms}
+use Rattle.uc_lasting_programs.specs.Meeting.{RunHoldsAt}
+use Rattle.uc_lasting_programs.specs.Telling.{few_of, IsTelling}
+use Rattle.uc_lasting_programs.specs.Ways.{RunKeepsTo}
 use Rattle.uc_lasting_programs.proofs.Asking.{law_asked_at}
 use Rattle.uc_lasting_programs.proofs.Forgetting.{law_forgets_programs}
+use Rattle.uc_lasting_programs.proofs.Telling.{law_telling}
+use Rattle.uc_lasting_programs.proofs.Sparing.{run_spares}
+use Rattle.uc_lasting_programs.proofs.Ways.{law_ways}
+use Rattle.uc_lasting_programs.proofs.Meeting.{tells_made, ride_outside, run_outside, HasMet, ride_lasts, ride_lives, ride_all, run_met, ride_known, run_known}
+use Rattle.uc_lasting_programs.proofs.Numbers.{passes}
+use Rattle.uc_lasting_programs.proofs.Remaining.{ride_remains, run_remains}
+use Rattle.uc_lasting_programs.proofs.Seating.{ride_fair, run_fair}
 
 -- what holds at the states of a ride in two ways, and on the way to one
 
@@ -85,48 +114,120 @@ module _ (P : State → Type 0) (source : Source) where
   asks_at (rides.ticks e r) m = ticks_at e m.0 (asks_at r m.1)
   asks_at (rides.asks {s} {t} e) m = inr (record { state = s; leads = rooms.stays; meets = tt; here = m; asks = e })
 
-module _ (p : Program) (formed : IsFormed p) (ok : breaks_of p ≡ []) (input : List ℕ) (opts : Options) (range : InRange opts) (j : Journal) (w : World) (r : Runs (source_of p) input opts j w) (f : RunFits (source_of p) input opts j w r) (on : is_over j ≡ false) (q t n : ℕ) (s : State) (asked : Asked) (d : AsksIn (source_of p) opts j w q t n s asked) (x : IsLeftFor p input opts j w r q t n s asked d) where
+-- of runs on the ways of which nobody else has at hand what is let go of
+
+module _ (p : Program) (formed : IsFormed p) (ok : breaks_of p ≡ []) (few : Few) (own : Exec → Value → Ty → Bool) (yet : Exec → List Active → Value → Ty → Bool) (main : MainPasses (table_of p) few ((table_of p).routine (source_of p).main).this 0) (places : (n : Exec) (w : Value) (b : Ty) → Base few n w b → IsPlace w) (zero : (n : Exec) → Belongs few n (few.home 0) → ⊥) (input : List ℕ) (opts : Options) (range : InRange opts) where
+  abbrev Left : (j : Journal) (w : World) → Runs (source_of p) input opts j w → Type 0
+  Left j w r = RunKeepsTo (table_of p) few own yet (source_of p) (special_of p) input opts r × IsLeftOf p few input opts j w r
+
+  shorter : (j : Journal) (w : World) (a : List Entry) (v : World) (r : Runs (source_of p) input opts j w) (on : is_over j ≡ false) (m : May (source_of p) opts input j w a v) → Left (j ++ a) v (more r on m) → Left j w r
+  shorter j w a v r on m x = (x.0.0, record { reads = x.1.reads.0; fair = x.1.fair.0; let_go = x.1.let_go.0 })
+
+  apart_so : (j : Journal) (w : World) (r : Runs (source_of p) input opts j w) → RunFits (source_of p) input opts j w r → is_over j ≡ false → PassesBelow few opts j → RunMeets (Meets (table_of p) few) (source_of p) input opts j w r → Left j w r → RunMeets (StepApart (table_of p) few (source_of p)) (source_of p) input opts j w r × RunGoes (IsLeftNowhere (table_of p) few) (source_of p) input opts r
+  apart_so j w r f on below met x = law_ways.runs p formed ok few own yet places zero input opts range j w r f on below main met x.1.fair x.1.reads x.0
+
+  forgotten : (j : Journal) (w : World) (r : Runs (source_of p) input opts j w) → RunFits (source_of p) input opts j w r → is_over j ≡ false → PassesBelow few opts j → RunMeets (Meets (table_of p) few) (source_of p) input opts j w r → Left j w r → RunForgets (table_of p) few (source_of p) input opts j w r
+  forgotten j w r f on below met x =
+      let so = apart_so j w r f on below met x in
+      law_forgets_programs p formed ok few places zero input opts range j w r f on (law_apart_runs.runs p formed ok few input opts range j w r f below main met so.0) below main met so.1 x.1
+
+module _ (p : Program) (formed : IsFormed p) (ok : breaks_of p ≡ []) (within : IsWithinLimits p) (input : List ℕ) (opts : Options) (range : InRange opts) (j : Journal) (w : World) (r : Runs (source_of p) input opts j w) (f : RunFits (source_of p) input opts j w r) (on : is_over j ≡ false) (q t n : ℕ) (s : State) (asked : Asked) (d : AsksIn (source_of p) opts j w q t n s asked) (x : IsLeftFor p input opts j w r q t n s asked d) where
   abbrev source : Source
   source = source_of p
 
   abbrev start : State
   start = answered source d.given (drawn j w t)
 
+  abbrev few : Few
+  few = few_of p input opts j w r x.base
+
+  -- homes are those that the run tells, so of marks nothing is left to find but what is asked
+  left_of : IsLeftOf p few input opts j w r
+  left_of = record { reads = x.reads; fair = law_found.runs p formed ok within x.owns few input opts range j w r f (λ o. refl) x.opens x.rest; let_go = x.let_go }
+
+  fair_now : RideMeets (Fair (setting_of p few)) source start (left opts j t) s n asked d.rides
+  fair_now = law_found.rides p formed ok within x.owns few input opts range j w r f (λ o. refl) x.opens on q t n s asked d x.opens_now x.rest_now
+
+  tells : IsTelling p few opts j
+  tells = law_telling p formed ok input opts j w r x.base
+
+  -- numbers of what is not gone
+  raws_last : (i : Journal) → RawsPass (lasting few i)
+  raws_last i = λ c o h. tells.raws c o (passes (table_of p) few.numbers few.home few.base i c o h)
+
+  met_so_far : RunHoldsAt (λ i. MeetsOutside (table_of p) (lasting few i)) source input opts j w r
+  met_so_far = run_remains (table_of p) (λ i. lasting few i) raws_last source input opts r x.met
+
+  met_next : RideHolds (MeetsOutside (table_of p) (lasting few j)) source 0 start (left opts j t) s n asked d.rides
+  met_next = ride_remains (table_of p) (lasting few j) (raws_last j) source 0 d.rides x.met_now
+
+  so : HasMet p formed ok few.numbers few.home few.base input opts j w r
+  so =
+      run_met p formed ok few.numbers few.home few.base tells.raws tells.main input opts range (λ j w r. Left p formed ok few x.own x.yet tells.main tells.places tells.nobodys input opts range j w r) (λ j w a v r on m l. shorter p formed ok few x.own x.yet tells.main tells.places tells.nobodys input opts range j w a v r on m l) (λ j w r f on below so l. forgotten p formed ok few x.own x.yet tells.main tells.places tells.nobodys input opts range j w r f on below so.all l) r f tells.below met_so_far (x.ways, left_of)
+
+  forgets : RunForgets (table_of p) few source input opts j w r
+  forgets = forgotten p formed ok few x.own x.yet tells.main tells.places tells.nobodys input opts range j w r f on tells.below so.all (x.ways, left_of)
+
+  lasts_now : RideMeets (Meets (table_of p) (lasting few j)) source start (left opts j t) s n asked d.rides
+  lasts_now = ride_lasts p formed ok few.numbers few.home few.base tells.raws tells.main input opts range j w r f on tells.below forgets so q t n s asked d met_next
+
+  met_now : RideMeets (Meets (table_of p) few) source start (left opts j t) s n asked d.rides
+  met_now = ride_all p formed ok few.numbers few.home few.base tells.raws tells.main input opts range j w r f on tells.below forgets so q t n s asked d met_next
+
+  -- where an event is raised what executions have of others stands upwards
+  abbrev Upwards : State → Type 0
+  Upwards v = RaisesUpwards (table_of p) few x.own x.yet x.way_now.births.makers.rank j w t v
+
+  on_way : RideMeets (StepApart (table_of p) few source) source start (left opts j t) s n asked d.rides × RideMeets Upwards source start (left opts j t) s n asked d.rides
+  on_way = law_ways.rides p formed ok few x.own x.yet tells.places tells.nobodys input opts range j w r f on tells.below tells.main so.all left_of.fair x.reads x.ways q t n s asked d met_now fair_now x.reads_now x.way_now
+
   -- nobody else has at hand what is let go of, so far and in this ride
-  apart : RunMeets (StepApart (table_of p) x.few source) source input opts j w r × RideMeets (StepApart (table_of p) x.few source) source start (left opts j t) s n asked d.rides
-  apart =
-      let both = law_before (table_of p) x.few source x.places input opts (j ++ act opts source.sites input j q t n asked) (world_after source (act opts source.sites input j q t n asked) w t s) (more r on (acts q t n s asked d)) (x.before, x.before_now) in
-      (both.0, both.1)
+  apart : RunMeets (StepApart (table_of p) few source) source input opts j w r × RideMeets (StepApart (table_of p) few source) source start (left opts j t) s n asked d.rides
+  apart = (
+    (apart_so p formed ok few x.own x.yet tells.main tells.places tells.nobodys input opts range j w r f on tells.below so.all (x.ways, left_of)).0,
+    on_way.0,
+  )
 
-  met : AllIsMet (table_of p) x.few source input opts j w r
-  met = law_endings.tested p formed ok x.few x.raws input opts range j w r f on x.below x.main x.met
+  sound : Sound (table_of p) source
+  sound = law_sound p formed ok
 
-  alone : RunAlone source input opts j w r
-  alone = law_apart_runs.runs p formed ok x.few input opts range j w r f x.below x.main met.runs apart.0
+  seats : RunFair p few.home source input opts j w r
+  seats = run_fair p (table_of p) few source sound few.home input opts r x.seats (run_known p formed ok few.numbers few.home few.base tells.raws tells.main input opts range r f tells.below so.all)
 
-  forgets : RunForgets (table_of p) x.few source input opts j w r
-  forgets = law_forgets_programs p formed ok x.few x.own x.yet x.places input opts range j w r f on alone x.forgets
-
-  made : NamesMade opts j asked.request
-  made =
-      let m = made_endings p formed ok input opts range j w r f on x.made in
-      asked_by law_named p formed ok input opts range j w r f on m.runs q t n s asked d (m.rides q t n s asked d x.made_now)
+  seats_now : RideMeets (seated.Fair p source (told_by few.home j)) source start (left opts j t) s n asked d.rides
+  seats_now =
+      ride_fair p (table_of p) few source sound (told_by few.home j) d.rides x.seats_now (ride_known p formed ok few.numbers few.home few.base tells.raws tells.main input opts range j w r f on tells.below so.all q t n s asked d met_now)
 
   abbrev Lasts : State → Type 0
-  Lasts v = Meets (table_of p) (lasting x.few j) v
+  Lasts v = Meets (table_of p) (lasting few j) v
 
   abbrev Seats : State → Type 0
-  Seats v = seated.Fair p source (told_by x.few.home j) v
+  Seats v = seated.Fair p source (told_by few.home j) v
 
   abbrev Known : State → Type 0
-  Known v = Meets (table_of p) x.few v
+  Known v = Meets (table_of p) few v
+
+  -- objects are at home where they are bound and loaded, what is loaded elsewhere is not gone, what is in scope holds what is not, and what
+  -- executions have of others stands upwards where an event is raised
+  abbrev Ends : State → Type 0
+  Ends v = Fair (setting_of p few) v × (Loads j v × (LifeState (table_of p) (lasting few j) v × Upwards v))
 
   abbrev All : State → Type 0
-  All v = Lasts v × (Seats v × Known v)
+  All v = Lasts v × (Seats v × (Known v × Ends v))
+
+  ends_now : RideMeets Ends source start (left opts j t) s n asked d.rides
+  ends_now =
+      ride_both (Fair (setting_of p few)) (λ v. Loads j v × (LifeState (table_of p) (lasting few j) v × Upwards v)) source d.rides fair_now (ride_both (Loads j) (λ v. LifeState (table_of p) (lasting few j) v × Upwards v) source d.rides x.loads_now (ride_both (LifeState (table_of p) (lasting few j)) Upwards source d.rides (ride_lives p formed ok few.numbers few.home few.base tells.raws tells.main input opts range j w r f on tells.below forgets so q t n s asked d met_next) on_way.1))
 
   all_meet : RideMeets All source start (left opts j t) s n asked d.rides
   all_meet =
-      ride_both Lasts (λ v. Seats v × Known v) source d.rides x.lasts_now (ride_both Seats Known source d.rides x.seats_now (met.rides q t n s asked d x.met_now))
+      ride_both Lasts (λ v. Seats v × (Known v × Ends v)) source d.rides lasts_now (ride_both Seats (λ v. Known v × Ends v) source d.rides seats_now (ride_both Known Ends source d.rides met_now ends_now))
+
+  -- what goes is at home in what is the own of who lets go of it
+  left_behind : RunLeft (table_of p) few source input opts j w r
+  left_behind =
+      let alone = law_apart_runs.runs p formed ok few input opts range j w r f tells.below tells.main so.all apart.0 in
+      law_unmarked_runs (table_of p) few source input opts j w r range f on (run_leaves p formed ok input opts range r f alone) (run_spares p formed ok few input opts range r f alone left_of.fair x.reads) (law_puts.runs p formed ok few input opts range j w r f left_of.fair)
 
   module _ (a : AsksAt All source start asked.request s) where
     abbrev comes : Comes source j w t a.state
@@ -138,26 +239,43 @@ module _ (p : Program) (formed : IsFormed p) (ok : breaks_of p ≡ []) (input : 
     seats_there : LeadsMeet Seats source start a.state a.leads
     seats_there = leads_map All Seats source (λ v h. h.1.0) a.leads a.meets
 
-    known_there : KnowsState (table_of p) x.few [] a.state
-    known_there =
-        (law_known_runs p formed ok x.few input opts range j w r f on x.below x.main met.runs).comes t a.state comes (leads_map All Known source (λ v h. h.1.1) a.leads a.meets)
+    meets_there : LeadsMeet Known source start a.state a.leads
+    meets_there = leads_map All Known source (λ v h. h.1.1.0) a.leads a.meets
 
-    -- a call of what is no destructor is of what is not gone
+    fair_there : LeadsMeet (Fair (setting_of p few)) source start a.state a.leads
+    fair_there = leads_map All (Fair (setting_of p few)) source (λ v h. h.1.1.1.0) a.leads a.meets
+
+    loads_there : LeadsMeet (Loads j) source start a.state a.leads
+    loads_there = leads_map All (Loads j) source (λ v h. h.1.1.1.1.0) a.leads a.meets
+
+    lives_there : LeadsMeet (LifeState (table_of p) (lasting few j)) source start a.state a.leads
+    lives_there = leads_map All (LifeState (table_of p) (lasting few j)) source (λ v h. h.1.1.1.1.1.0) a.leads a.meets
+
+    known_there : KnowsState (table_of p) few [] a.state
+    known_there = (law_known_runs p formed ok few input opts range j w r f on tells.below tells.main so.all).comes t a.state comes meets_there
+
+    made : NamesMade opts j asked.request
+    made =
+        names_made (table_of p) few opts j (tells_made p input opts j w r x.base) asked.request ((law_known_runs p formed ok few input opts range j w r f on tells.below tells.main so.all).names t a.state comes meets_there a.here.1.1.0 asked.request s a.asks)
+
+    -- a call is of what is not gone: what is entered to be destroyed was loaded for that
     calls : (o m : ℕ) → quiet source a.state ≡ Asks (ask.Call o m) s → is_gone o j ≡ false
     calls o m e =
         let c = law_asked_at source a.state (ask.Call o m) s e in
         by c.0 c.1 c.2 c.3 ((table_of p).routine c.1).whole refl
       where
         by : (k i : ℕ) (todo : List Todo) → a.state.run.control ≡ EnterNow k i ∷ todo → (b : Bool) → ((table_of p).routine i).whole ≡ b → is_gone o j ≡ false
-        by k i todo z true h = x.ended a.state o m k i todo e z h
-        by k i todo z false h = law_called p formed ok x.few input opts range j w r f on x.below x.main x.lasts forgets t a.state comes lasts_there k i todo z h o m s e
+        by k i todo z true h =
+            law_ended p formed ok few input opts range j w r f on left_behind left_of.fair x.loads so.lives t a.state comes fair_there loads_there lives_there k i todo z h o m s e
+        by k i todo z false h = law_called p formed ok few input opts range j w r f on tells.below tells.main so.lasts forgets t a.state comes lasts_there k i todo z h o m s e
 
     raises : (o event : ℕ) (y z : ℤ) → quiet source a.state ≡ Asks (ask.Raise o event y z) s → NamesMade opts j (ask.Raise o event y z) → IsLasting j (ask.Raise o event y z)
     raises o event y z e m =
         let c = law_asked_at source a.state (ask.Raise o event y z) s e in
-        let there = law_raised p formed ok x.few input opts range j w r f on x.below x.main x.lasts forgets t a.state comes lasts_there a.here.0 o event y z s e in
+        let there = law_raised p formed ok few input opts range j w r f on tells.below tells.main so.lasts forgets t a.state comes lasts_there a.here.0 o event y z s e in
         let g = x.raised a.state o event y z e in
-        (there, law_owner_runs p formed ok x.few x.places input opts range j w r f on x.seats x.made_apart t a.state comes seats_there g.own g.rank g.beside known_there c.0 c.1 o c.2 (g.apart known_there) m there)
+        let up = subst (RaisesUpwardsBy (table_of p) few x.own x.yet x.way_now.births.makers.rank j w t a.state) c.1 a.here.1.1.1.1.1.1 in
+        (there, λ none. law_owner_runs p formed ok few tells.places input opts range j w r f on seats x.made_apart t a.state comes seats_there x.own x.yet x.way_now.births.makers.rank g.beside up known_there c.0 c.1 o c.2 (law_no_others.making (table_of p) few o known_there.sigs (a.state.run ∷ a.state.callers) (g.apart none)) m there none)
 
     last : (q : Request) → quiet source a.state ≡ Asks q s → NamesMade opts j q → IsLasting j q
     last (ask.Call o m) e h = calls o m e
@@ -169,11 +287,25 @@ module _ (p : Program) (formed : IsFormed p) (ok : breaks_of p ≡ []) (input : 
     where
       by : (asked.request ≡ ask.Slice) ⊎ AsksAt All source start asked.request s → IsLasting j asked.request
       by (inl e) = subst (IsLasting j) (sym e) tt
-      by (inr a) = last a asked.request a.asks made
+      by (inr a) = last a asked.request a.asks (made a)
 
 pub law_lasting_programs : LawLastingPrograms
-law_lasting_programs p formed ok input opts range h =
+law_lasting_programs p formed ok within input opts range h =
     law_lasting p formed ok input opts range (λ j w r f on q t n s asked d.
     let x = h j w r f on q t n s asked d in
-    let a = apart p formed ok input opts range j w r f on q t n s asked d x in
-    (lasts p formed ok input opts range j w r f on q t n s asked d x, x.made, x.made_now, record { few = x.few; raws = x.raws; below = x.below; main = x.main; met = x.met; meets = x.met_now; was_apart = a.0; apart = a.1 }))
+    let a = apart p formed ok within input opts range j w r f on q t n s asked d x in
+    let m = so p formed ok within input opts range j w r f on q t n s asked d x in
+    let l = law_telling p formed ok input opts j w r x.base in (
+      lasts p formed ok within input opts range j w r f on q t n s asked d x,
+      record {
+        few = few_of p input opts j w r x.base;
+        raws = l.raws;
+        below = l.below;
+        tells = tells_made p input opts j w r x.base;
+        main = l.main;
+        met = run_outside (table_of p) (few_of p input opts j w r x.base) (source_of p) r m.all;
+        meets = ride_outside (table_of p) (few_of p input opts j w r x.base) (source_of p) 0 d.rides (met_now p formed ok within input opts range j w r f on q t n s asked d x);
+        was_apart = a.0;
+        apart = a.1;
+      },
+    ))

@@ -1,4 +1,15 @@
 pub mod Asking
 pub mod Finding
+pub mod Wholes
+pub mod CallsStates
+pub mod CallsRuns
+pub mod Sparing
 pub mod Forgetting
+pub mod Behind
+pub mod Ways
+pub mod Telling
+pub mod Numbers
+pub mod Meeting
+pub mod Remaining
+pub mod Seating
 pub mod LastingPrograms

@@ -1,85 +1,92 @@
 -- All that is left to show of the runs of a program that breaks no rule, so that all that it asks fits.
-use Rattle.std.specs.Prelude.{◌≡◌, ℕ, ℤ, Bool, true, false, List, [], ◌∷◌}
+use Rattle.std.specs.Prelude.{◌≡◌, ℕ, ℤ, Bool, false, List, [], ◌∷◌}
 use Rattle.uc_tree.specs.Programs.{Program}
 use Rattle.uc_entry.specs.declared.entry.Options.{Options}
 use Rattle.uc_entry.specs.declared.request.Asked.{Asked}
 use Rattle.uc_entry.specs.declared.request.Request.TheVariants as ask
 use Rattle.uc_acts.specs.Journal.{Journal, is_over}
-use Rattle.uc_acts.specs.Known.{is_gone}
+use Rattle.uc_acts.specs.Known.{owner}
 use Rattle.uc_acts.specs.Serves.{left}
 use Rattle.uc_acts.specs.KernelRuns.{InRange}
 use Rattle.uc_machine.specs.declared.exec.Exec.{Exec}
-use Rattle.uc_machine.specs.Pieces.{Value, Object, Todo, EnterNow, Active, State}
+use Rattle.uc_machine.specs.Pieces.{Value, Active, State}
 use Rattle.uc_machine.specs.Quiet.{quiet, Asks}
 use Rattle.uc_machine.specs.Answering.{answered}
 use Rattle.uc_resolve.specs.Resolve.{source_of}
 use Rattle.uc_rules.specs.Breaks.{breaks_of}
 use Rattle.uc_sound.specs.SoundFormed.{IsFormed}
 use Rattle.uc_sound.specs.Tables.{table_of}
-use Rattle.uc_typing.specs.Typing.{Ty, Raw}
+use Rattle.uc_typing.specs.Typing.{Ty}
 use Rattle.uc_meaning.specs.Runs.{World, Runs, AsksIn, drawn}
 use Rattle.uc_meaning.specs.Cuts.{Reentry}
 use Rattle.uc_state_laws.specs.Fitting.{RunFits}
-use Rattle.uc_state_laws.specs.Endings.{RideHolds, RunHolds}
-use Rattle.uc_state_laws.specs.Opens.{RideMeets}
-use Rattle.uc_life_laws.specs.Things.{Few, Base}
-use Rattle.uc_life_laws.specs.Knowing.{InMaking, KnowsState}
-use Rattle.uc_life_laws.specs.KnownAnswers.{MainPasses}
-use Rattle.uc_life_laws.specs.KnownRuns.{PassesBelow, Meets, is_made}
-use Rattle.uc_life_laws.specs.Endings.{RawsPass, MeetsOutside}
+use Rattle.uc_state_laws.specs.Limits.{IsWithinLimits}
+use Rattle.uc_state_laws.specs.Endings.{RideHolds}
+use Rattle.uc_state_laws.specs.Opens.{RideMeets, RunMeets}
+use Rattle.uc_life_laws.specs.Things.{Few}
+use Rattle.uc_life_laws.specs.HomedStates.{Owns}
 use Rattle.uc_life_laws.specs.Lasting.{lasting, RunMeetsAt}
-use Rattle.uc_life_laws.specs.Rooted.{IsPlace}
-use Rattle.uc_apart_laws.specs.Before.{world_at, Before, RunBefore}
-use Rattle.uc_tasked_laws.specs.SeatedStates as seated
-use Rattle.uc_tasked_laws.specs.TaskedRuns.{told_by, RunFair, RunMakesApart}
+use Rattle.uc_apart_laws.specs.Before.{world_at}
+use Rattle.uc_making_laws.specs.ForgetsThis.{RunGoes, IsLetGo}
+use Rattle.uc_running_laws.specs.OtherNames.{ReadsOthers}
+use Rattle.uc_putting_laws.specs.PuttingLaws.{special_of, setting_of}
+use Rattle.uc_homed_ends.specs.HomedEnds.{Rest}
+use Rattle.uc_homed_ends.specs.BoundLaws.{OpensWhole}
+use Rattle.uc_tasked_laws.specs.TaskedRuns.{told_by, RunMakesApart}
 use Rattle.uc_owner_laws.specs.Owners.{OwnersBeside}
-use Rattle.uc_lasting_programs.specs.Forgetting.{IsLeftOf}
+use Rattle.uc_making_laws.specs.NoOthers.{NoThis}
+use Rattle.uc_homed_ends.specs.Ended.{Loads}
+use Rattle.uc_lasting_programs.specs.Meeting.{RunHoldsAt}
+use Rattle.uc_lasting_programs.specs.Remaining.{LeftOutside}
+use Rattle.uc_lasting_programs.specs.Seating.{Seats, RunSeats}
+use Rattle.uc_lasting_programs.specs.Telling.{few_of}
+use Rattle.uc_lasting_programs.specs.Ways.{IsKeptTo, RunKeepsTo}
 
--- in the state in which a task u raises an event at an object: in the world as it then stands what is left to show of tasks that are at hand; and
--- whoever raises it does not build or destroy the object
-pub record IsRaised (p : Program) (few : Few) (j : Journal) (w : World) (u : ℕ) (s : State) (o : ℕ) : Type 0 where
-  pub own : Exec → Value → Ty → Bool
-  pub rank : Exec → ℕ
-  pub beside : OwnersBeside p few j (world_at w u s) own rank
-  pub apart : (k : KnowsState (table_of p) few [] s) (i : ℕ) →
-      InMaking k.sigs (s.run ∷ s.callers) (Object o) (Raw i) → ⊥
+-- in the state in which a task u raises an event at an object: in the world as it then stands what is left to show of tasks that are in what executions
+-- have to clean up, or in their own objects; and one that is of no task yet is the object of no activation of who raises it, as it would be of what builds
+-- it
+pub record IsRaised (p : Program) (few : Few) (own : Exec → Value → Ty → Bool) (yet : Exec → List Active → Value → Ty → Bool) (j : Journal) (w : World) (u : ℕ) (s : State) (o : ℕ) : Type 0 where
+  pub beside : OwnersBeside p few j (world_at w u s) own yet
+  pub apart : owner o j ≡ [] → NoThis o (s.run ∷ s.callers)
 
--- of a run, and of what task t asks in it: by a test of numbers that all pass which have been made, homes, and bases that are places, and by the
--- numbers that have been made
+-- of a run, and of what task t asks in it, by what the run tells and by bases that are places
 pub record IsLeftFor (p : Program) (input : List ℕ) (opts : Options) (j : Journal) (w : World) (r : Runs (source_of p) input opts j w) (q t n : ℕ) (s : State) (asked : Asked) (d : AsksIn (source_of p) opts j w q t n s asked) : Type 0 where
-  pub few : Few
+  pub base : Exec → Value → Ty → Bool
   pub own : Exec → Value → Ty → Bool
   pub yet : Exec → List Active → Value → Ty → Bool
-  pub raws : RawsPass few
-  pub below : PassesBelow few opts j
-  pub main : MainPasses (table_of p) few ((table_of p).routine (source_of p).main).this 0
-  pub places : (n : Exec) (w : Value) (b : Ty) → Base few n w b → IsPlace w
-  -- each step finds what it is to find, but where a clean-up finds and reads the variable that it ends
-  pub made : RunHolds (MeetsOutside (table_of p) (is_made opts j)) (source_of p) input opts j w r
-  pub made_now : RideHolds (MeetsOutside (table_of p) (is_made opts j)) (source_of p) 0 (answered (source_of p) d.given (drawn j w t)) (left opts j t) s n asked d.rides
-  pub met : RunHolds (MeetsOutside (table_of p) few) (source_of p) input opts j w r
-  pub met_now : RideHolds (MeetsOutside (table_of p) few) (source_of p) 0 (answered (source_of p) d.given (drawn j w t)) (left opts j t) s n asked d.rides
-  -- so it does where what is gone has no number any more
-  pub lasts : RunMeetsAt (λ i v. Meets (table_of p) (lasting few i) v) (source_of p) input opts j w r
-  pub lasts_now : RideMeets (Meets (table_of p) (lasting few j)) (source_of p) (answered (source_of p) d.given (drawn j w t)) (left opts j t) s n asked d.rides
-  -- just before an object is let go of it is nowhere
-  pub before : RunBefore (table_of p) few (source_of p) input opts j w r
-  pub before_now : RideMeets (λ v. Before (table_of p) few j w t v (source_of p)) (source_of p) (answered (source_of p) d.given (drawn j w t)) (left opts j t) s n asked d.rides
-  -- what is left so that nobody has at hand what has gone
-  pub forgets : IsLeftOf p few own yet input opts j w r
+  -- each step finds what it is to find where what is gone has no number any more, but where a clean-up finds and reads the variable that it ends
+  pub met : RunHoldsAt (λ i. LeftOutside (table_of p) (lasting (few_of p input opts j w r base) i)) (source_of p) input opts j w r
+  pub met_now : RideHolds (LeftOutside (table_of p) (lasting (few_of p input opts j w r base) j)) (source_of p) 0 (answered (source_of p) d.given (drawn j w t)) (left opts j t) s n asked d.rides
+  -- what is left so that on the way to what is asked nobody else has at hand what is let go of, and what executions have of others stands upwards where
+  -- an event is raised
+  pub ways : RunKeepsTo (table_of p) (few_of p input opts j w r base) own yet (source_of p) (special_of p) input opts r
+  pub way_now : IsKeptTo (table_of p) (few_of p input opts j w r base) own yet (source_of p) (special_of p) input opts j w r q t n s asked d
+  pub reads_now : RideMeets (ReadsOthers (few_of p input opts j w r base)) (source_of p) (answered (source_of p) d.given (drawn j w t)) (left opts j t) s n asked d.rides
+  -- what is left so that nobody has at hand what has gone: no step reads the name of the running execution in what is not its own
+  pub reads : RunMeets (ReadsOthers (few_of p input opts j w r base)) (source_of p) input opts j w r
+  -- scopes of objects and of arrays open where mutex objects are at home in them, those of fields and elements are at home as they end, and handlers
+  -- of resumptions have their variables behind those in which fields stand that are still to be cleaned up
+  pub owns : Owns
+  pub opens : RunMeets (OpensWhole (table_of p) owns (few_of p input opts j w r base)) (source_of p) input opts j w r
+  pub opens_now : RideMeets (OpensWhole (table_of p) owns (few_of p input opts j w r base)) (source_of p) (answered (source_of p) d.given (drawn j w t)) (left opts j t) s n asked d.rides
+  pub rest : RunMeets (Rest (setting_of p (few_of p input opts j w r base))) (source_of p) input opts j w r
+  pub rest_now : RideMeets (Rest (setting_of p (few_of p input opts j w r base))) (source_of p) (answered (source_of p) d.given (drawn j w t)) (left opts j t) s n asked d.rides
+  -- and the task that acts builds and destroys no more what goes by that
+  pub let_go : RunGoes (IsLetGo (table_of p) (few_of p input opts j w r base)) (source_of p) input opts r
   -- tasks that are in scope have begun
-  pub seats : RunFair p few.home (source_of p) input opts j w r
-  pub seats_now : RideMeets (seated.Fair p (source_of p) (told_by few.home j)) (source_of p) (answered (source_of p) d.given (drawn j w t)) (left opts j t) s n asked d.rides
-  pub made_apart : RunMakesApart p few.home (source_of p) input opts j w r
-  -- where an event is raised, and where an object is entered to be destroyed
-  pub raised : (v : State) (o event : ℕ) (x y : ℤ) → quiet (source_of p) v ≡ Asks (ask.Raise o event x y) s → IsRaised p few j w t v o
-  pub ended : (v : State) (o m k i : ℕ) (todo : List Todo) → quiet (source_of p) v ≡ Asks (ask.Call o m) s →
-      v.run.control ≡ EnterNow k i ∷ todo → ((table_of p).routine i).whole ≡ true → is_gone o j ≡ false
+  pub seats : RunSeats p (few_of p input opts j w r base).home (source_of p) input opts j w r
+  pub seats_now : RideMeets (Seats p (source_of p) (told_by (few_of p input opts j w r base).home j)) (source_of p) (answered (source_of p) d.given (drawn j w t)) (left opts j t) s n asked d.rides
+  pub made_apart : RunMakesApart p (few_of p input opts j w r base).home (source_of p) input opts j w r
+  -- what is loaded from fields and elements to be destroyed is not gone
+  pub loads : RunMeetsAt Loads (source_of p) input opts j w r
+  pub loads_now : RideMeets (Loads j) (source_of p) (answered (source_of p) d.given (drawn j w t)) (left opts j t) s n asked d.rides
+  -- where an event is raised
+  pub raised : (v : State) (o event : ℕ) (x y : ℤ) → quiet (source_of p) v ≡ Asks (ask.Raise o event x y) s → IsRaised p (few_of p input opts j w r base) own yet j w t v o
 
--- then all that a program which breaks no rule asks fits, if that is so of each run in which all that was asked so far fits, and of what is asked next
+-- then all that a program which breaks no rule and is within its limits asks fits, if that is so of each run in which all that was asked so far fits, and of what is asked next
 abbrev pub LawLastingPrograms : Type 0
 LawLastingPrograms =
-    (p : Program) → IsFormed p → breaks_of p ≡ [] → (input : List ℕ) (opts : Options) → InRange opts →
+    (p : Program) → IsFormed p → breaks_of p ≡ [] → IsWithinLimits p → (input : List ℕ) (opts : Options) → InRange opts →
     ((j : Journal) (w : World) (r : Runs (source_of p) input opts j w) → RunFits (source_of p) input opts j w r →
     is_over j ≡ false → (q t n : ℕ) (s : State) (asked : Asked) (d : AsksIn (source_of p) opts j w q t n s asked) →
     IsLeftFor p input opts j w r q t n s asked d) → Reentry (source_of p) input opts

@@ -1,4 +1,10 @@
 pub mod Asking
 pub mod Finding
+pub mod CallsRuns
 pub mod Forgetting
+pub mod Ways
+pub mod Telling
+pub mod Meeting
+pub mod Remaining
+pub mod Seating
 pub mod LastingPrograms

@@ -8,8 +8,10 @@ use Rattle.uc_machine.specs.Pieces as piece
 use Rattle.uc_machine.specs.Pieces.{Value, Todo, Active, Env}
 use Rattle.uc_machine.specs.Quiet.{MOST_ELEMENTS}
 use Rattle.uc_life_laws.specs.Placed.{Placed, placed, stacked, Ends, behind}
+use Rattle.uc_life_laws.specs.Outermost.{outermost, outer_elements}
 use Rattle.uc_machine.specs.Insides as inside
 use Rattle.uc_life_laws.proofs.Cells.{either}
+use Rattle.uc_life_laws.proofs.Outermost.{more_placed, elements_ends, outermost_ends}
 use Rattle.uc_life_laws.specs.Destroying.{Seat}
 use Rattle.uc_life_laws.specs.Held.{Onwards, SoonIn, Soon}
 use Rattle.uc_life_laws.specs.Completing.{AreParts, Next, TakesOver, AreTaken, IsSetUp, LawCompleting}
@@ -21,13 +23,16 @@ module _ (source : Source) (w : Seat) (ps : List Placed) (n : Exec) where
   -- marks that are there behind what is waited for
   next_ends : (b : Active) (older : List Active) (todo : List Todo) (ss : Stmts) → Next source w ps n b older todo ss → Ends ps (placed b.frame b.this todo (stacked older))
   next_ends b older todo (src.Scoped c rest) h = h.1
-  next_ends b older todo (src.Built c rest) h = h.1
+  next_ends b older todo (src.Built c rest) h = more_placed ps b.frame b.this todo (stacked older) (outermost_ends ps older h.1)
   next_ends b older todo ss h = absurd h
+
+  elements : (b : Active) (older : List Active) (todo : List Todo) → Ends ps (outer_elements b.frame b.this todo (stacked older) (outermost older)) → Ends ps (placed b.frame b.this todo (stacked older))
+  elements b older todo h = elements_ends ps b.frame b.this (stacked older) (outermost older) (outermost_ends ps older) todo h
 
   -- the statements that are left
   next : (b : Active) (older : List Active) (todo : List Todo) (ss : Stmts) (vs : List Value) → Next source w ps n b older todo ss → SoonIn source w ps n 1 (record b { control = piece.Rest ss ∷ todo; operands = vs }) older
-  next b older todo (src.Scoped c rest) vs h = (tt, h.1, λ e q. (q, inl h))
-  next b older todo (src.Built c rest) vs h = (tt, h.1, λ e q. (q, inl h))
+  next b older todo (src.Scoped c rest) vs h = (tt, next_ends b older todo (src.Scoped c rest) h, λ e q. (q, inl h))
+  next b older todo (src.Built c rest) vs h = (tt, next_ends b older todo (src.Built c rest) h, λ e q. (q, inl h))
   next b older todo ss vs h = absurd h
 
   -- with any operands, one of which is dropped
@@ -42,8 +47,8 @@ module _ (source : Source) (w : Seat) (ps : List Placed) (n : Exec) where
       record { many = 3; ends = o; soon = λ vs. (tt, o, λ e q. (q, (tt, o, λ e q. (q, next b older todo ss (piece.below vs) h)))) }
   taken b older (piece.DropNow ∷ (piece.MoreNow ∷ (piece.FillNow m e d ∷ todo))) h = record {
     many = 2;
-    ends = h.2;
-    soon = λ vs. (tt, h.2, λ v q. (q, (tt, h.2, λ v q. (q, inl ((b.elements, one_more b.elements h.0, h.1), h.2)))));
+    ends = elements b older todo h.2;
+    soon = λ vs. (tt, elements b older todo h.2, λ v q. (q, (tt, elements b older todo h.2, λ v q. (q, inl ((b.elements, one_more b.elements h.0, h.1), h.2)))));
   }
   taken b older l h = absurd h
 
@@ -85,7 +90,7 @@ module _ (source : Source) (w : Seat) (ps : List Placed) (n : Exec) where
   parts a (b ∷ older) p h = left a b older (taken b older b.control h) a.control p
 
   begun : (a : Active) (cs : List Active) (l : List Todo) → IsSetUp source w ps n a cs l → SoonIn source w ps n 1 (record a { control = l }) cs
-  begun a cs (piece.Rest (src.Built src.Forgets rest) ∷ todo) h = (tt, h.1, λ e q. (q, inl h))
+  begun a cs (piece.Rest (src.Built src.Forgets rest) ∷ todo) h = (tt, more_placed ps a.frame a.this todo (stacked cs) (outermost_ends ps cs h.1), λ e q. (q, inl h))
   begun a cs l h = absurd h
 
 pub law_completing : LawCompleting

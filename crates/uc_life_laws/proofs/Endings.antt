@@ -211,30 +211,30 @@ module _ (t : Table) (few : Few) where
       expr OfProcessor = λ a y. tt
   finds (suc (suc (suc (suc n)))) s x h = absurd h
 
-  met : (n : ℕ) (s : State) → MeetsOutside t few n s → Ending n s → Meets t few s
+  pub met : (n : ℕ) (s : State) → MeetsOutside t few n s → Ending n s → Meets t few s
   met zero s m h = m
   met (suc n) s m h = λ st x. (opens n s h, (x, finds n s x h))
 
 -- on the way
 
 module _ (P : State → Type 0) (source : Source) where
-  goes_on : {s u v : State} → Leads source s u → quiet source u ≡ Goes v → Leads source s v
+  pub goes_on : {s u v : State} → Leads source s u → quiet source u ≡ Goes v → Leads source s v
   goes_on runs.stays q = runs.goes q runs.stays
   goes_on (runs.goes e l) q = runs.goes e (goes_on l q)
   goes_on (runs.ticks e l) q = runs.ticks e (goes_on l q)
 
-  ticks_on : {s u v : State} → Leads source s u → quiet source u ≡ Ticks v → Leads source s v
+  pub ticks_on : {s u v : State} → Leads source s u → quiet source u ≡ Ticks v → Leads source s v
   ticks_on runs.stays q = runs.ticks q runs.stays
   ticks_on (runs.goes e l) q = runs.goes e (ticks_on l q)
   ticks_on (runs.ticks e l) q = runs.ticks e (ticks_on l q)
 
-  goes_met : {s u v : State} (l : Leads source s u) (q : quiet source u ≡ Goes v) → LeadsMeet P source s u l → P u → LeadsMeet P source s v (goes_on l q)
+  pub goes_met : {s u v : State} (l : Leads source s u) (q : quiet source u ≡ Goes v) → LeadsMeet P source s u l → P u → LeadsMeet P source s v (goes_on l q)
   unfolding goes_on
   goes_met runs.stays q m h = (h, tt)
   goes_met (runs.goes e l) q m h = (m.0, goes_met l q m.1 h)
   goes_met (runs.ticks e l) q m h = (m.0, goes_met l q m.1 h)
 
-  ticks_met : {s u v : State} (l : Leads source s u) (q : quiet source u ≡ Ticks v) → LeadsMeet P source s u l → P u → LeadsMeet P source s v (ticks_on l q)
+  pub ticks_met : {s u v : State} (l : Leads source s u) (q : quiet source u ≡ Ticks v) → LeadsMeet P source s u l → P u → LeadsMeet P source s v (ticks_on l q)
   unfolding ticks_on
   ticks_met runs.stays q m h = (h, tt)
   ticks_met (runs.goes e l) q m h = (m.0, ticks_met l q m.1 h)
@@ -250,7 +250,7 @@ module _ (t : Table) (few : Few) (source : Source) (raws : RawsPass few) (P : St
   ticks_next : (n : ℕ) (s v : State) (l : Leads source start s) → LeadsMeet P source start s l → Ending t few n s → quiet source s ≡ Ticks v → Ending t few (still_reading n s.run.control) v
   ticks_next n s v l m h q = at_ticks t few (still_reading n s.run.control) v (subst (EndingStep t few (still_reading n s.run.control)) q (next n s l m h))
 
-  ride_met : {s u : State} {q k : ℕ} {a : Asked} (l : Leads source start s) → LeadsMeet P source start s l → (n : ℕ) (r : Rides source s q u k a) → RideHolds Q source n s q u k a r → Ending t few n s → RideMeets P source s q u k a r
+  pub ride_met : {s u : State} {q k : ℕ} {a : Asked} (l : Leads source start s) → LeadsMeet P source start s l → (n : ℕ) (r : Rides source s q u k a) → RideHolds Q source n s q u k a r → Ending t few n s → RideMeets P source s q u k a r
   ride_met l m n rides.slices o h = tt
   ride_met l m n (rides.goes_on {s} {t = v} e r) o h =
       let here : P s = meets n s o.0 h in
@@ -260,7 +260,7 @@ module _ (t : Table) (few : Few) (source : Source) (raws : RawsPass few) (P : St
       (here, ride_met (ticks_on P source l e) (ticks_met P source l e m here) (still_reading n s.run.control) r o.1 (ticks_next n s v l m h e))
   ride_met l m n (rides.asks {s} e) o h = meets n s o h
 
-  lead_met : {s u : State} (l : Leads source start s) → LeadsMeet P source start s l → (n : ℕ) (r : Leads source s u) → LeadsHold Q source n s u r → Ending t few n s → LeadsMeet P source s u r
+  pub lead_met : {s u : State} (l : Leads source start s) → LeadsMeet P source start s l → (n : ℕ) (r : Leads source s u) → LeadsHold Q source n s u r → Ending t few n s → LeadsMeet P source s u r
   lead_met l m n runs.stays o h = tt
   lead_met l m n (runs.goes {s} {u = v} e r) o h =
       let here : P s = meets n s o.0 h in

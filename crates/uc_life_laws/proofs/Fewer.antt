@@ -56,7 +56,7 @@ module _ (t : Table) (few : Few) (numbers : Ty → ℕ → Bool) where
   lasts_less n K L more l c o m h f = l c o m (held_more t few n K L more (Obj c) (Object o) h) f
 
   module _ (keeps : KeepsOthers t few numbers) (n : Exec) where
-    lies_same : (K : Value → Ty → Type 0) (b : Ty) (v : Value) → LiesIn t few n K b v → LiesIn t less n K b v
+    pub lies_same : (K : Value → Ty → Type 0) (b : Ty) (v : Value) → LiesIn t few n K b v → LiesIn t less n K b v
     lies_same K b (Number z) h = tt
     lies_same K b (Place o p) h = held_same K b (Place o p) h
     lies_same K b (Running x) h = tt
@@ -89,7 +89,7 @@ module _ (t : Table) (few : Few) (numbers : Ty → ℕ → Bool) where
       is_fewer : (a : Ty) (v : Value) → (IsFew t few n a v → IsFew t less n a v) → IsKnown t few n K a v → IsKnown t less n K a v
       is_fewer a v f h = record { is = h.is; passes = f h.passes; rooted = λ i. lies_same K a v (h.rooted i); held = λ m. lies_same K a v (h.held m); seated = λ i. ⊎_elim (λ l. inl (lies_same K a v l)) (λ l. inr l) (h.seated i) }
 
-      known_fewer : Lasts t few numbers K → (a : Ty) (v : Value) → Known t few n K a v → Known t less n K a v
+      pub known_fewer : Lasts t few numbers K → (a : Ty) (v : Value) → Known t few n K a v → Known t less n K a v
       known_fewer lasts Num v h = tt
       known_fewer lasts (Cell a) v h = is_fewer (Cell a) v (λ f. placed_few (Cell a) _ v h.is) h
       known_fewer lasts (Obj c) v h = is_fewer (Obj c) v (object_few lasts (t.mutex c) c v refl h.is h.held) h
@@ -145,7 +145,7 @@ module _ (t : Table) (few : Few) (numbers : Ty → ℕ → Bool) where
     top_frames [] (f ∷ fs) c cs l h = absurd h
     top_frames (g ∷ gs) [] c cs l h = absurd h
 
-    active_fewer : (gs : List Sig) (given : List Ty) (cs : List Active) (c : Active) (k : Knows t few n gs given cs c) → Lasts t few numbers (AtHand t few n (others gs) cs) → Lasts t few numbers (AtHand t few n gs (c ∷ cs)) ⊎ AreNumbers k.own → Knows t less n gs given cs c
+    pub active_fewer : (gs : List Sig) (given : List Ty) (cs : List Active) (c : Active) (k : Knows t few n gs given cs c) → Lasts t few numbers (AtHand t few n (others gs) cs) → Lasts t few numbers (AtHand t few n gs (c ∷ cs)) ⊎ AreNumbers k.own → Knows t less n gs given cs c
     active_fewer gs given cs c k l o = record {
       sig = k.sig;
       own = k.own;

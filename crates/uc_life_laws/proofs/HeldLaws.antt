@@ -5,48 +5,45 @@ use Rattle.uc_machine.specs.declared.exec.Exec.{Exec}
 use Rattle.uc_machine.specs.Pieces as piece
 use Rattle.uc_machine.specs.Pieces.{Value, Todo, Sort, Active}
 use Rattle.uc_life_laws.specs.Destroying.{Seat}
-use Rattle.uc_life_laws.specs.Placed.{Placed, put, placed, stacked, Ends, behind}
-use Rattle.uc_life_laws.specs.Held.{HeldBy, HeldIn, Held, Soon}
+use Rattle.uc_life_laws.specs.Placed.{Placed, placed, stacked, Ends}
+use Rattle.uc_life_laws.specs.Outermost.{outermost}
+use Rattle.uc_life_laws.specs.Held.{IsOuter, HeldBy, HeldIn, Held, Soon}
 use Rattle.uc_life_laws.specs.HeldLaws.{LawHeld}
+use Rattle.uc_life_laws.proofs.Outermost.{more_put, more_placed, elements_ends, outermost_ends}
 use Rattle.uc_life_laws.proofs.HeldWalk as walking
 
 module _ (source : Source) (w : Seat) (ps : List Placed) (n : Exec) where
-  more_put : (k : Sort) (f : ℕ) (this : Value) (qs : List Placed) → Ends ps qs → Ends ps (put k f this qs)
-  more_put (piece.IsClean c) f this qs h = behind h
-  more_put (piece.IsPart c) f this qs h = behind h
-  more_put piece.Simple f this qs h = h
-  more_put (piece.IsLoop x y z q) f this qs h = h
-  more_put piece.IsWhole f this qs h = h
-  more_put (piece.IsFill x y z) f this qs h = h
-  more_put (piece.IsSweep x) f this qs h = h
-  more_put (piece.IsGuard x) f this qs h = h
-  more_put piece.IsFinish f this qs h = h
-  more_put piece.IsFinishCoroutine f this qs h = h
+  module _ (f : ℕ) (this : Value) (older : List Active) where
+    -- whatever the mark is
+    pub outer_ends : (k : Sort) (todo : List Todo) → IsOuter source w ps n f this k todo older → Ends ps (placed f this todo (stacked older))
+    outer_ends (piece.IsPart c) todo h = more_placed ps f this todo (stacked older) (outermost_ends ps older h)
+    outer_ends (piece.IsFill m b d) todo h = elements_ends ps f this (stacked older) (outermost older) (outermost_ends ps older) todo h
+    outer_ends k todo h = h
 
-  by_mark : (f : ℕ) (this : Value) (e : ℕ) (k : Sort) (qs : List Placed) (R : Type 0) → (R → Ends ps qs) → HeldBy source w ps n f this e k qs R → Ends ps qs
-  by_mark f this e (piece.IsClean c) qs R g (inl h) = h.1
-  by_mark f this e (piece.IsClean c) qs R g (inr r) = g r
-  by_mark f this e (piece.IsPart c) qs R g (inl h) = h.1
-  by_mark f this e (piece.IsPart c) qs R g (inr r) = g r
-  by_mark f this e piece.Simple qs R g r = g r
-  by_mark f this e (piece.IsLoop x y z q) qs R g r = g r
-  by_mark f this e piece.IsWhole qs R g r = g r
-  by_mark f this e (piece.IsFill x y z) qs R g (inl h) = h.1
-  by_mark f this e (piece.IsFill x y z) qs R g (inr r) = g r
-  by_mark f this e (piece.IsSweep x) qs R g (inl h) = h.1
-  by_mark f this e (piece.IsSweep x) qs R g (inr r) = g r
-  by_mark f this e (piece.IsGuard x) qs R g r = g r
-  by_mark f this e piece.IsFinish qs R g r = g r
-  by_mark f this e piece.IsFinishCoroutine qs R g r = g r
+    by_mark : (e : ℕ) (k : Sort) (todo : List Todo) (R : Type 0) → (R → Ends ps (placed f this todo (stacked older))) → HeldBy source w ps n f this e k todo older R → Ends ps (placed f this todo (stacked older))
+    by_mark e (piece.IsClean c) todo R g (inl h) = h.1
+    by_mark e (piece.IsClean c) todo R g (inr r) = g r
+    by_mark e (piece.IsPart c) todo R g (inl h) = outer_ends (piece.IsPart c) todo h.1
+    by_mark e (piece.IsPart c) todo R g (inr r) = g r
+    by_mark e piece.Simple todo R g r = g r
+    by_mark e (piece.IsLoop x y z q) todo R g r = g r
+    by_mark e piece.IsWhole todo R g r = g r
+    by_mark e (piece.IsFill x y z) todo R g (inl h) = outer_ends (piece.IsFill x y z) todo h.1
+    by_mark e (piece.IsFill x y z) todo R g (inr r) = g r
+    by_mark e (piece.IsSweep x) todo R g (inl h) = h.1
+    by_mark e (piece.IsSweep x) todo R g (inr r) = g r
+    by_mark e (piece.IsGuard x) todo R g r = g r
+    by_mark e piece.IsFinish todo R g r = g r
+    by_mark e piece.IsFinishCoroutine todo R g r = g r
 
-  in_list : (f : ℕ) (this : Value) (e : ℕ) (older : List Placed) (R : Type 0) (todo : List Todo) → (R → Ends ps older) → HeldIn source w ps n f this e older R todo → Ends ps (placed f this todo older)
-  in_list f this e older R [] g h = g h
-  in_list f this e older R (p ∷ todo) g h =
-      more_put (piece.sort p) f this (placed f this todo older) (by_mark f this e (piece.sort p) (placed f this todo older) (HeldIn source w ps n f this e older R todo) (in_list f this e older R todo g) h)
+    in_list : (e : ℕ) (R : Type 0) (todo : List Todo) → (R → Ends ps (stacked older)) → HeldIn source w ps n f this e older R todo → Ends ps (placed f this todo (stacked older))
+    in_list e R [] g h = g h
+    in_list e R (p ∷ todo) g h =
+        more_put ps (piece.sort p) f this (placed f this todo (stacked older)) (by_mark e (piece.sort p) todo (HeldIn source w ps n f this e older R todo) (in_list e R todo g) h)
 
   pub held_ends : (cs : List Active) → Held source w ps n cs → Ends ps (stacked cs)
   held_ends [] h = absurd h
-  held_ends (c ∷ older) h = in_list c.frame c.this c.elements (stacked older) (Held source w ps n older) c.control (held_ends older) h
+  held_ends (c ∷ older) h = in_list c.frame c.this older c.elements (Held source w ps n older) c.control (held_ends older) h
 
   pub soon_ends : (a : Active) (cs : List Active) → Soon source w ps n a cs → Ends ps (stacked (a ∷ cs))
   soon_ends a cs (zero, h) = held_ends (a ∷ cs) h

@@ -23,7 +23,6 @@ use Rattle.uc_machine.specs.Quiet as quiet
 use Rattle.uc_machine.specs.Pieces as piece
 use Rattle.uc_machine.specs.Pieces.{Value, Number, Place, Running, Object, Nothing, Todo, Sort, Active, State, Env, Members, Step, Goes, Ticks, Asks, Outcome, Gives, Faults, at, in_env, top, below, number, nought, written}
 use Rattle.uc_life_laws.specs.LifeStates.{EnvBy}
-use Rattle.uc_life_laws.specs.Placed.{Placed, placed, stacked}
 use Rattle.uc_life_laws.specs.Held.{Seating, AreLines, NoMain, HeldBy, HeldIn, Held, HeldEx, TakesAt}
 use Rattle.uc_life_laws.proofs.Cells.{either}
 use Rattle.uc_life_laws.proofs.HeldKeeping as kept
@@ -31,7 +30,7 @@ use Rattle.uc_life_laws.proofs.HeldKeeping.{Keeps, FullState}
 
 module _ (source : Source) (seats : Seating) (up : Exec → Bool) (H : Exec → Type 0) where
   -- to-do lists of an activation of this frame and object, with so many elements, before older ones with these marks, of which this is told
-  module _ (m : Exec) (f : ℕ) (this : Value) (stand : ℕ) (older : List Placed) (rest : Exec → Type 0) where
+  module _ (m : Exec) (f : ℕ) (this : Value) (stand : ℕ) (older : List Active) (rest : Exec → Type 0) where
     abbrev pub In : Exec → List Todo → Type 0
     In x todo = HeldIn source (seats.seat x) (seats.before x) m f this stand older (rest x) todo
 
@@ -49,21 +48,21 @@ module _ (source : Source) (seats : Seating) (up : Exec → Bool) (H : Exec → 
     routine r h = ends_in r.purpose r.line h
 
     -- what is held behind a piece is held, and what is held outwards of all of them
-    more_by : (x : Exec) (k : Sort) (qs : List Placed) (R : Type 0) → R → HeldBy source (seats.seat x) (seats.before x) m f this stand k qs R
-    more_by x (piece.IsClean c) qs R h = inr h
-    more_by x (piece.IsPart c) qs R h = inr h
-    more_by x piece.Simple qs R h = h
-    more_by x (piece.IsLoop o t y q) qs R h = h
-    more_by x piece.IsWhole qs R h = h
-    more_by x (piece.IsFill k y z) qs R h = inr h
-    more_by x (piece.IsSweep y) qs R h = inr h
-    more_by x (piece.IsGuard y) qs R h = h
-    more_by x piece.IsFinish qs R h = h
-    more_by x piece.IsFinishCoroutine qs R h = h
+    more_by : (x : Exec) (k : Sort) (todo : List Todo) (R : Type 0) → R → HeldBy source (seats.seat x) (seats.before x) m f this stand k todo older R
+    more_by x (piece.IsClean c) todo R h = inr h
+    more_by x (piece.IsPart c) todo R h = inr h
+    more_by x piece.Simple todo R h = h
+    more_by x (piece.IsLoop o t y q) todo R h = h
+    more_by x piece.IsWhole todo R h = h
+    more_by x (piece.IsFill k y z) todo R h = inr h
+    more_by x (piece.IsSweep y) todo R h = inr h
+    more_by x (piece.IsGuard y) todo R h = h
+    more_by x piece.IsFinish todo R h = h
+    more_by x piece.IsFinishCoroutine todo R h = h
 
     pub further_in : (x : Exec) (todo : List Todo) → rest x → In x todo
     further_in x [] h = h
-    further_in x (p ∷ todo) h = more_by x (piece.sort p) (placed f this todo older) (In x todo) (further_in x todo h)
+    further_in x (p ∷ todo) h = more_by x (piece.sort p) todo (In x todo) (further_in x todo h)
 
     -- nothing behind the end of a main holds any
     pub lines : (todo : List Todo) → AreLines todo → There todo → (x : Exec) → up x ≡ true → seats.parent x ≡ m → H x → rest x
@@ -161,7 +160,7 @@ module _ (source : Source) (seats : Seating) (up : Exec → Bool) (H : Exec → 
     Outer cs = (x : Exec) → up x ≡ true → seats.parent x ≡ s.env.exec → H x → Held source (seats.seat x) (seats.before x) s.env.exec cs
 
     abbrev pub Holding : List Todo → Type 0
-    Holding todo = There s.env.exec s.run.frame s.run.this s.run.elements (stacked s.callers) (λ x. Held source (seats.seat x) (seats.before x) s.env.exec s.callers) todo
+    Holding todo = There s.env.exec s.run.frame s.run.this s.run.elements s.callers (λ x. Held source (seats.seat x) (seats.before x) s.env.exec s.callers) todo
 
     -- or another execution runs
     abbrev pub Done : State → Type 0
@@ -244,8 +243,8 @@ module _ (source : Source) (seats : Seating) (up : Exec → Bool) (H : Exec → 
     object x todo h = go _ _ h
 
     pub eval : (a : Expr) (todo : List Todo) → Holding todo → WStep (quiet.eval_step a todo s)
-    eval (src.Update op k p a) todo h = go _ _ (converts s.env.exec s.run.frame s.run.this s.run.elements (stacked s.callers) (λ x. Held source (seats.seat x) (seats.before x) s.env.exec s.callers) k (piece.KeepNow ∷ todo) h)
-    eval (src.StepBehind op k p) todo h = go _ _ (converts s.env.exec s.run.frame s.run.this s.run.elements (stacked s.callers) (λ x. Held source (seats.seat x) (seats.before x) s.env.exec s.callers) k (piece.StoreNow ∷ (piece.DropBelowNow ∷ todo)) h)
+    eval (src.Update op k p a) todo h = go _ _ (converts s.env.exec s.run.frame s.run.this s.run.elements s.callers (λ x. Held source (seats.seat x) (seats.before x) s.env.exec s.callers) k (piece.KeepNow ∷ todo) h)
+    eval (src.StepBehind op k p) todo h = go _ _ (converts s.env.exec s.run.frame s.run.this s.run.elements s.callers (λ x. Held source (seats.seat x) (seats.before x) s.env.exec s.callers) k (piece.StoreNow ∷ (piece.DropBelowNow ∷ todo)) h)
     eval (src.OfObject x) todo h = object x todo h
     eval (src.First a b) todo h = go _ _ h
     eval a todo h = go _ _ h
@@ -253,9 +252,9 @@ module _ (source : Source) (seats : Seating) (up : Exec → Bool) (H : Exec → 
     -- statements
 
     event_step : (a : EventStmt) (todo : List Todo) → Holding todo → WStep (quiet.event_step a todo s)
-    event_step (src.Throw line r) todo h = go _ _ (raised s.env.exec s.run.frame s.run.this s.run.elements (stacked s.callers) (λ x. Held source (seats.seat x) (seats.before x) s.env.exec s.callers) r _ h)
-    event_step (src.Raise line r) todo h = go _ _ (raised s.env.exec s.run.frame s.run.this s.run.elements (stacked s.callers) (λ x. Held source (seats.seat x) (seats.before x) s.env.exec s.callers) r _ h)
-    event_step (src.RaiseAt line r a) todo h = go _ _ (raised s.env.exec s.run.frame s.run.this s.run.elements (stacked s.callers) (λ x. Held source (seats.seat x) (seats.before x) s.env.exec s.callers) r _ h)
+    event_step (src.Throw line r) todo h = go _ _ (raised s.env.exec s.run.frame s.run.this s.run.elements s.callers (λ x. Held source (seats.seat x) (seats.before x) s.env.exec s.callers) r _ h)
+    event_step (src.Raise line r) todo h = go _ _ (raised s.env.exec s.run.frame s.run.this s.run.elements s.callers (λ x. Held source (seats.seat x) (seats.before x) s.env.exec s.callers) r _ h)
+    event_step (src.RaiseAt line r a) todo h = go _ _ (raised s.env.exec s.run.frame s.run.this s.run.elements s.callers (λ x. Held source (seats.seat x) (seats.before x) s.env.exec s.callers) r _ h)
     event_step (src.Try line body hs) todo h = go _ _ h
     event_step (src.Enable line events cell a) todo h = go _ _ (λ x u p q. inr (h x u p q))
     event_step (src.Disable line events cell a) todo h = go _ _ (λ x u p q. inr (h x u p q))
@@ -265,7 +264,7 @@ module _ (source : Source) (seats : Seating) (up : Exec → Bool) (H : Exec → 
     task_step a todo h = go _ _ h
 
     pub stmt : (a : Stmt) (todo : List Todo) → Holding todo → WStep (quiet.stmt_step a todo s)
-    stmt (src.Loop line order c e b) todo h = go _ _ (looped s.env.exec s.run.frame s.run.this s.run.elements (stacked s.callers) (λ x. Held source (seats.seat x) (seats.before x) s.env.exec s.callers) order c e b _ h)
+    stmt (src.Loop line order c e b) todo h = go _ _ (looped s.env.exec s.run.frame s.run.this s.run.elements s.callers (λ x. Held source (seats.seat x) (seats.before x) s.env.exec s.callers) order c e b _ h)
     stmt (src.Block line body) todo h = go _ _ h
     stmt (src.Whole line body) todo h = go _ _ h
     stmt (src.Evaluate line e) todo h = go _ _ (h)
@@ -284,7 +283,7 @@ module _ (source : Source) (seats : Seating) (up : Exec → Bool) (H : Exec → 
 
     begun : (r : Routine) (this : Value) (counts : Bool) (todo : List Todo) (vs : List Value) → Holding todo → WStep (quiet.begun_step r this counts todo vs s)
     begun r this counts todo vs h =
-        inl (record { exec = refl; stack = routine s.env.exec _ this 0 (placed s.run.frame s.run.this todo (stacked s.callers)) (λ x. In s.env.exec s.run.frame s.run.this s.run.elements (stacked s.callers) (λ x. Held source (seats.seat x) (seats.before x) s.env.exec s.callers) x todo) r h; env = kept.like source seats up env refl refl refl })
+        inl (record { exec = refl; stack = routine s.env.exec _ this 0 ((record s.run { control = todo; operands = vs }) ∷ s.callers) (λ x. In s.env.exec s.run.frame s.run.this s.run.elements s.callers (λ x. Held source (seats.seat x) (seats.before x) s.env.exec s.callers) x todo) r h; env = kept.like source seats up env refl refl refl })
 
     pub call : (r : Option Routine) (todo : List Todo) → Holding todo → WStep (quiet.call_step r todo s)
     call None todo h = go _ _ h
@@ -334,7 +333,7 @@ module _ (source : Source) (seats : Seating) (up : Exec → Bool) (H : Exec → 
     pub leave : (b : Bool) (q : ℕ) (todo : List Todo) → Holding todo → WStep (monitors.leave_at b q todo s)
     leave false q todo h = go_in _ _ _ (same refl refl refl refl) h
     leave true q todo h =
-        unless q _ todo h (inl (record { exec = refl; stack = polled s.env.exec s.run.frame s.run.this s.run.elements (stacked s.callers) (λ x. Held source (seats.seat x) (seats.before x) s.env.exec s.callers) s.run.raised todo h; env = kept.like source seats up env refl refl refl }))
+        unless q _ todo h (inl (record { exec = refl; stack = polled s.env.exec s.run.frame s.run.this s.run.elements s.callers (λ x. Held source (seats.seat x) (seats.before x) s.env.exec s.callers) s.run.raised todo h; env = kept.like source seats up env refl refl refl }))
 
     pub make : (c n : ℕ) (r : Option Routine) (todo : List Todo) → Holding todo → WStep (monitors.make_step c n r todo s)
     make c n None todo h = go _ _ h
@@ -422,7 +421,7 @@ module _ (source : Source) (seats : Seating) (up : Exec → Bool) (H : Exec → 
 
     scope : (c : CleanUp) (b : Bool) (todo : List Todo) → Holding todo → WStep (raising.scope_left c b todo s)
     scope src.Leaves true todo h = told _ h
-    scope c b todo h = go (raising.left_todo c (piece.Unwind ∷ todo)) [] (left_cleans s.env.exec s.run.frame s.run.this s.run.elements (stacked s.callers) (λ x. Held source (seats.seat x) (seats.before x) s.env.exec s.callers) c (piece.Unwind ∷ todo) h)
+    scope c b todo h = go (raising.left_todo c (piece.Unwind ∷ todo)) [] (left_cleans s.env.exec s.run.frame s.run.this s.run.elements s.callers (λ x. Held source (seats.seat x) (seats.before x) s.env.exec s.callers) c (piece.Unwind ∷ todo) h)
 
     main_left : (w : Option UnwindReason) (todo : List Todo) → Holding todo → WStep (raising.main_left w todo s)
     main_left (Some (reason.ReturnTo n)) todo h = told _ h
@@ -441,7 +440,7 @@ module _ (source : Source) (seats : Seating) (up : Exec → Bool) (H : Exec → 
     unwind_past (piece.IsClean x) todo a h = scope x _ todo h
     unwind_past (piece.IsFill m c d) todo a h = go _ _ (λ x u p q. inr (h x u p q))
     unwind_past (piece.IsSweep e) todo a h = go _ _ (λ x u p q. inr (h x u p q))
-    unwind_past (piece.IsPart c) todo a h = go _ _ (cleans s.env.exec s.run.frame s.run.this s.run.elements (stacked s.callers) (λ x. Held source (seats.seat x) (seats.before x) s.env.exec s.callers) c (piece.Unwind ∷ todo) h)
+    unwind_past (piece.IsPart c) todo a h = go _ _ (cleans s.env.exec s.run.frame s.run.this s.run.elements s.callers (λ x. Held source (seats.seat x) (seats.before x) s.env.exec s.callers) c (piece.Unwind ∷ todo) h)
     unwind_past (piece.IsGuard hs) todo a h = guarded hs s.run.raised todo h
     unwind_past piece.IsFinish todo a h = main_left s.run.raised todo h
     unwind_past piece.IsFinishCoroutine todo a h = coroutine_left s.run.raised todo (a (λ z. z)) h
@@ -451,7 +450,7 @@ module _ (source : Source) (seats : Seating) (up : Exec → Bool) (H : Exec → 
 
     exits_past : (w : Way) (k : Sort) (todo : List Todo) → Holding todo → Holding (quiet.left_behind w k todo)
     exits_past w piece.Simple todo h = h
-    exits_past w (piece.IsLoop order c e d) todo h = loop_left s.env.exec s.run.frame s.run.this s.run.elements (stacked s.callers) (λ x. Held source (seats.seat x) (seats.before x) s.env.exec s.callers) w order c e d todo h
+    exits_past w (piece.IsLoop order c e d) todo h = loop_left s.env.exec s.run.frame s.run.this s.run.elements s.callers (λ x. Held source (seats.seat x) (seats.before x) s.env.exec s.callers) w order c e d todo h
     exits_past w piece.IsWhole todo h = h
     exits_past w (piece.IsClean x) todo h = λ x u p q. inr (h x u p q)
     exits_past w (piece.IsFill n c d) todo h = h

@@ -19,7 +19,6 @@ use Rattle.uc_machine.specs.Pieces as piece
 use Rattle.uc_machine.specs.Pieces.{Value, Todo, Sort, State, Members, Step, Goes, Ticks, Asks, at, top, number}
 use Rattle.uc_machine.specs.Answering.{answered, entered, new_members, with_operand}
 use Rattle.uc_life_laws.specs.LifeStates.{MembersBy}
-use Rattle.uc_life_laws.specs.Placed.{stacked, placed}
 use Rattle.uc_life_laws.specs.Held.{Seating, NoMain, Stays, HeldBy, HeldIn, Held, Onwards, SoonIn, Soon, SoonFrom, SoonHere, SoonAsked, HeldEx, HeldState, HeldAsked, HeldAsk, HeldStep, IsOwn, LeadsSoon, HoldsNow, OfCounted, HoldsCounted, TakesAt, TakesNow}
 use Rattle.uc_life_laws.proofs.Cells.{either}
 use Rattle.uc_life_laws.proofs.HeldKeeping as kept
@@ -31,7 +30,7 @@ use Rattle.uc_life_laws.proofs.HeldSteps.{Walked}
 module _ (source : Source) (seats : Seating) (up : Exec → Bool) (s : State) where
   -- what holds an execution in what is to do, with that in waiting activations
   abbrev Behind : Exec → List Todo → Type 0
-  Behind x todo = HeldIn source (seats.seat x) (seats.before x) s.env.exec s.run.frame s.run.this s.run.elements (stacked s.callers) (Held source (seats.seat x) (seats.before x) s.env.exec s.callers) todo
+  Behind x todo = HeldIn source (seats.seat x) (seats.before x) s.env.exec s.run.frame s.run.this s.run.elements s.callers (Held source (seats.seat x) (seats.before x) s.env.exec s.callers) todo
 
   -- but for marks that stand for so many elements
   abbrev UncountedBy : Exec → Sort → List Todo → Type 0 → Type 0
@@ -57,7 +56,7 @@ module _ (source : Source) (seats : Seating) (up : Exec → Bool) (s : State) wh
   KeptIn x (p ∷ todo) = Behind x (p ∷ todo)
 
   -- it holds still where elements are counted anew
-  recount_by : (x : Exec) (e : ℕ) (k : Sort) (todo : List Todo) (R T : Type 0) → (R → T) → UncountedBy x k todo R → HeldBy source (seats.seat x) (seats.before x) s.env.exec s.run.frame s.run.this e k (placed s.run.frame s.run.this todo (stacked s.callers)) T
+  recount_by : (x : Exec) (e : ℕ) (k : Sort) (todo : List Todo) (R T : Type 0) → (R → T) → UncountedBy x k todo R → HeldBy source (seats.seat x) (seats.before x) s.env.exec s.run.frame s.run.this e k todo s.callers T
   recount_by x e (piece.IsClean c) todo R T f (inl h) = inl h
   recount_by x e (piece.IsClean c) todo R T f (inr r) = inr (f r)
   recount_by x e (piece.IsPart c) todo R T f (inl h) = inl h
@@ -71,12 +70,12 @@ module _ (source : Source) (seats : Seating) (up : Exec → Bool) (s : State) wh
   recount_by x e piece.IsFinish todo R T f r = f r
   recount_by x e piece.IsFinishCoroutine todo R T f r = f r
 
-  recount : (x : Exec) (e : ℕ) (todo : List Todo) → Uncounted x todo → HeldIn source (seats.seat x) (seats.before x) s.env.exec s.run.frame s.run.this e (stacked s.callers) (Held source (seats.seat x) (seats.before x) s.env.exec s.callers) todo
+  recount : (x : Exec) (e : ℕ) (todo : List Todo) → Uncounted x todo → HeldIn source (seats.seat x) (seats.before x) s.env.exec s.run.frame s.run.this e s.callers (Held source (seats.seat x) (seats.before x) s.env.exec s.callers) todo
   recount x e [] h = h
   recount x e (p ∷ todo) h = recount_by x e (piece.sort p) todo (Uncounted x todo) _ (recount x e todo) h
 
   -- a mark holds, or what is behind it
-  split : (x : Exec) (k : Sort) (todo : List Todo) (R : Type 0) → HeldBy source (seats.seat x) (seats.before x) s.env.exec s.run.frame s.run.this s.run.elements k (placed s.run.frame s.run.this todo (stacked s.callers)) R → HoldsNow source seats up s x k todo ⊎ R
+  split : (x : Exec) (k : Sort) (todo : List Todo) (R : Type 0) → HeldBy source (seats.seat x) (seats.before x) s.env.exec s.run.frame s.run.this s.run.elements k todo s.callers R → HoldsNow source seats up s x k todo ⊎ R
   split x (piece.IsClean c) todo R h = h
   split x (piece.IsPart c) todo R h = h
   split x piece.Simple todo R h = inr h
@@ -89,7 +88,7 @@ module _ (source : Source) (seats : Seating) (up : Exec → Bool) (s : State) wh
   split x piece.IsFinishCoroutine todo R h = inr h
 
   -- a mark that counts holds, or another one
-  count_by : (x : Exec) (k : Sort) (todo : List Todo) (R C U : Type 0) → (R → C ⊎ U) → HeldBy source (seats.seat x) (seats.before x) s.env.exec s.run.frame s.run.this s.run.elements k (placed s.run.frame s.run.this todo (stacked s.callers)) R → OfCounted source seats up s x k todo C ⊎ UncountedBy x k todo U
+  count_by : (x : Exec) (k : Sort) (todo : List Todo) (R C U : Type 0) → (R → C ⊎ U) → HeldBy source (seats.seat x) (seats.before x) s.env.exec s.run.frame s.run.this s.run.elements k todo s.callers R → OfCounted source seats up s x k todo C ⊎ UncountedBy x k todo U
   count_by x (piece.IsClean c) todo R C U f (inl h) = inr (inl h)
   count_by x (piece.IsClean c) todo R C U f (inr r) = ⊎_elim (λ y. inl y) (λ y. inr (inr y)) (f r)
   count_by x (piece.IsPart c) todo R C U f (inl h) = inr (inl h)
@@ -125,7 +124,7 @@ module _ (source : Source) (seats : Seating) (up : Exec → Bool) (s : State) wh
   parted (p ∷ todo) o x w h = inr h
 
   -- behind the end of a main that is left
-  no_main : (x : Exec) (k : Sort) (todo : List Todo) (R : Type 0) → (NoMain k → ⊥) → HeldBy source (seats.seat x) (seats.before x) s.env.exec s.run.frame s.run.this s.run.elements k (placed s.run.frame s.run.this todo (stacked s.callers)) R → R
+  no_main : (x : Exec) (k : Sort) (todo : List Todo) (R : Type 0) → (NoMain k → ⊥) → HeldBy source (seats.seat x) (seats.before x) s.env.exec s.run.frame s.run.this s.run.elements k todo s.callers R → R
   no_main x piece.IsFinishCoroutine todo R f h = h
   no_main x k todo R f h = absurd (f tt)
 
@@ -189,7 +188,7 @@ module _ (source : Source) (seats : Seating) (up : Exec → Bool) (s : State) wh
     acts (piece.CallUnwrittenNow r) todo e o h = steps.call_unwritten source seats up H s st.env old (slice_get source.routines r) todo h
     acts (piece.CountNow m) todo e o h = inl (record { exec = refl; stack = λ x u p q. recount x m todo (h x u p q); env = st.env })
     acts piece.MoreNow todo e o h = inl (record { exec = refl; stack = λ x u p q. recount x _ todo (h x u p q); env = st.env })
-    acts (piece.FillNow m b d) todo e o h = go _ _ (steps.filled source seats up H s.env.exec s.run.frame s.run.this s.run.elements (stacked s.callers) (λ x. Held source (seats.seat x) (seats.before x) s.env.exec s.callers) (nat_lt s.run.elements m) m b d todo h)
+    acts (piece.FillNow m b d) todo e o h = go _ _ (steps.filled source seats up H s.env.exec s.run.frame s.run.this s.run.elements s.callers (λ x. Held source (seats.seat x) (seats.before x) s.env.exec s.callers) (nat_lt s.run.elements m) m b d todo h)
     acts (piece.Again order c step b) todo e o h = go _ _ (either (Holding) (piece.is_zero (number (top s.run.operands))) todo (piece.TurnNow order c step b ∷ todo) h h)
     acts (piece.PrintNow form) todo e o h = steps.prints source seats up H s st.env old s.env.gathered _ todo _ h
     acts (piece.TextNow k) todo e o h = steps.prints source seats up H s st.env old s.env.gathered _ todo _ h
@@ -197,21 +196,21 @@ module _ (source : Source) (seats : Seating) (up : Exec → Bool) (s : State) wh
     acts piece.FlushNow todo e o h = steps.flushes source seats up H s st.env old s.env.gathered todo _ h
     acts (piece.ClearNow k m) todo e o h = steps.clears source seats up H s st.env old k m todo h
     acts (piece.Items []) todo e o h = go _ _ h
-    acts (piece.Items (i ∷ is)) todo e o h = go _ _ (steps.item source seats up H s.env.exec s.run.frame s.run.this s.run.elements (stacked s.callers) (λ x. Held source (seats.seat x) (seats.before x) s.env.exec s.callers) i (piece.Items is ∷ todo) h)
+    acts (piece.Items (i ∷ is)) todo e o h = go _ _ (steps.item source seats up H s.env.exec s.run.frame s.run.this s.run.elements s.callers (λ x. Held source (seats.seat x) (seats.before x) s.env.exec s.callers) i (piece.Items is ∷ todo) h)
     acts (piece.Values []) todo e o h = go _ _ h
-    acts (piece.Values (i ∷ is)) todo e o h = go _ _ (steps.item_value source seats up H s.env.exec s.run.frame s.run.this s.run.elements (stacked s.callers) (λ x. Held source (seats.seat x) (seats.before x) s.env.exec s.callers) i (piece.Values is ∷ todo) h)
+    acts (piece.Values (i ∷ is)) todo e o h = go _ _ (steps.item_value source seats up H s.env.exec s.run.frame s.run.this s.run.elements s.callers (λ x. Held source (seats.seat x) (seats.before x) s.env.exec s.callers) i (piece.Values is ∷ todo) h)
     acts (piece.Pieces []) todo e o h = go _ _ h
-    acts (piece.Pieces (i ∷ is)) todo e o h = go _ _ (steps.item_piece source seats up H s.env.exec s.run.frame s.run.this s.run.elements (stacked s.callers) (λ x. Held source (seats.seat x) (seats.before x) s.env.exec s.callers) i todo h)
+    acts (piece.Pieces (i ∷ is)) todo e o h = go _ _ (steps.item_piece source seats up H s.env.exec s.run.frame s.run.this s.run.elements s.callers (λ x. Held source (seats.seat x) (seats.before x) s.env.exec s.callers) i todo h)
     acts (piece.Targets []) todo e o h = go _ _ h
     acts (piece.Targets (x ∷ xs)) todo e o h = go _ _ h
     acts (piece.Variables []) todo e o h = go _ _ h
-    acts (piece.Variables (d ∷ ds)) todo e o h = go _ _ (steps.starts source seats up H s.env.exec s.run.frame s.run.this s.run.elements (stacked s.callers) (λ x. Held source (seats.seat x) (seats.before x) s.env.exec s.callers) d.cell d.value (piece.Variables ds ∷ todo) h)
+    acts (piece.Variables (d ∷ ds)) todo e o h = go _ _ (steps.starts source seats up H s.env.exec s.run.frame s.run.this s.run.elements s.callers (λ x. Held source (seats.seat x) (seats.before x) s.env.exec s.callers) d.cell d.value (piece.Variables ds ∷ todo) h)
     acts (piece.Do a) todo e o h = steps.stmt source seats up H s st.env old a todo h
     acts (piece.Rest ss) todo e o h = rests ss todo h
     acts (piece.Exit w) [] e o h = steps.end_step source seats up H s st.env old w h
     acts (piece.Exit w) (p ∷ ps) e o h = steps.exits source seats up H s st.env old w p ps h
-    acts (piece.InLoop order c step b) todo e o h = go _ _ (steps.stepped source seats up H s.env.exec s.run.frame s.run.this s.run.elements (stacked s.callers) (λ x. Held source (seats.seat x) (seats.before x) s.env.exec s.callers) step _ (steps.tested source seats up H s.env.exec s.run.frame s.run.this s.run.elements (stacked s.callers) (λ x. Held source (seats.seat x) (seats.before x) s.env.exec s.callers) order c step b todo h))
-    acts (piece.Clean c) todo e o h = go _ _ (steps.cleans source seats up H s.env.exec s.run.frame s.run.this s.run.elements (stacked s.callers) (λ x. Held source (seats.seat x) (seats.before x) s.env.exec s.callers) c todo h)
+    acts (piece.InLoop order c step b) todo e o h = go _ _ (steps.stepped source seats up H s.env.exec s.run.frame s.run.this s.run.elements s.callers (λ x. Held source (seats.seat x) (seats.before x) s.env.exec s.callers) step _ (steps.tested source seats up H s.env.exec s.run.frame s.run.this s.run.elements s.callers (λ x. Held source (seats.seat x) (seats.before x) s.env.exec s.callers) order c step b todo h))
+    acts (piece.Clean c) todo e o h = go _ _ (steps.cleans source seats up H s.env.exec s.run.frame s.run.this s.run.elements s.callers (λ x. Held source (seats.seat x) (seats.before x) s.env.exec s.callers) c todo h)
     acts (piece.Sweep a) todo e o h = swept s.run.elements a todo h
     acts piece.Unwind [] e o h = steps.leaves source seats up H s st.env old s.callers h
     acts piece.Unwind (p ∷ ps) e o h = steps.unwinds source seats up H s st.env old p ps (λ f. at_full _ _ (λ x u q. no_main x (piece.sort p) ps (Behind x ps) f (full (piece.Unwind ∷ (p ∷ ps)) e f x u q))) h
@@ -241,14 +240,14 @@ module _ (source : Source) (seats : Seating) (up : Exec → Bool) (s : State) wh
     acts (piece.Guards (src.MoreClauses guard b cs)) todo e o h = go _ _ h
     acts (piece.AcceptNow site m) todo e o h = steps.accept_by source seats up H s st.env old (monitors.mask_of (take_operands piece.Nothing m s.run.operands [])) (monitors.this_object s) site todo (drop m s.run.operands) h
     acts piece.FailedNow todo e o h = steps.failed source seats up H s st.env old _ todo _ h
-    acts (piece.ChooseNow cs) todo e o h = go _ _ (steps.branch source seats up H s.env.exec s.run.frame s.run.this s.run.elements (stacked s.callers) (λ x. Held source (seats.seat x) (seats.before x) s.env.exec s.callers) _ cs todo h)
+    acts (piece.ChooseNow cs) todo e o h = go _ _ (steps.branch source seats up H s.env.exec s.run.frame s.run.this s.run.elements s.callers (λ x. Held source (seats.seat x) (seats.before x) s.env.exec s.callers) _ cs todo h)
     acts piece.RaiseAtNow todo e o h = steps.raise_at source seats up H s st.env old _ _ todo _ h
     acts (piece.EnableNow events cell) todo e o h = steps.enables source seats up H s st.env old _ cell todo h
     acts (piece.DisableNow events cell) todo e o h = steps.enables source seats up H s st.env old _ cell todo h
     acts (piece.RestoreNow cell) todo e o h = steps.go_in source seats up H s st.env old _ _ _ (steps.same source seats up H s st.env old refl refl refl refl) h
     acts piece.PollNow todo e o h = steps.poll source seats up H s st.env old todo h
     acts piece.DeliverNow todo e o h = steps.deliver source seats up H s st.env old _ todo h
-    acts piece.Finish todo e o h = steps.unless source seats up H s st.env old s.env.own _ todo h (steps.returned source seats up H s st.env old _ s.callers (steps.lines source seats up H s.env.exec s.run.frame s.run.this s.run.elements (stacked s.callers) (λ x. Held source (seats.seat x) (seats.before x) s.env.exec s.callers) todo o h))
+    acts piece.Finish todo e o h = steps.unless source seats up H s st.env old s.env.own _ todo h (steps.returned source seats up H s st.env old _ s.callers (steps.lines source seats up H s.env.exec s.run.frame s.run.this s.run.elements s.callers (λ x. Held source (seats.seat x) (seats.before x) s.env.exec s.callers) todo o h))
     acts piece.FinishCoroutine todo e o h = steps.moved source seats up H s st.env old _ todo _ h (kept.finish_rests source seats up (at todo s.run.operands s) (at_full _ _ (full (piece.FinishCoroutine ∷ todo) e (λ z. z))))
     acts p todo e o h = go _ _ h
 

@@ -25,7 +25,8 @@ use Rattle.uc_answer_laws.specs.Suiting.{JustGo, IsForm, asked_form, form_of_req
 use Rattle.uc_answer_laws.proofs.Told.{SpotSuits, form_push, no_both}
 use Rattle.uc_answer_laws.proofs.Runs.{kept_run, form_none, law_suiting}
 use Rattle.uc_answer_laws.proofs.Asking.{law_asking}
-use Rattle.uc_machine.specs.Pieces.{Value, Nothing, State, Members}
+use Rattle.uc_machine.specs.declared.exec.Owner.TheVariants.{Fields}
+use Rattle.uc_machine.specs.Pieces.{Value, Place, State, Members}
 use Rattle.uc_machine.specs.Quiet.{no_members, first_state}
 use Rattle.uc_machine.specs.Answering.{answered, child_main, child_of, entered, new_members}
 use Rattle.uc_meaning.specs.Runs.{World, May, Runs, first_world, world_after, bare, with_home, hand_of, drawn, or_else, gives, no_room, acts, begun, more}
@@ -198,9 +199,9 @@ module _ (source : Source) where
               binds = rests_more source homes homes (object_count j) (object_count (j ++ dispatch p n ∷ [])) (λ o l. refl) (objects_grow j (dispatch p n ∷ [])) x.request (w.tasks u) x.binds;
             }
 
-  begin_homed : (opts : Options) → WorldHomed (λ o. Nothing) (begin opts ∷ []) (first_world source)
+  begin_homed : (opts : Options) → WorldHomed (λ o. Place (Fields o) []) (begin opts ∷ []) (first_world source)
   begin_homed opts = record {
-    rests = λ u ended. going_on (λ o. Nothing) (begin opts ∷ []) u (first_state (routine_of source source.main) 0) (sym (form_push u [] (begin opts) ∙ form_none u)) (begins_none source source.main 0);
+    rests = λ u ended. going_on (λ o. Place (Fields o) []) (begin opts ∷ []) u (first_state (routine_of source source.main) 0) (sym (form_push u [] (begin opts) ∙ form_none u)) (begins_none source source.main 0);
     members = λ o. either NoneMembers (o == 0) (Some no_members) None tt tt;
   }
 

@@ -100,7 +100,7 @@ module _ (P : Exec → Execution (List Todo) Value → Type 0) (each : (n : Exec
   each_members h None = tt
   each_members h (Some m) = each_parked h m.parked
 
-  each_env : (e : Env) → EnvBy P e
+  pub each_env : (e : Env) → EnvBy P e
   each_env e = record { house = each_parked (home.Task e.own) e.house.parked; hand = each_hand e.hand }
 
 -- where nothing goes, all lasts

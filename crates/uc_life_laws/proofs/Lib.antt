@@ -48,6 +48,7 @@ pub mod Claims
 pub mod HeldKeeping
 pub mod HeldSteps
 pub mod HeldWalk
+pub mod Outermost
 pub mod HeldLaws
 pub mod WaysCalls
 pub mod Ways

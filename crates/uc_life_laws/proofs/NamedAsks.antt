@@ -18,13 +18,13 @@ use Rattle.uc_life_laws.specs.KnownRuns.{Meets, is_made, NamesMade, LawNamed}
 use Rattle.uc_life_laws.specs.NamedAsks.{LawAsked}
 
 -- the state in which this is asked
-record AsksAt (P : State → Type 0) (source : Source) (s : State) (r : Request) : Type 0 where
-  state : State
-  leads : Leads source s state
-  meets : LeadsMeet P source s state leads
-  here : P state
-  after : State
-  asks : quiet source state ≡ Asks r after
+pub record AsksAt (P : State → Type 0) (source : Source) (s : State) (r : Request) : Type 0 where
+  pub state : State
+  pub leads : Leads source s state
+  pub meets : LeadsMeet P source s state leads
+  pub here : P state
+  pub after : State
+  pub asks : quiet source state ≡ Asks r after
 
 module _ (P : State → Type 0) (source : Source) where
   goes_at : {s t : State} {r : Request} {A : Type 0} → quiet source s ≡ Goes t → P s → A ⊎ AsksAt P source t r → A ⊎ AsksAt P source s r
@@ -35,7 +35,7 @@ module _ (P : State → Type 0) (source : Source) where
   ticks_at e m (inl x) = inl x
   ticks_at e m (inr a) = inr (record { state = a.state; leads = runs.ticks e a.leads; meets = (m, a.meets); here = a.here; after = a.after; asks = a.asks })
 
-  asks_at : {s u : State} {q k : ℕ} {a : Asked} (r : Rides source s q u k a) → RideMeets P source s q u k a r → (a.request ≡ ask.Slice) ⊎ AsksAt P source s a.request
+  pub asks_at : {s u : State} {q k : ℕ} {a : Asked} (r : Rides source s q u k a) → RideMeets P source s q u k a r → (a.request ≡ ask.Slice) ⊎ AsksAt P source s a.request
   asks_at rides.slices m = inl refl
   asks_at (rides.goes_on e r) m = goes_at e m.0 (asks_at r m.1)
   asks_at (rides.ticks e r) m = ticks_at e m.0 (asks_at r m.1)

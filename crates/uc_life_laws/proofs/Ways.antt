@@ -12,8 +12,9 @@ use Rattle.uc_machine.specs.Pieces as piece
 use Rattle.uc_machine.specs.Pieces.{Value, Todo, Sort, Active, State, Step, at}
 use Rattle.uc_life_laws.specs.Placed.{placed, stacked, Ends}
 use Rattle.uc_life_laws.specs.Destroying.{CleansUp, EndsBelow, EndsElement}
-use Rattle.uc_life_laws.specs.Held.{Seating, HeldBy, HeldIn, Held, Onwards, Soon, SoonHere, IsOwn, LeadsSoon, HoldsNow, Takes, OfCounted, HoldsCounted, TakesAt}
+use Rattle.uc_life_laws.specs.Held.{Seating, IsOuter, HeldBy, HeldIn, Held, Onwards, Soon, SoonHere, IsOwn, LeadsSoon, HoldsNow, Takes, OfCounted, HoldsCounted, TakesAt}
 use Rattle.uc_life_laws.specs.Ways.{calls_plainly, ForgetsBy, UnwindsBy, ExitsBy, LeavesAt, LawWays}
+use Rattle.uc_life_laws.proofs.HeldLaws.{outer_ends}
 use Rattle.uc_life_laws.proofs.WaysCalls as calls
 
 module _ (source : Source) (seats : Seating) (up : Exec → Bool) (s : State) where
@@ -26,6 +27,10 @@ module _ (source : Source) (seats : Seating) (up : Exec → Bool) (s : State) wh
 
     abbrev Outer : List Todo → Type 0
     Outer todo = Ends (seats.before x) (placed s.run.frame s.run.this todo (stacked s.callers))
+
+    -- what is outwards of all that is under construction is outwards of a mark
+    outside : (k : Sort) (todo : List Todo) → IsOuter source (seats.seat x) (seats.before x) s.env.exec s.run.frame s.run.this k todo s.callers → Outer todo
+    outside k todo h = outer_ends source (seats.seat x) (seats.before x) s.env.exec s.run.frame s.run.this s.callers k todo h
 
     no_both : (b : Bool) → b ≡ true → b ≡ false → ⊥
     no_both b t f = absurd (cc)
@@ -54,9 +59,9 @@ module _ (source : Source) (seats : Seating) (up : Exec → Bool) (s : State) wh
     unwound own p todo e (piece.IsClean c) i g h =
         cleaned own (piece.IsClean c) c todo (piece.Unwind ∷ todo) [] (ap (λ l. quiet.act_todo source l s) e ∙ (ap (λ k. raising.unwind_past k todo s) i ∙ scoped c _ todo h.0)) h.0 h.1 g h
     unwound own p todo e (piece.IsPart c) i g h =
-        cleaned own (piece.IsPart c) c todo (piece.Unwind ∷ todo) [] (ap (λ l. quiet.act_todo source l s) e ∙ ap (λ k. raising.unwind_past k todo s) i) h.0 h.1 g h
+        cleaned own (piece.IsPart c) c todo (piece.Unwind ∷ todo) [] (ap (λ l. quiet.act_todo source l s) e ∙ ap (λ k. raising.unwind_past k todo s) i) h.0 (outside (piece.IsPart c) todo h.1) g h
     unwound own p todo e (piece.IsFill m b d) i g h =
-        subst Leads (sym (ap (λ l. quiet.act_todo source l s) e ∙ ap (λ k. raising.unwind_past k todo s) i)) (refl, (0, (0, inl h)))
+        subst Leads (sym (ap (λ l. quiet.act_todo source l s) e ∙ ap (λ k. raising.unwind_past k todo s) i)) (refl, (0, (0, inl (h.0, outside (piece.IsFill m b d) todo h.1))))
     unwound own p todo e (piece.IsSweep d) i g h =
         subst Leads (sym (ap (λ l. quiet.act_todo source l s) e ∙ ap (λ k. raising.unwind_past k todo s) i)) (refl, (0, (0, inl h)))
     unwound own p todo e k i g h = absurd h
@@ -94,7 +99,7 @@ module _ (source : Source) (seats : Seating) (up : Exec → Bool) (s : State) wh
             (refl, (0, ⊎_elim (λ j. (0, inl ((k.0, j, k.2), h.1))) (λ j. last m k.0 l j k.2) (cases_lt k.0 m)))
 
     -- one more stands
-    more_by : (e : ℕ) → ((j : ℕ) → j < s.run.elements → j < e) → (k : Sort) (todo : List Todo) (R T : Type 0) → (R → T) → OfCounted source seats up s x k todo R → HeldBy source (seats.seat x) (seats.before x) s.env.exec s.run.frame s.run.this e k (placed s.run.frame s.run.this todo (stacked s.callers)) T
+    more_by : (e : ℕ) → ((j : ℕ) → j < s.run.elements → j < e) → (k : Sort) (todo : List Todo) (R T : Type 0) → (R → T) → OfCounted source seats up s x k todo R → HeldBy source (seats.seat x) (seats.before x) s.env.exec s.run.frame s.run.this e k todo s.callers T
     more_by e f (piece.IsClean c) todo R T g h = inr (g h)
     more_by e f (piece.IsPart c) todo R T g h = inr (g h)
     more_by e f piece.Simple todo R T g h = g h
@@ -108,7 +113,7 @@ module _ (source : Source) (seats : Seating) (up : Exec → Bool) (s : State) wh
     more_by e f piece.IsFinish todo R T g h = g h
     more_by e f piece.IsFinishCoroutine todo R T g h = g h
 
-    more_in : (e : ℕ) → ((j : ℕ) → j < s.run.elements → j < e) → (todo : List Todo) → HoldsCounted source seats up s x todo → HeldIn source (seats.seat x) (seats.before x) s.env.exec s.run.frame s.run.this e (stacked s.callers) (Held source (seats.seat x) (seats.before x) s.env.exec s.callers) todo
+    more_in : (e : ℕ) → ((j : ℕ) → j < s.run.elements → j < e) → (todo : List Todo) → HoldsCounted source seats up s x todo → HeldIn source (seats.seat x) (seats.before x) s.env.exec s.run.frame s.run.this e s.callers (Held source (seats.seat x) (seats.before x) s.env.exec s.callers) todo
     more_in e f [] h = absurd h
     more_in e f (p ∷ todo) h = more_by e f (piece.sort p) todo (HoldsCounted source seats up s x todo) _ (more_in e f todo) h
 

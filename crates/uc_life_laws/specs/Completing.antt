@@ -7,6 +7,7 @@ use Rattle.uc_machine.specs.Pieces as piece
 use Rattle.uc_machine.specs.Pieces.{Value, Todo, Active, State, Env}
 use Rattle.uc_machine.specs.Quiet.{MOST_ELEMENTS}
 use Rattle.uc_life_laws.specs.Placed.{Placed, placed, stacked, Ends}
+use Rattle.uc_life_laws.specs.Outermost.{outermost, outer_elements}
 use Rattle.uc_life_laws.specs.Destroying.{Seat, EndsElement, CleansUp}
 use Rattle.uc_life_laws.specs.Held.{Soon}
 
@@ -22,14 +23,14 @@ module _ (source : Source) (w : Seat) (ps : List Placed) (n : Exec) where
   -- of an activation before these older ones: the scope of this clean-up opens next, or its object becomes a part
   abbrev pub Next : Active → List Active → List Todo → Stmts → Type 0
   Next b older todo (Scoped c rest) = CleansUp source w n b.frame b.this c × Ends ps (placed b.frame b.this todo (stacked older))
-  Next b older todo (Built c rest) = CleansUp source w n b.frame b.this c × Ends ps (placed b.frame b.this todo (stacked older))
+  Next b older todo (Built c rest) = CleansUp source w n b.frame b.this c × Ends ps (outermost older)
   Next b older todo ss = ⊥
 
   -- so it is behind what it waits for, or one more element stands then
   abbrev pub TakesOver : Active → List Active → List Todo → Type 0
   TakesOver b older (piece.DropNow ∷ (piece.Within line ∷ (piece.Rest ss ∷ todo))) = Next b older todo ss
   TakesOver b older (piece.DropNow ∷ (piece.MoreNow ∷ (piece.FillNow m e d ∷ todo))) = (b.elements < MOST_ELEMENTS) ×
-      EndsElement source w n b.frame b.this b.elements d × Ends ps (placed b.frame b.this todo (stacked older))
+      EndsElement source w n b.frame b.this b.elements d × Ends ps (outer_elements b.frame b.this todo (stacked older) (outermost older))
   TakesOver b older todo = ⊥
 
   abbrev pub AreTaken : List Active → Type 0
@@ -38,7 +39,7 @@ module _ (source : Source) (w : Seat) (ps : List Placed) (n : Exec) where
 
   -- an execution has just been made for the object at hand, which is a part of that from now on
   abbrev pub IsSetUp : Active → List Active → List Todo → Type 0
-  IsSetUp a cs (piece.Rest (Built Forgets rest) ∷ todo) = (a.this ≡ w.place) × Ends ps (placed a.frame a.this todo (stacked cs))
+  IsSetUp a cs (piece.Rest (Built Forgets rest) ∷ todo) = (a.this ≡ w.place) × Ends ps (outermost cs)
   IsSetUp a cs todo = ⊥
 
 -- then what a part held is held soon behind it, and so is an execution that has been made

@@ -13,6 +13,7 @@ use Rattle.uc_machine.specs.Quiet.{quiet, home_at}
 use Rattle.uc_answer_laws.specs.Suiting.{Form, JustGo, form_of_request}
 use Rattle.uc_life_laws.specs.LifeStates.{EnvBy}
 use Rattle.uc_life_laws.specs.Placed.{Placed, placed, stacked, Ends}
+use Rattle.uc_life_laws.specs.Outermost.{outermost, outer_elements}
 use Rattle.uc_life_laws.specs.Destroying.{Seat, EndsBelow, CleansUp}
 
 -- by whom each execution was made, where its coroutine is, and marks that were there before that was built
@@ -42,29 +43,36 @@ Stays todo = Unit {0}
 
 -- `w`: where the coroutine is, `ps`: those marks, `n`: who made it
 module _ (source : Source) (w : Seat) (ps : List Placed) (n : Exec) where
-  -- in an activation of this frame and object, of which so many elements stand: a mark of this sort, before these marks, is of what destroys the coroutine
-  abbrev pub Holds : ℕ → Value → ℕ → Sort → List Placed → Type 0
-  Holds f this e (piece.IsClean c) qs = CleansUp source w n f this c × Ends ps qs
-  Holds f this e (piece.IsPart c) qs = CleansUp source w n f this c × Ends ps qs
-  Holds f this e (piece.IsFill m b d) qs = EndsBelow source w n f this e d × Ends ps qs
-  Holds f this e (piece.IsSweep d) qs = EndsBelow source w n f this e d × Ends ps qs
-  Holds f this e k qs = ⊥
+  -- these marks are outermost behind a mark of this sort, in an activation of this frame and object with this to do behind it, before older ones; and where
+  -- that is of a part of an object under construction, outwards of all that is under construction
+  abbrev pub IsOuter : ℕ → Value → Sort → List Todo → List Active → Type 0
+  IsOuter f this (piece.IsPart c) todo older = Ends ps (outermost older)
+  IsOuter f this (piece.IsFill m b d) todo older = Ends ps (outer_elements f this todo (stacked older) (outermost older))
+  IsOuter f this k todo older = Ends ps (placed f this todo (stacked older))
+
+  -- where so many elements stand: a mark of this sort, before these marks, is of what destroys the coroutine
+  abbrev pub Holds : ℕ → Value → ℕ → Sort → List Todo → List Active → Type 0
+  Holds f this e (piece.IsClean c) todo older = CleansUp source w n f this c × IsOuter f this (piece.IsClean c) todo older
+  Holds f this e (piece.IsPart c) todo older = CleansUp source w n f this c × IsOuter f this (piece.IsPart c) todo older
+  Holds f this e (piece.IsFill m b d) todo older = EndsBelow source w n f this e d × IsOuter f this (piece.IsFill m b d) todo older
+  Holds f this e (piece.IsSweep d) todo older = EndsBelow source w n f this e d × IsOuter f this (piece.IsSweep d) todo older
+  Holds f this e k todo older = ⊥
 
   -- it is, or one behind it is
-  abbrev pub HeldBy : ℕ → Value → ℕ → Sort → List Placed → Type 0 → Type 0
-  HeldBy f this e (piece.IsClean c) qs rest = (CleansUp source w n f this c × Ends ps qs) ⊎ rest
-  HeldBy f this e (piece.IsPart c) qs rest = (CleansUp source w n f this c × Ends ps qs) ⊎ rest
-  HeldBy f this e (piece.IsFill m b d) qs rest = (EndsBelow source w n f this e d × Ends ps qs) ⊎ rest
-  HeldBy f this e (piece.IsSweep d) qs rest = (EndsBelow source w n f this e d × Ends ps qs) ⊎ rest
-  HeldBy f this e k qs rest = rest
+  abbrev pub HeldBy : ℕ → Value → ℕ → Sort → List Todo → List Active → Type 0 → Type 0
+  HeldBy f this e (piece.IsClean c) todo older rest = Holds f this e (piece.IsClean c) todo older ⊎ rest
+  HeldBy f this e (piece.IsPart c) todo older rest = Holds f this e (piece.IsPart c) todo older ⊎ rest
+  HeldBy f this e (piece.IsFill m b d) todo older rest = Holds f this e (piece.IsFill m b d) todo older ⊎ rest
+  HeldBy f this e (piece.IsSweep d) todo older rest = Holds f this e (piece.IsSweep d) todo older ⊎ rest
+  HeldBy f this e k todo older rest = rest
 
-  abbrev pub HeldIn : ℕ → Value → ℕ → List Placed → Type 0 → List Todo → Type 0
+  abbrev pub HeldIn : ℕ → Value → ℕ → List Active → Type 0 → List Todo → Type 0
   HeldIn f this e older rest [] = rest
-  HeldIn f this e older rest (p ∷ todo) = HeldBy f this e (sort p) (placed f this todo older) (HeldIn f this e older rest todo)
+  HeldIn f this e older rest (p ∷ todo) = HeldBy f this e (sort p) todo older (HeldIn f this e older rest todo)
 
   abbrev pub Held : List Active → Type 0
   Held [] = ⊥
-  Held (a ∷ older) = HeldIn a.frame a.this a.elements (stacked older) (Held older) a.control
+  Held (a ∷ older) = HeldIn a.frame a.this a.elements older (Held older) a.control
 
   -- behind a step who runs goes on so, and so behind a tick or a bare answer; nothing is asked behind a fault
   abbrev pub AskOnwards : (Active → List Active → Type 0) → Request → State → Type 0
@@ -136,7 +144,7 @@ module _ (source : Source) (seats : Seating) (up : Exec → Bool) where
     LeadsSoon x = Onwards source (seats.seat x) (seats.before x) s.env.exec (SoonHere source (seats.seat x) (seats.before x) s.env.exec) (Soon source (seats.seat x) (seats.before x) s.env.exec) (quiet source s)
 
     abbrev pub HoldsNow : Exec → Sort → List Todo → Type 0
-    HoldsNow x k todo = Holds source (seats.seat x) (seats.before x) s.env.exec s.run.frame s.run.this s.run.elements k (placed s.run.frame s.run.this todo (stacked s.callers))
+    HoldsNow x k todo = Holds source (seats.seat x) (seats.before x) s.env.exec s.run.frame s.run.this s.run.elements k todo s.callers
 
     -- a mark of this sort is taken away
     abbrev pub Takes : Sort → List Todo → Type 0

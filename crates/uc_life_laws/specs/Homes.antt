@@ -1,5 +1,5 @@
 -- The homes of mutex objects, as a run tells them: each is at home at the place that is bound to its number, which its maker has named.
-use Rattle.std.specs.Prelude.{◌≡◌, ℕ, ◌<◌, false, List, ◌∷◌, drop, Some, nat_eq, if◌then◌else◌}
+use Rattle.std.specs.Prelude.{◌≡◌, ℕ, ◌<◌, false, List, [], ◌∷◌, drop, Some, nat_eq, if◌then◌else◌}
 use Rattle.uc_tree.specs.Source.{Source}
 use Rattle.uc_entry.specs.declared.entry.Entry.{Entry}
 use Rattle.uc_entry.specs.declared.entry.Options.{Options}
@@ -11,7 +11,8 @@ use Rattle.uc_acts.specs.Known.{object_count, has_ended}
 use Rattle.uc_acts.specs.Answers.{answer_to}
 use Rattle.uc_acts.specs.KernelRuns.{InRange}
 use Rattle.uc_answer_laws.specs.Suiting.{form_of_request, asked_form}
-use Rattle.uc_machine.specs.Pieces.{Value, Nothing, Object, Todo, BindMadeNow, State, top, below}
+use Rattle.uc_machine.specs.declared.exec.Owner.TheVariants.{Fields}
+use Rattle.uc_machine.specs.Pieces.{Value, Place, Nothing, Object, Todo, BindMadeNow, State, top, below}
 use Rattle.uc_machine.specs.Answering.{answered}
 use Rattle.uc_meaning.specs.Runs.{World, May, Runs, gives, no_room, acts, begun, more, drawn}
 use Rattle.uc_state_laws.specs.Counted.{params}
@@ -29,7 +30,7 @@ then_home source j (ask.Make m) s homes o =
     if nat_eq o (object_count j) then made_at source s.run.control s.run.operands else homes o
 then_home source j r s homes o = homes o
 
--- so does an act, and a run
+-- so does an act, and a run; until a home is told it is a place of the object's own, at which nothing is bound
 abbrev pub home_by : (source : Source) (opts : Options) (input : List ℕ) (j : Journal) (w : World) (a : List Entry) (x : World) →
     May source opts input j w a x → (ℕ → Value) → ℕ → Value
 home_by source opts input j w _ _ (gives p t s h) homes o = homes o
@@ -39,7 +40,7 @@ home_by source opts input j w _ _ (acts p t n s asked d) homes o =
 
 abbrev pub home_of : (source : Source) (input : List ℕ) (opts : Options) (j : Journal) (w : World) →
     Runs source input opts j w → ℕ → Value
-home_of source input opts _ _ begun o = Nothing
+home_of source input opts _ _ begun o = Place (Fields o) []
 home_of source input opts _ _ (more {j} {w} {a} {w' = x} r on m) o =
     home_by source opts input j w a x m (λ i. home_of source input opts j w r i) o
 

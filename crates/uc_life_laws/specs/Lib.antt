@@ -24,6 +24,7 @@ pub mod Ending
 pub mod Marked
 pub mod Claims
 pub mod Placed
+pub mod Outermost
 pub mod Destroying
 pub mod Held
 pub mod HeldLaws

@@ -2,40 +2,48 @@
 use Rattle.std.proofs.Common.{◌≡◌, ℕ, ◌<◌, List, [], ◌∷◌, ◌++◌, refl, sym, subst}
 use Rattle.uc_tree.specs.Source.{Source}
 use Rattle.uc_entry.specs.declared.request.Asked.{Asked}
+use Rattle.uc_acts.specs.Journal.{Journal}
 use Rattle.uc_acts.specs.Acts.{act}
 use Rattle.uc_acts.specs.Known.{task_count}
 use Rattle.uc_machine.specs.declared.exec.Exec.{Exec}
 use Rattle.uc_machine.specs.Monitors.{this_object}
 use Rattle.uc_machine.specs.Pieces as piece
-use Rattle.uc_machine.specs.Pieces.{Value, Todo, GoneNow, GiveUpNow, Active, State}
+use Rattle.uc_machine.specs.Pieces.{Value, Todo, GoneNow, GiveUpNow, RaiseAtNow, Active, State}
 use Rattle.uc_machine.specs.Answering.{answered}
 use Rattle.uc_machine.specs.Rides.{Rides, slices, goes_on, ticks, asks}
-use Rattle.uc_meaning.specs.Runs.{Runs, acts, more, drawn, world_after}
+use Rattle.uc_meaning.specs.Runs.{World, Runs, acts, more, drawn, world_after}
 use Rattle.uc_state_laws.proofs.Others.{run_rests}
-use Rattle.uc_state_laws.specs.RoomRuns.{stays}
-use Rattle.uc_state_laws.specs.Opens.{RideMeets}
+use Rattle.uc_state_laws.specs.RoomRuns as way
+use Rattle.uc_state_laws.specs.RoomRuns.{Leads, stays}
+use Rattle.uc_state_laws.specs.Opens.{RideMeets, LeadsMeet}
+use Rattle.uc_name_laws.specs.NameSteps as names
 use Rattle.uc_life_laws.proofs.NamedWorlds.{run_named, known}
 use Rattle.uc_typing.specs.Typing.{Table}
 use Rattle.uc_life_laws.specs.Things.{Few}
 use Rattle.uc_life_laws.specs.Knowing.{KnowsState}
+use Rattle.uc_life_laws.specs.OwnNames.{IsOwn, StepOwn, StaysOwn}
 use Rattle.uc_life_laws.proofs.OwnNamesLemmas.{law_own_names}
 use Rattle.uc_life_laws.specs.Belonging.{Belongs}
 use Rattle.uc_life_laws.specs.Marks.{Marked, Free, Outward, AllLone, LoneState, LoneStep, Puts}
+use Rattle.uc_life_laws.specs.Rooted.{StandsUpwards}
 use Rattle.uc_life_laws.proofs.UnmarkedWalk.{law_steps}
 use Rattle.uc_life_laws.proofs.UnmarkedWorlds.{law_runs}
-use Rattle.uc_apart_laws.specs.Before.{Before, BeforeAt, NowhereBefore}
-use Rattle.uc_rooted_runs.specs.FreshStates.{FreshEnv, FreshStep, KeepsFresh}
+use Rattle.uc_apart_laws.specs.Before.{world_at, Before, BeforeAt, NowhereBefore}
+use Rattle.uc_rooted_runs.specs.FreshStates.{FreshEnv, FreshStep}
+use Rattle.uc_rooted_runs.specs.Binds.{BindsOwn}
+use Rattle.uc_rooted_runs.specs.Mains.{FindsAll}
 use Rattle.uc_rooted_runs.specs.MainRuns.{EndsMains}
-use Rattle.uc_rooted_runs.specs.OutlastRuns.{with_before}
+use Rattle.uc_rooted_runs.specs.OutlastRuns.{with_homes}
 use Rattle.uc_rooted_runs.proofs.FreshRuns.{law_fresh, drawn_fresh}
-use Rattle.uc_rooted_runs.proofs.KeptRuns.{ride_keeps, run_keeps}
+use Rattle.uc_rooted_runs.proofs.KeptRuns.{keeps_at, run_keeps}
 use Rattle.uc_rooted_runs.proofs.MainRuns.{law_mains}
 use Rattle.uc_making_laws.specs.OwnThis.{ThisState}
+use Rattle.uc_making_laws.specs.RideWhile.{RideWhile}
 use Rattle.uc_making_laws.specs.Upheld.{UpheldAt}
-use Rattle.uc_making_laws.specs.BeforeRides.{IsRootedOnWay, RootedOnWay, RootedOnWayBy, LawBeforeRides}
-use Rattle.uc_making_laws.proofs.BeforeWorlds.{before as nowhere_before}
+use Rattle.uc_making_laws.specs.BeforeRides.{IsStoodOnWay, IsRootedOnWay, RootedOnWay, RootedOnWayBy, RaisesUpwards, RaisesUpwardsBy, LawBeforeRides}
+use Rattle.uc_making_laws.proofs.BeforeWorlds.{before as nowhere_before, upwards as upwards_there}
 use Rattle.uc_making_laws.proofs.ThisRuns.{law_this_runs}
-use Rattle.uc_making_laws.proofs.Upheld.{owns, law_upheld}
+use Rattle.uc_making_laws.proofs.Upheld.{own_at, ends, law_upheld}
 
 -- who comes to where an object goes has no mark around it
 freed : (t : Table) (few : Few) (n : Exec) (run : Active) (callers : List Active) (l todo : List Todo) (o : ℕ) → l ≡ todo → Free t few o (Outward t n run.frame run.this callers todo) → run.control ≡ l → Free t few o (Marked t n (run ∷ callers))
@@ -51,48 +59,65 @@ module _ (t : Table) (few : Few) (source : Source) where
   ride_lone (ticks {s} e r) p h = (h, ride_lone r p.1 (subst (LoneStep t few) e (law_steps.steps t few source s h p.0)))
   ride_lone (asks {s} e) p h = h
 
-  ride_fresh : {s u : State} {q k : ℕ} {a : Asked} (r : Rides source s q u k a) → RideMeets (KeepsFresh source) source s q u k a r → FreshEnv s.env → RideMeets (λ v. FreshEnv v.env) source s q u k a r
-  ride_fresh slices p h = tt
-  ride_fresh (goes_on {s} e r) p h = (h, ride_fresh r p.1 (subst FreshStep e (law_fresh.steps source s h p.0)))
-  ride_fresh (ticks {s} e r) p h = (h, ride_fresh r p.1 (subst FreshStep e (law_fresh.steps source s h p.0)))
-  ride_fresh (asks {s} e) p h = h
+  -- executions that have not begun are as they were made, as long as no step before forgot the running execution
+  module _ (j : Journal) (w : World) (u : ℕ) where
+    ride_fresh : {s v : State} {q k : ℕ} {a : Asked} (r : Rides source s q v k a) → RideMeets (BindsOwn source) source s q v k a r → RideMeets (EndsMains source) source s q v k a r → RideMeets (FindsAll source) source s q v k a r → ((x : State) (l : Leads source s x) → LeadsMeet names.Spares source s x l → IsOwn j w u x) → FreshEnv s.env → RideWhile names.Spares (λ v. FreshEnv v.env) source s q v k a r
+    ride_fresh slices b f g own h = tt
+    ride_fresh (goes_on {s} {t = x} e r) b f g own h = (
+      h,
+      λ spared.
+          let both : StaysOwn source j w u s = record { now = own s way.stays tt; next = subst (StepOwn j w u) (sym e) (own x (way.goes e way.stays) (spared, tt)) } in
+          ride_fresh r b.1 f.1 g.1 (λ y m z. own y (way.goes e m) (spared, z)) (subst FreshStep e (law_fresh.steps source s h (keeps_at source j w u s b.0 f.0 g.0 both))),
+    )
+    ride_fresh (ticks {s} {t = x} e r) b f g own h = (
+      h,
+      λ spared.
+          let both : StaysOwn source j w u s = record { now = own s way.stays tt; next = subst (StepOwn j w u) (sym e) (own x (way.ticks e way.stays) (spared, tt)) } in
+          ride_fresh r b.1 f.1 g.1 (λ y m z. own y (way.ticks e m) (spared, z)) (subst FreshStep e (law_fresh.steps source s h (keeps_at source j w u s b.0 f.0 g.0 both))),
+    )
+    ride_fresh (asks {s} e) b f g own h = h
 
-  module _ (Lone This Fresh Up Rooted Goal : State → Type 0) (one : (v : State) → Lone v → This v → Fresh v → Up v → Rooted v → Goal v) where
-    ride_all : {s u : State} {q k : ℕ} {a : Asked} (r : Rides source s q u k a) → RideMeets Lone source s q u k a r → RideMeets This source s q u k a r → RideMeets Fresh source s q u k a r → RideMeets Up source s q u k a r → RideMeets Rooted source s q u k a r → RideMeets Goal source s q u k a r
+  module _ (Sparing Lone This Fresh Up Rooted Goal : State → Type 0) (one : (v : State) → Lone v → This v → Fresh v → Up v → Rooted v → Goal v) where
+    ride_all : {s u : State} {q k : ℕ} {a : Asked} (r : Rides source s q u k a) → RideMeets Lone source s q u k a r → RideMeets This source s q u k a r → RideWhile Sparing Fresh source s q u k a r → RideWhile Sparing Up source s q u k a r → RideMeets Rooted source s q u k a r → RideWhile Sparing Goal source s q u k a r
     ride_all slices l h f m b = tt
-    ride_all (goes_on {s} e r) l h f m b = (one s l.0 h.0 f.0 m.0 b.0, ride_all r l.1 h.1 f.1 m.1 b.1)
-    ride_all (ticks {s} e r) l h f m b = (one s l.0 h.0 f.0 m.0 b.0, ride_all r l.1 h.1 f.1 m.1 b.1)
+    ride_all (goes_on {s} e r) l h f m b = (one s l.0 h.0 f.0 m.0 b.0, λ x. ride_all r l.1 h.1 (f.1 x) (m.1 x) b.1)
+    ride_all (ticks {s} e r) l h f m b = (one s l.0 h.0 f.0 m.0 b.0, λ x. ride_all r l.1 h.1 (f.1 x) (m.1 x) b.1)
     ride_all (asks {s} e) l h f m b = one s l h f m b
 
 pub law_before_rides : LawBeforeRides
-law_before_rides t few own yet source input opts j w r range fits on leaves spares binds mains finds puts this p u n s q d spared bound mained found put has b asked before kept keeps rooted =
+law_before_rides t few own yet source input opts j w r range fits on zero leaves spares binds mains finds puts this p u n s q d bound mained found put has b asked homes kept keeps rooted =
     let all = law_own_names source input opts j w r range fits on leaves spares in
     let rests = run_rests source input opts range r fits on in
     let y = run_named source input opts range r fits on in
     let lt : u < task_count j = known source input opts range rests on y.serials y.world p u d.runs in
-    let a = act opts source.sites input j p u n q in
     let longer : Runs source input opts (j ++ act opts source.sites input j p u n q) (world_after source (act opts source.sites input j p u n q) w u s) = more r on (acts p u n s q d) in
-    let owned = owns source input opts range r fits on p u n s q d leaves spares mains spared mained b before asked kept keeps in
-    let ends : RideMeets (EndsMains source) source _ _ s n q d.rides = (law_mains.runs source input opts (j ++ act opts source.sites input j p u n q) (world_after source (act opts source.sites input j p u n q) w u s) longer (mains, mained)).1 in
+    let owned = own_at source input opts range r fits on p u n s q d leaves spares mains mained in
+    let ending = ends source input opts range r fits on p u n s q d leaves spares mains mained in
     let lone = law_runs t few source input opts j w r puts in
     let lone_start : LoneState t few (answered source d.given (drawn j w u)) = lone.comes u (answered source d.given (drawn j w u)) (record { given = d.given; processor = p; runs = d.runs; told = d.told; leads = stays }) tt in
     let fresh_world = law_fresh.runs source input opts j w r range fits on (run_keeps source input opts j w r binds (law_mains.runs source input opts j w r mains) finds all.rides) in
-    let fresh_ride = ride_fresh t few source d.rides (ride_keeps source j w u d.rides bound ends found owned) (law_fresh.told source d.given (drawn j w u) (drawn_fresh j w u fresh_world)) in
+    let fresh_ride = ride_fresh t few source j w u d.rides bound ending found owned (law_fresh.told source d.given (drawn j w u) (drawn_fresh j w u fresh_world)) in
     let these = law_this_runs t few source input opts (j ++ act opts source.sites input j p u n q) (world_after source (act opts source.sites input j p u n q) w u s) longer (this, has) in
     let worlds = law_this_runs t few source input opts j w r this in
-    let up = law_upheld.upheld asked before source input opts j w r range fits on leaves spares mains p u n s q d spared mained b kept keeps in
-    ride_all t few source (LoneState t few) (ThisState t few) (λ v. FreshEnv v.env) (UpheldAt (with_before before b.makers) asked j w u) (λ v. RootedOnWay t few own yet (with_before before b.makers) asked j w u v source) (λ v. Before t few j w u v source) (λ v l h f m g.
-    at_state v l (λ o k belongs free. nowhere_before t few source j w u lt all.later (all.elsewhere u lt) lone.world (worlds.world on) v l h f (with_before before b.makers) asked m own yet o k belongs free) g) d.rides (ride_lone t few source d.rides put lone_start) these.rides.1 fresh_ride up rooted
+    let up = law_upheld.upheld asked homes source input opts j w r range fits on leaves spares mains p u n s q d mained b kept keeps in
+    ride_all t few source names.Spares (LoneState t few) (ThisState t few) (λ v. FreshEnv v.env) (UpheldAt (with_homes homes b.makers) asked j w u) (λ v. RootedOnWay t few own yet (with_homes homes b.makers) asked j w u v source) (λ v. Before t few j w u v source × RaisesUpwards t few own yet b.makers.rank j w u v) (λ v l h f m g.
+    at_state v l (λ o k belongs free. nowhere_before t few source j w u lt all.later (all.elsewhere u lt) lone.world (worlds.world on) v l h f (with_homes homes b.makers) asked m zero own yet o k belongs free) (λ k. upwards_there t few source j w u lt all.later (all.elsewhere u lt) lone.world (worlds.world on) v l h f (with_homes homes b.makers) asked m own yet k) g) d.rides (ride_lone t few source d.rides put lone_start) these.rides.1 fresh_ride up rooted
   where
-    at_state : (v : State) → LoneState t few v → ((o : ℕ) → IsRootedOnWay t few own yet (with_before before b.makers) asked j w u v o → Belongs few v.env.exec (few.home o) → Free t few o (Marked t v.env.exec (v.run ∷ v.callers)) → NowhereBefore t few j w u v o) → RootedOnWay t few own yet (with_before before b.makers) asked j w u v source → Before t few j w u v source
-    at_state v l f g = by v.run.control refl g l.stack.0
+    at_state : (v : State) → LoneState t few v → ((o : ℕ) → IsRootedOnWay t few own yet (with_homes homes b.makers) asked j w u v o → Belongs few v.env.exec (few.home o) → Free t few o (Marked t v.env.exec (v.run ∷ v.callers)) → NowhereBefore t few j w u v o) → (IsStoodOnWay t few own yet (with_homes homes b.makers) asked j w u v → StandsUpwards t few j (world_at w u v) own yet b.makers.rank) → RootedOnWay t few own yet (with_homes homes b.makers) asked j w u v source → Before t few j w u v source × RaisesUpwards t few own yet b.makers.rank j w u v
+    at_state v l f up g = (by v.run.control refl g l.stack.0, raises v.run.control g)
       where
-        by : (todo : List Todo) → v.run.control ≡ todo → RootedOnWayBy t few own yet (with_before before b.makers) asked j w u v source todo → AllLone t few v.env.exec v.run.frame v.run.this v.callers v.run.control → (k : KnowsState t few [] v) → BeforeAt t few j w u v source k v.run.control
+        raises : (todo : List Todo) → RootedOnWayBy t few own yet (with_homes homes b.makers) asked j w u v source todo → RaisesUpwardsBy t few own yet b.makers.rank j w u v todo
+        raises (piece.RaiseAtNow ∷ todo) h = up h
+        raises (p ∷ todo) h = tt
+        raises [] h = tt
+
+        by : (todo : List Todo) → v.run.control ≡ todo → RootedOnWayBy t few own yet (with_homes homes b.makers) asked j w u v source todo → AllLone t few v.env.exec v.run.frame v.run.this v.callers v.run.control → (k : KnowsState t few [] v) → BeforeAt t few j w u v source k v.run.control
         by (piece.GoneNow ∷ todo) e h k known =
             let at : AllLone t few v.env.exec v.run.frame v.run.this v.callers (piece.GoneNow ∷ todo) = subst (AllLone t few v.env.exec v.run.frame v.run.this v.callers) e k in
             subst (λ c. BeforeAt t few j w u v source known c) (sym e) (f (this_object v) h at.0.0 (freed t few v.env.exec v.run v.callers (piece.GoneNow ∷ todo) (piece.GoneNow ∷ todo) (this_object v) refl at.0.1 e))
         by (piece.GiveUpNow ∷ todo) e h k known =
             let at : AllLone t few v.env.exec v.run.frame v.run.this v.callers (piece.GiveUpNow ∷ todo) = subst (AllLone t few v.env.exec v.run.frame v.run.this v.callers) e k in
             subst (λ c. BeforeAt t few j w u v source known c) (sym e) (f (this_object v) h at.0.0 (freed t few v.env.exec v.run v.callers (piece.GiveUpNow ∷ todo) (piece.GiveUpNow ∷ todo) (this_object v) refl at.0.1 e))
+        by (piece.RaiseAtNow ∷ todo) e h k known = subst (λ c. BeforeAt t few j w u v source known c) (sym e) tt
         by (p ∷ todo) e h k known = subst (λ c. BeforeAt t few j w u v source known c) (sym e) (h known)
         by [] e h k known = subst (λ c. BeforeAt t few j w u v source known c) (sym e) (h known)

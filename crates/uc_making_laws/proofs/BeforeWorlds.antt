@@ -1,4 +1,5 @@
--- While a task has come to where an object goes, or is given up, it is nowhere in the world as it stands then.
+-- While a task has come to where an object goes, or is given up, it is nowhere in the world as it stands then; and what executions have of others stands
+-- upwards where it is told that it stood so.
 use Rattle.std.proofs.Common.{◌≡◌, ℕ, ◌==◌, ◌<◌, ◌≤◌, Bool, true, false, List, ◌∷◌, Option, Some, None, refl, sym, ap, ◌∙◌, subst, arith, ⊎_elim}
 use Rattle.std.specs.Prelude.{if◌then◌else◌}
 use Rattle.std.proofs.lemmas.Bool.{eqb-true, eq-eqb, ne_eqb}
@@ -40,7 +41,7 @@ use Rattle.uc_rooted_runs.proofs.Upwards.{law_upwards}
 use Rattle.uc_making_laws.specs.OwnThis.{ThisEx, ThisState}
 use Rattle.uc_making_laws.specs.ThisRuns.{ThisWorld}
 use Rattle.uc_making_laws.specs.Upheld.{UpheldAt}
-use Rattle.uc_making_laws.specs.BeforeRides.{IsRootedOnWay}
+use Rattle.uc_making_laws.specs.BeforeRides.{IsStoodOnWay, IsRootedOnWay}
 use Rattle.uc_making_laws.proofs.NoOthers.{in_world, law_no_others}
 
 module _ (t : Table) (few : Few) (source : Source) (j : Journal) (w : World) (u : ℕ) (known : u < task_count j) (first : (v : ℕ) → task_count j ≤ v → w.tasks v ≡ first_state (routine_of source source.main) 0) (apart : IsElsewhere j w u) (lone_world : LoneWorld t few w) (this_world : ThisWorld t few w) (s : State) (lone : LoneState t few s) (this : ThisState t few s) (fresh : FreshEnv s.env) where
@@ -102,7 +103,14 @@ module _ (t : Table) (few : Few) (source : Source) (j : Journal) (w : World) (u 
       homes = λ q. subst (λ (m : Exec). MembersBy (λ n y. n ≡ m → ⊥) (home.Object q) (or_else (find q s.env.hand) (w.homes q))) (sym run_same) (or_home (λ n y. n ≡ s.env.exec → ⊥) q (find q s.env.hand) refl (found_hand (λ n y. n ≡ s.env.exec → ⊥) q s.env.hand held_up.own.alone.hand) (λ e. both_members Away Away Other (λ n y a b. away n a) (home.Object q) (w.homes q) (apart.homes q (not_held q e)) (apart.homes q (not_held q e))));
     }
 
-    module _ (own : Exec → Value → Ty → Bool) (yet : Exec → List Active → Value → Ty → Bool) (o : ℕ) (rooted : IsRootedOnWay t few own yet makers asked j w u s o) (belongs : Belongs few s.env.exec (few.home o)) (free : Free t few o (Marked t s.env.exec (s.run ∷ s.callers))) where
+    -- what executions have of others stands in what those have that made them
+    pub upwards : (own : Exec → Value → Ty → Bool) (yet : Exec → List Active → Value → Ty → Bool) → IsStoodOnWay t few own yet makers asked j w u s → StandsUpwards t few j (world_at w u s) own yet makers.rank
+    upwards own yet stood =
+        law_upwards t few makers (now makers asked held_up.made) j (world_at w u s) own yet held_up.outlasts (λ n cs i z b k e.
+        let is = made_there held_up.made source j (world_at w u s) held_up.there first_there n cs i in
+        based_of t few makers asked held_up.made yet own j (world_at w u s) stood.first held_up.later n is z b k e (stood.based n cs i z b k e))
+
+    module _ (zero : (n : Exec) → Belongs few n (few.home 0) → ⊥) (own : Exec → Value → Ty → Bool) (yet : Exec → List Active → Value → Ty → Bool) (o : ℕ) (rooted : IsRootedOnWay t few own yet makers asked j w u s o) (belongs : Belongs few s.env.exec (few.home o)) (free : Free t few o (Marked t s.env.exec (s.run ∷ s.callers))) where
       freed : Freed t few (ask.Gone o) (if u == u then s else w.tasks u)
       freed = subst (Freed t few (ask.Gone o)) (sym same) (belongs, free)
 
@@ -117,15 +125,9 @@ module _ (t : Table) (few : Few) (source : Source) (j : Journal) (w : World) (u 
       none_yet n cs i c h =
           ⊎_elim (free_there n cs i c) (rooted.told n cs i c) (stands_split t few (Yet t yet n cs) (OwnThings t n cs) (λ z b. yet n cs z b ≡ true) (λ z b k. k) (Cell (Obj c)) (few.home o) h)
 
-      upwards : StandsUpwards t few j (world_at w u s) own yet makers.rank
-      upwards =
-          law_upwards t few makers (now makers asked held_up.made) j (world_at w u s) own yet held_up.outlasts (λ n cs i z b k e.
-          let is = made_there held_up.made source j (world_at w u s) held_up.there first_there n cs i in
-          based_of t few makers asked held_up.made yet own j (world_at w u s) rooted.first held_up.later n is z b k e (rooted.based n cs i z b k e))
-
       nowhere : IsNowhere t few j (world_at w u s) own yet makers.rank o
       nowhere = record {
-        up = upwards;
+        up = upwards own yet rooted.stood;
         outside = λ n cs i c h. let k = rooted.covered n cs i c h in none_yet k.0 k.1 k.2 k.3 k.4;
         unmarked = none_yet;
       }
@@ -137,6 +139,6 @@ module _ (t : Table) (few : Few) (source : Source) (j : Journal) (w : World) (u 
         rank = makers.rank;
         nowhere = nowhere;
         spares =
-            let there = law_no_others.spares t few j (world_at w u s) own yet makers.rank u o nowhere this_there rooted.other (subst (λ (m : Exec). Belongs few m (few.home o)) (sym run_same) belongs) u (subst (λ (m : Exec). EnvBy (λ n y. n ≡ m → ⊥) (if u == u then s else w.tasks u).env) (sym run_same) (subst (λ (m : State). EnvBy (λ n y. n ≡ s.env.exec → ⊥) m.env) (sym same) held_up.own.alone)) (subst (λ (m : State). EnvBy FreshEx m.env) (sym same) fresh.slots) in
+            let there = law_no_others.spares t few j (world_at w u s) own yet makers.rank u o nowhere this_there (λ e. zero s.env.exec (subst (λ (q : ℕ). Belongs few s.env.exec (few.home q)) e belongs)) (subst (λ (m : Exec). Belongs few m (few.home o)) (sym run_same) belongs) u (subst (λ (m : Exec). EnvBy (λ n y. n ≡ m → ⊥) (if u == u then s else w.tasks u).env) (sym run_same) (subst (λ (m : State). EnvBy (λ n y. n ≡ s.env.exec → ⊥) m.env) (sym same) held_up.own.alone)) (subst (λ (m : State). EnvBy FreshEx m.env) (sym same) fresh.slots) in
             subst (λ (m : State). EnvBy (SparesEx t few o) m.env) same there;
       }

@@ -3,6 +3,7 @@ pub mod ThisSteps
 pub mod ThisWalk
 pub mod ThisRuns
 pub mod NoOthers
+pub mod ForgetsThis
 pub mod Upheld
 pub mod BeforeWorlds
 pub mod BeforeRides

@@ -26,7 +26,9 @@ use Rattle.uc_step_laws.specs.Hands.{keys}
 use Rattle.uc_step_laws.specs.Holding.{StepHolding}
 use Rattle.uc_step_laws.proofs.Walk.{law_steps}
 use Rattle.uc_state_laws.proofs.Lists.{Once, once_rest, first_once}
-use Rattle.uc_state_laws.specs.Opens.{RideMeets, RunMeets}
+use Rattle.uc_state_laws.specs.RoomRuns as way
+use Rattle.uc_state_laws.specs.RoomRuns.{Leads}
+use Rattle.uc_state_laws.specs.Opens.{RideMeets, RunMeets, LeadsMeet}
 use Rattle.uc_name_laws.specs.Below.{EnvNamed}
 use Rattle.uc_name_laws.specs.NameSteps as names
 use Rattle.uc_name_laws.specs.NameSteps.{Named, StepNamed}
@@ -34,18 +36,17 @@ use Rattle.uc_name_laws.proofs.Homes.{no_both}
 use Rattle.uc_name_laws.proofs.Walk.{walk}
 use Rattle.uc_life_laws.specs.RunningRuns.{RunLeaves}
 use Rattle.uc_life_laws.proofs.Riding.{run_more, ride_more}
-use Rattle.uc_life_laws.proofs.RunningWorlds.{run_runs, begins_alone}
-use Rattle.uc_life_laws.proofs.NamedWorlds.{run_named, start, known, found_none, vacuous}
+use Rattle.uc_life_laws.proofs.NamedWorlds.{start, known, found_none, vacuous}
 use Rattle.uc_life_laws.specs.LifeStates.{HandBy, MembersBy, EnvBy}
 use Rattle.uc_life_laws.proofs.Cells.{tested}
 use Rattle.uc_life_laws.proofs.Parked.{found_hand}
 use Rattle.uc_life_laws.proofs.Fewer.{both_members, both_env}
-use Rattle.uc_life_laws.specs.OwnNames.{at_hand, IsOwn, StaysOwn, IsElsewhere}
+use Rattle.uc_life_laws.specs.OwnNames.{at_hand, IsOwn, StepOwn, StaysOwn, IsElsewhere}
 use Rattle.uc_life_laws.proofs.OwnNamesLemmas.{law_own_names}
-use Rattle.uc_life_laws.proofs.OwnRides.{Settled, ride_owns, start as own_start}
+use Rattle.uc_life_laws.proofs.OwnRides.{Settled, start as own_start}
 use Rattle.uc_apart_laws.specs.Before.{world_at}
-use Rattle.uc_rooted_runs.specs.Makers.{Outside, Makers, seating}
-use Rattle.uc_rooted_runs.specs.Births.{MakesLater, AllMadeLater}
+use Rattle.uc_rooted_runs.specs.Makers.{Makers, seating}
+use Rattle.uc_rooted_runs.specs.Births.{MakesLater}
 use Rattle.uc_rooted_runs.specs.Mains.{CallsNoMain}
 use Rattle.uc_rooted_runs.specs.MainRuns.{EndsMains}
 use Rattle.uc_rooted_runs.specs.Outlasting.{Outlasts, OutlastEx}
@@ -55,19 +56,20 @@ use Rattle.uc_answer_laws.specs.Suiting.{asked_form}
 use Rattle.uc_answer_laws.proofs.Runs.{law_suiting}
 use Rattle.uc_state_laws.proofs.Alive.{law_alive}
 use Rattle.uc_acts.specs.Known.{has_ended}
-use Rattle.uc_rooted_runs.specs.OutlastRuns.{with_before, made_behind, run_made, now, OutlastsAt, RideOutlasts}
+use Rattle.uc_rooted_runs.specs.OutlastRuns.{with_homes, made_behind, run_made, now, OutlastsAt}
 use Rattle.uc_rooted_runs.specs.Upwards.{OutlastWorld}
 use Rattle.uc_rooted_runs.specs.MadeRuns.{IsMade, AllMade}
 use Rattle.uc_rooted_runs.specs.KeptRuns.{RideKeeps, RunKeeps}
 use Rattle.uc_rooted_runs.proofs.Births as births
 use Rattle.uc_rooted_runs.proofs.Births.{MakesBelow}
-use Rattle.uc_rooted_runs.proofs.KeptRuns.{ride_both, run_both, law_kept_runs}
+use Rattle.uc_rooted_runs.proofs.KeptRuns.{at_state, run_both, law_kept_runs}
 use Rattle.uc_rooted_runs.proofs.MadeRuns as made_runs
 use Rattle.uc_rooted_runs.proofs.MadeRuns.{BelowMade, made_grows, step_made, parked_made, law_made_runs}
 use Rattle.uc_rooted_runs.proofs.MainRuns.{law_mains}
 use Rattle.uc_rooted_runs.proofs.OutlastNames as outlast_names
-use Rattle.uc_rooted_runs.proofs.OutlastNames.{born_there, law_outlast_names}
+use Rattle.uc_rooted_runs.proofs.OutlastNames.{MadeBelow, born_there, names_at, below_behind}
 use Rattle.uc_rooted_runs.proofs.OutlastRuns as outlast
+use Rattle.uc_making_laws.specs.RideWhile.{RideWhile}
 use Rattle.uc_making_laws.specs.Upheld.{MadeLaterTo, UpheldAt, LawUpheld}
 
 -- a hand in which each object stands once
@@ -116,14 +118,14 @@ settled_keys ks s (inr h) = h.env.keys_are
 
 -- the world on the way
 
-module _ (whole : Makers) (before : Outside) (asked : Exec → Bool) where
+module _ (whole : Makers) (homes : ℕ → Value) (asked : Exec → Bool) where
   abbrev makers : Makers
-  makers = with_before before whole
+  makers = with_homes homes whole
 
-  module _ (source : Source) (j : Journal) (w : World) (u : ℕ) (ks : List ℕ) (once : Once ks) (same : ks ≡ held u j) (first : Exec → Bool) (h : OutlastWorld (with_before before whole) (now (with_before before whole) asked first) j w) (apart : IsElsewhere j w u) (there : AllMade first j w) where
+  module _ (source : Source) (j : Journal) (w : World) (u : ℕ) (ks : List ℕ) (once : Once ks) (same : ks ≡ held u j) (first : Exec → Bool) (h : OutlastWorld (with_homes homes whole) (now (with_homes homes whole) asked first) j w) (apart : IsElsewhere j w u) (there : AllMade first j w) where
     -- what goes along
     record On (made : Exec → Bool) (v : State) : Type 0 where
-      state : HeldState source (seating (with_before before whole)) (now (with_before before whole) asked made) v
+      state : HeldState source (seating (with_homes homes whole)) (now (with_homes homes whole) asked made) v
       serials : Home → ℕ
       named : Named (at_hand j w u) false serials v
       settled : Settled ks v
@@ -134,29 +136,29 @@ module _ (whole : Makers) (before : Outside) (asked : Exec → Bool) where
 
     module _ (made : Exec → Bool) (v : State) (o : On made v) where
       abbrev Up : Exec → Bool
-      Up = now (with_before before whole) asked made
+      Up = now (with_homes homes whole) asked made
 
       -- elsewhere nobody has made any meanwhile
-      none_made : (m : Exec) → at_hand j w u m.home ≡ false → (x : Exec) → now (with_before before whole) asked made x ≡ true → now (with_before before whole) asked first x ≡ false → whole.parent x ≡ m → ⊥
+      none_made : (m : Exec) → at_hand j w u m.home ≡ false → (x : Exec) → now (with_homes homes whole) asked made x ≡ true → now (with_homes homes whole) asked first x ≡ false → whole.parent x ≡ m → ⊥
       none_made m away x g f e =
-          let new : first x ≡ false = outlast.not_now whole before asked first x (outlast.now_asked whole before asked made x g) f in
-          let at = o.mine x (outlast.now_made whole before asked made x g) new in
+          let new : first x ≡ false = outlast.not_now whole homes asked first x (outlast.now_asked whole homes asked made x g) f in
+          let at = o.mine x (outlast.now_made whole homes asked made x g) new in
           no_both (at_hand j w u m.home) (ap (λ (k : Exec). at_hand j w u k.home) (sym e) ∙ at) away
 
-      old_stack : (x : ℕ) → x < task_count j → has_ended x j ≡ false → (x == u) ≡ false → Outlasts (with_before before whole) (now (with_before before whole) asked made) (w.tasks x).env.exec ((w.tasks x).run ∷ (w.tasks x).callers)
+      old_stack : (x : ℕ) → x < task_count j → has_ended x j ≡ false → (x == u) ≡ false → Outlasts (with_homes homes whole) (now (with_homes homes whole) asked made) (w.tasks x).env.exec ((w.tasks x).run ∷ (w.tasks x).callers)
       old_stack x lt i e =
-          outlast.ends_more (with_before before whole) (now (with_before before whole) asked first) (now (with_before before whole) asked made) (w.tasks x).env.exec ((w.tasks x).run ∷ (w.tasks x).callers) (λ y g f r. absurd (none_made (w.tasks x).env.exec (apart.running x lt e) y g f r)) (h.stacks x lt i)
+          outlast.ends_more (with_homes homes whole) (now (with_homes homes whole) asked first) (now (with_homes homes whole) asked made) (w.tasks x).env.exec ((w.tasks x).run ∷ (w.tasks x).callers) (λ y g f r. absurd (none_made (w.tasks x).env.exec (apart.running x lt e) y g f r)) (h.stacks x lt i)
 
       abbrev Away : Exec → Execution (List Todo) Value → Type 0
       Away m y = at_hand j w u m.home ≡ false
 
-      old_ex : (m : Exec) (y : Execution (List Todo) Value) → at_hand j w u m.home ≡ false → OutlastEx (with_before before whole) (now (with_before before whole) asked first) m y → OutlastEx (with_before before whole) (now (with_before before whole) asked made) m y
+      old_ex : (m : Exec) (y : Execution (List Todo) Value) → at_hand j w u m.home ≡ false → OutlastEx (with_homes homes whole) (now (with_homes homes whole) asked first) m y → OutlastEx (with_homes homes whole) (now (with_homes homes whole) asked made) m y
       old_ex m y away k =
-          outlast.ends_more (with_before before whole) (now (with_before before whole) asked first) (now (with_before before whole) asked made) m (y.run ∷ y.callers) (λ x g f r. absurd (none_made m away x g f r)) k
+          outlast.ends_more (with_homes homes whole) (now (with_homes homes whole) asked first) (now (with_homes homes whole) asked made) m (y.run ∷ y.callers) (λ x g f r. absurd (none_made m away x g f r)) k
 
-      old_env : (x : ℕ) → (x == u) ≡ false → EnvBy (OutlastEx (with_before before whole) (now (with_before before whole) asked made)) (w.tasks x).env
+      old_env : (x : ℕ) → (x == u) ≡ false → EnvBy (OutlastEx (with_homes homes whole) (now (with_homes homes whole) asked made)) (w.tasks x).env
       old_env x e =
-          both_env Away (OutlastEx (with_before before whole) (now (with_before before whole) asked first)) (OutlastEx (with_before before whole) (now (with_before before whole) asked made)) old_ex (w.tasks x).env (apart.tasks x e) (h.tasks x)
+          both_env Away (OutlastEx (with_homes homes whole) (now (with_homes homes whole) asked first)) (OutlastEx (with_homes homes whole) (now (with_homes homes whole) asked made)) old_ex (w.tasks x).env (apart.tasks x e) (h.tasks x)
 
       -- what is in hand is held
       hand_is : keys v.env.hand ≡ held u j
@@ -165,19 +167,19 @@ module _ (whole : Makers) (before : Outside) (asked : Exec → Bool) where
       away : (q : ℕ) → find q v.env.hand ≡ None → has (held u j) q ≡ false
       away q e = sym (ap (λ l. has l q) hand_is) ∙ found_none q v.env.hand e
 
-      old_home : (q : ℕ) → find q v.env.hand ≡ None → MembersBy (OutlastEx (with_before before whole) (now (with_before before whole) asked made)) (home.Object q) (w.homes q)
+      old_home : (q : ℕ) → find q v.env.hand ≡ None → MembersBy (OutlastEx (with_homes homes whole) (now (with_homes homes whole) asked made)) (home.Object q) (w.homes q)
       old_home q e =
-          both_members Away (OutlastEx (with_before before whole) (now (with_before before whole) asked first)) (OutlastEx (with_before before whole) (now (with_before before whole) asked made)) old_ex (home.Object q) (w.homes q) (apart.homes q (away q e)) (h.homes q)
+          both_members Away (OutlastEx (with_homes homes whole) (now (with_homes homes whole) asked first)) (OutlastEx (with_homes homes whole) (now (with_homes homes whole) asked made)) old_ex (home.Object q) (w.homes q) (apart.homes q (away q e)) (h.homes q)
 
       or_home : (P : Exec → Execution (List Todo) Value → Type 0) (q : ℕ) (z : Option Members) → find q v.env.hand ≡ z → MembersBy P (home.Object q) z → (find q v.env.hand ≡ None → MembersBy P (home.Object q) (w.homes q)) → MembersBy P (home.Object q) (or_else z (w.homes q))
       or_home P q None e m f = f e
       or_home P q (Some z) e m f = m
 
-      outlasts : OutlastWorld (with_before before whole) (now (with_before before whole) asked made) j (world_at w u v)
+      outlasts : OutlastWorld (with_homes homes whole) (now (with_homes homes whole) asked made) j (world_at w u v)
       outlasts = record {
-        stacks = λ x lt i. tested (λ (y : State). Outlasts (with_before before whole) (now (with_before before whole) asked made) y.env.exec (y.run ∷ y.callers)) (x == u) v (w.tasks x) (λ e. outlast.state_ends (with_before before whole) (now (with_before before whole) asked made) source v o.state) (λ e. old_stack x lt i e);
-        tasks = λ x. tested (λ (y : State). EnvBy (OutlastEx (with_before before whole) (now (with_before before whole) asked made)) y.env) (x == u) v (w.tasks x) (λ e. outlast.env_ends (with_before before whole) (now (with_before before whole) asked made) source v.env o.state.env) (λ e. old_env x e);
-        homes = λ q. or_home (OutlastEx (with_before before whole) (now (with_before before whole) asked made)) q (find q v.env.hand) refl (found_hand (OutlastEx (with_before before whole) (now (with_before before whole) asked made)) q v.env.hand (outlast.env_ends (with_before before whole) (now (with_before before whole) asked made) source v.env o.state.env).hand) (old_home q);
+        stacks = λ x lt i. tested (λ (y : State). Outlasts (with_homes homes whole) (now (with_homes homes whole) asked made) y.env.exec (y.run ∷ y.callers)) (x == u) v (w.tasks x) (λ e. outlast.state_ends (with_homes homes whole) (now (with_homes homes whole) asked made) source v o.state) (λ e. old_stack x lt i e);
+        tasks = λ x. tested (λ (y : State). EnvBy (OutlastEx (with_homes homes whole) (now (with_homes homes whole) asked made)) y.env) (x == u) v (w.tasks x) (λ e. outlast.env_ends (with_homes homes whole) (now (with_homes homes whole) asked made) source v.env o.state.env) (λ e. old_env x e);
+        homes = λ q. or_home (OutlastEx (with_homes homes whole) (now (with_homes homes whole) asked made)) q (find q v.env.hand) refl (found_hand (OutlastEx (with_homes homes whole) (now (with_homes homes whole) asked made)) q v.env.hand (outlast.env_ends (with_homes homes whole) (now (with_homes homes whole) asked made) source v.env o.state.env).hand) (old_home q);
       }
 
       -- all that are there were made by now
@@ -213,12 +215,12 @@ module _ (whole : Makers) (before : Outside) (asked : Exec → Bool) where
         homes = λ q. or_home Made q (find q v.env.hand) refl (found_hand Made q v.env.hand env_made.hand) (λ e. both_members First First Made (λ n y a b. still n a) (home.Object q) (w.homes q) (there.homes q) (there.homes q));
       }
 
-      upheld_at : IsOwn j w u v → UpheldAt (with_before before whole) asked j w u v
+      upheld_at : IsOwn j w u v → UpheldAt (with_homes homes whole) asked j w u v
       upheld_at own = record { own = own; hand = hand_is; made = made; outlasts = outlasts; there = all_there; later = o.later }
 
       -- the next step
 
-      module _ (a : OutlastsAt (with_before before whole) asked source made v) (l : MakesLater source whole v) (own : IsOwn j w u v) where
+      module _ (a : OutlastsAt (with_homes homes whole) asked source made v) (l : MakesLater source whole v) (own : IsOwn j w u v) where
         abbrev behind : Exec → Bool
         behind = made_behind source v made
 
@@ -243,7 +245,7 @@ module _ (whole : Makers) (before : Outside) (asked : Exec → Bool) where
             by (inl k) = law_steps.settled source ks v k
             by (inr k) = law_steps.bound source ks v k
 
-        on_with : (x : State) → HeldState source (seating (with_before before whole)) (now (with_before before whole) asked (made_behind source v made)) x → ((k : Home → ℕ) → StepNamed (at_hand j w u) false k (quiet source v) → Named (at_hand j w u) false k x) → (StepHolding ks (quiet source v) → Settled ks x) → On (made_behind source v made) x
+        on_with : (x : State) → HeldState source (seating (with_homes homes whole)) (now (with_homes homes whole) asked (made_behind source v made)) x → ((k : Home → ℕ) → StepNamed (at_hand j w u) false k (quiet source v) → Named (at_hand j w u) false k x) → (StepHolding ks (quiet source v) → Settled ks x) → On (made_behind source v made) x
         on_with x st f s =
             let b = walk source (at_hand j w u) false o.serials v o.named (λ u. vacuous u) in
             record {
@@ -259,19 +261,37 @@ module _ (whole : Makers) (before : Outside) (asked : Exec → Bool) where
 
         on_goes : (x : State) → quiet source v ≡ Goes x → On (made_behind source v made) x
         on_goes x e =
-            on_with x (outlast.step_goes whole before asked source made v o.state a l x e) (λ k z. subst (StepNamed (at_hand j w u) false k) e z) (λ z. inl (subst (StepHolding ks) e z))
+            on_with x (outlast.step_goes whole homes asked source made v o.state a l x e) (λ k z. subst (StepNamed (at_hand j w u) false k) e z) (λ z. inl (subst (StepHolding ks) e z))
 
         on_ticks : (x : State) → quiet source v ≡ Ticks x → On (made_behind source v made) x
         on_ticks x e =
-            on_with x (law_held.goes_on source (seating (with_before before whole)) (now (with_before before whole) asked (made_behind source v made)) x (outlast.step_ticks whole before asked source made v o.state a l x e)) (λ k z. subst (StepNamed (at_hand j w u) false k) e z) (λ z. inl (subst (StepHolding ks) e z))
+            on_with x (law_held.goes_on source (seating (with_homes homes whole)) (now (with_homes homes whole) asked (made_behind source v made)) x (outlast.step_ticks whole homes asked source made v o.state a l x e)) (λ k z. subst (StepNamed (at_hand j w u) false k) e z) (λ z. inl (subst (StepHolding ks) e z))
 
-    ride_upheld : (made : Exec → Bool) {s v : State} {q k : ℕ} {a : Asked} (r : Rides source s q v k a) → RideOutlasts (with_before before whole) asked source made r → RideMeets (MakesLater source whole) source s q v k a r → RideMeets (StaysOwn source j w u) source s q v k a r → On made s → RideMeets (UpheldAt (with_before before whole) asked j w u) source s q v k a r
-    ride_upheld made slices a l n o = tt
-    ride_upheld made (goes_on {s} {t} e r) a l n o =
-        (upheld_at made s o n.0.now, ride_upheld (made_behind source s made) r a.1 l.1 n.1 (on_goes made s o a.0 l.0 n.0.now t e))
-    ride_upheld made (ticks {s} {t} e r) a l n o =
-        (upheld_at made s o n.0.now, ride_upheld (made_behind source s made) r a.1 l.1 n.1 (on_ticks made s o a.0 l.0 n.0.now t e))
-    ride_upheld made (asks {s} e) a l n o = upheld_at made s o n.now
+    -- each state of a ride: who runs has its name alone there, as long as no step before forgot the running execution; and no new name is that of one
+    -- that made one of those that were made by then
+    ride_upheld : (made : Exec → Bool) (counts : Home → ℕ) {s v : State} {q k : ℕ} {a : Asked} (r : Rides source s q v k a) → RideMeets (EndsMains source) source s q v k a r → RideKeeps (with_homes homes whole) asked source made r → RideMeets (MakesLater source whole) source s q v k a r → ((x : State) (l : Leads source s x) → LeadsMeet names.Spares source s x l → IsOwn j w u x) → Named (at_hand j w u) false counts s → MadeBelow whole homes asked counts made → On made s → RideWhile names.Spares (UpheldAt (with_homes homes whole) asked j w u) source s q v k a r
+    ride_upheld made counts slices f c l own n h o = tt
+    ride_upheld made counts (goes_on {s} {t} e r) f c l own n h o =
+        let now : IsOwn j w u s = own s way.stays tt in (
+          upheld_at made s o now,
+          λ spared.
+              let both : StaysOwn source j w u s = record { now = now; next = subst (StepOwn j w u) (sym e) (own t (way.goes e way.stays) (spared, tt)) } in
+              let names = names_at whole homes asked source j w u counts made s n h both l.0 in
+              let out = at_state (with_homes homes whole) asked source made s f.0 c.0 names in
+              let b = walk source (at_hand j w u) false counts s n (λ u. vacuous u) in
+              ride_upheld (made_behind source s made) b.serials r f.1 c.1 l.1 (λ x m y. own x (way.goes e m) (spared, y)) (subst (StepNamed (at_hand j w u) false b.serials) e b.named) (below_behind whole homes asked source j w u counts made s n h both l.0 b.serials b.grows.more) (on_goes made s o out l.0 now t e),
+        )
+    ride_upheld made counts (ticks {s} {t} e r) f c l own n h o =
+        let now : IsOwn j w u s = own s way.stays tt in (
+          upheld_at made s o now,
+          λ spared.
+              let both : StaysOwn source j w u s = record { now = now; next = subst (StepOwn j w u) (sym e) (own t (way.ticks e way.stays) (spared, tt)) } in
+              let names = names_at whole homes asked source j w u counts made s n h both l.0 in
+              let out = at_state (with_homes homes whole) asked source made s f.0 c.0 names in
+              let b = walk source (at_hand j w u) false counts s n (λ u. vacuous u) in
+              ride_upheld (made_behind source s made) b.serials r f.1 c.1 l.1 (λ x m y. own x (way.ticks e m) (spared, y)) (subst (StepNamed (at_hand j w u) false b.serials) e b.named) (below_behind whole homes asked source j w u counts made s n h both l.0 b.serials b.grows.more) (on_ticks made s o out l.0 now t e),
+        )
+    ride_upheld made counts (asks {s} e) f c l own n h o = upheld_at made s o (own s way.stays tt)
 
 -- the keys of a hand stay along a ride
 
@@ -301,51 +321,40 @@ module _ (source : Source) (input : List ℕ) (opts : Options) (range : InRange 
         rides = ride_more source (MakesBelow source z.now z.births) (MakesLater source z.births) (λ s h. h.later) d.rides z.makes;
       }
 
-  module _ (leaves : RunLeaves source input opts j w r) (spares : RunMeets names.Spares source input opts j w r) (mains : RunMeets (CallsNoMain source) source input opts j w r) (spared : RideMeets names.Spares source (answered source d.given (drawn j w u)) (left opts j u) s n q d.rides) (mained : RideMeets (CallsNoMain source) source (answered source d.given (drawn j w u)) (left opts j u) s n q d.rides) (b : MadeLaterTo source input opts j w r p u n s q d) (before : Outside) (asked : Exec → Bool) (kept : RunKeeps (with_before before b.makers) asked source input opts r) (keeps : RideKeeps (with_before before b.makers) asked source (run_made source input opts r) d.rides) where
-    abbrev all_later : AllMadeLater source input opts j w r
-    all_later = record { makers = b.makers; made = b.made; spawned = b.spawned }
+  module _ (leaves : RunLeaves source input opts j w r) (spares : RunMeets names.Spares source input opts j w r) (mains : RunMeets (CallsNoMain source) source input opts j w r) (mained : RideMeets (CallsNoMain source) source (answered source d.given (drawn j w u)) (left opts j u) s n q d.rides) where
+    -- who runs has its name alone, as long as no step before forgot the running execution
+    pub own_at : (x : State) (l : Leads source (answered source d.given (drawn j w u)) x) → LeadsMeet names.Spares source (answered source d.given (drawn j w u)) x l → IsOwn j w u x
+    own_at x l h = (law_own_names source input opts j w r range fits on leaves spares).comes u x (record { given = d.given; processor = p; runs = d.runs; told = d.told; leads = l }) h
 
-    -- who runs has its name alone, along the way
-    pub owns : RideMeets (StaysOwn source j w u) source (answered source d.given (drawn j w u)) (left opts j u) s n q d.rides
-    owns =
-        let y = run_named source input opts range r fits on in
-        let x = run_runs source input opts range r fits on leaves spares in
-        let e = own_start source input opts range rests on u d.given d.told in
-        (ride_owns source j w u e.hand e.once y.serials d.rides (begins_alone source input opts range rests on y.serials y.world x p u d.runs d.given d.told) e.settled spared).0
-
-    ends : RideMeets (EndsMains source) source (answered source d.given (drawn j w u)) (left opts j u) s n q d.rides
+    pub ends : RideMeets (EndsMains source) source (answered source d.given (drawn j w u)) (left opts j u) s n q d.rides
     ends = (law_mains.runs source input opts (j ++ act opts source.sites input j p u n q) (world_after source (act opts source.sites input j p u n q) w u s) (more r on (acts p u n s q d)) (mains, mained)).1
 
-    outlasts_along : RideOutlasts (with_before before b.makers) asked source (run_made source input opts r) d.rides
-    outlasts_along =
-        let y = outlast_names.run_told b.makers before asked source input opts range r fits on leaves spares b.made b.spawned in
-        let t = outlast_names.ride_told b.makers before asked source j w u y.serials (run_made source input opts r) d.rides (start source input opts range rests on y.serials y.world p u d.runs d.given d.told) y.below owns b.rides in
-        ride_both (with_before before b.makers) asked source (run_made source input opts r) d.rides ends keeps t.names
-
-    upheld_along : RideMeets (UpheldAt (with_before before b.makers) asked j w u) source (answered source d.given (drawn j w u)) (left opts j u) s n q d.rides
-    upheld_along =
-        let e = own_start source input opts range rests on u d.given d.told in
-        let y = made_runs.run_told source input opts range r fits on in
-        let lt : u < task_count j = known source input opts range rests on y.serials y.world p u d.runs in
-        let h : OutlastWorld (with_before before b.makers) (now (with_before before b.makers) asked (run_made source input opts r)) j w = law_kept_runs asked before source input opts j w r range fits on leaves spares mains (record { makers = b.makers; made = b.made; spawned = b.spawned }) kept in
-        let held_world = outlast.run_outlasts b.makers before asked source input opts range r fits on (run_both (with_before before b.makers) asked source input opts r (law_mains.runs source input opts j w r mains) kept (law_outlast_names asked before source input opts j w r range fits on leaves spares (record { makers = b.makers; made = b.made; spawned = b.spawned }))) b.made b.spawned in
-        let apart = (law_own_names source input opts j w r range fits on leaves spares).elsewhere u lt in
-        let there = law_made_runs.there source input opts j w r range fits on in
-        let same : e.hand ≡ held u j = sym (ride_keys source e.hand d.rides e.settled) ∙ (asks_with source input opts range rests on p u n s q d).hand in
-        ride_upheld b.makers before asked source j w u e.hand e.once same (run_made source input opts r) h apart there (run_made source input opts r) d.rides outlasts_along b.rides owns (record {
-          state = law_held.goes_on source (seating (with_before before b.makers)) (now (with_before before b.makers) asked (run_made source input opts r)) (answered source d.given (drawn j w u)) (law_held.told source (seating (with_before before b.makers)) (now (with_before before b.makers) asked (run_made source input opts r)) (asked_form u j) d.given (drawn j w u) (law_suiting opts source.sites input j rests.kernel on u d.given d.told) (outlast.drawn_told b.makers before asked source (now (with_before before b.makers) asked (run_made source input opts r)) j w u lt (law_alive opts source.sites input j rests.kernel on p u d.runs) held_world));
-          serials = y.serials;
-          named = start source input opts range rests on y.serials y.world p u d.runs d.given d.told;
-          settled = e.settled;
-          below = y.all;
-          mine = λ x g f. no_both (run_made source input opts r x) g f;
-          grown = λ x g. g;
-          later = law_made_runs.later source input opts j w r (record { makers = b.makers; made = b.made; spawned = b.spawned });
-        })
+    module _ (b : MadeLaterTo source input opts j w r p u n s q d) (homes : ℕ → Value) (asked : Exec → Bool) (kept : RunKeeps (with_homes homes b.makers) asked source input opts r) (keeps : RideKeeps (with_homes homes b.makers) asked source (run_made source input opts r) d.rides) where
+      upheld_along : RideWhile names.Spares (UpheldAt (with_homes homes b.makers) asked j w u) source (answered source d.given (drawn j w u)) (left opts j u) s n q d.rides
+      upheld_along =
+          let e = own_start source input opts range rests on u d.given d.told in
+          let y = made_runs.run_told source input opts range r fits on in
+          let z = outlast_names.run_told b.makers homes asked source input opts range r fits on leaves spares b.made b.spawned in
+          let lt : u < task_count j = known source input opts range rests on y.serials y.world p u d.runs in
+          let h : OutlastWorld (with_homes homes b.makers) (now (with_homes homes b.makers) asked (run_made source input opts r)) j w = law_kept_runs asked homes source input opts j w r range fits on leaves spares mains (record { makers = b.makers; made = b.made; spawned = b.spawned }) kept in
+          let held_world = outlast.run_outlasts b.makers homes asked source input opts range r fits on (run_both (with_homes homes b.makers) asked source input opts r (law_mains.runs source input opts j w r mains) kept z.names) b.made b.spawned in
+          let apart = (law_own_names source input opts j w r range fits on leaves spares).elsewhere u lt in
+          let there = law_made_runs.there source input opts j w r range fits on in
+          let same : e.hand ≡ held u j = sym (ride_keys source e.hand d.rides e.settled) ∙ (asks_with source input opts range rests on p u n s q d).hand in
+          ride_upheld b.makers homes asked source j w u e.hand e.once same (run_made source input opts r) h apart there (run_made source input opts r) z.serials d.rides ends keeps b.rides own_at (start source input opts range rests on z.serials z.world p u d.runs d.given d.told) z.below (record {
+            state = law_held.goes_on source (seating (with_homes homes b.makers)) (now (with_homes homes b.makers) asked (run_made source input opts r)) (answered source d.given (drawn j w u)) (law_held.told source (seating (with_homes homes b.makers)) (now (with_homes homes b.makers) asked (run_made source input opts r)) (asked_form u j) d.given (drawn j w u) (law_suiting opts source.sites input j rests.kernel on u d.given d.told) (outlast.drawn_told b.makers homes asked source (now (with_homes homes b.makers) asked (run_made source input opts r)) j w u lt (law_alive opts source.sites input j rests.kernel on p u d.runs) held_world));
+            serials = y.serials;
+            named = start source input opts range rests on y.serials y.world p u d.runs d.given d.told;
+            settled = e.settled;
+            below = y.all;
+            mine = λ x g f. no_both (run_made source input opts r x) g f;
+            grown = λ x g. g;
+            later = law_made_runs.later source input opts j w r (record { makers = b.makers; made = b.made; spawned = b.spawned });
+          })
 
 pub law_upheld : LawUpheld
 law_upheld = record {
   births = λ source input opts j w r range fits on p u n s q d. births_to source input opts range r fits on p u n s q d;
-  upheld = λ asked before source input opts j w r range fits on leaves spares mains p u n s q d spared mained b kept keeps.
-      upheld_along source input opts range r fits on p u n s q d leaves spares mains spared mained b before asked kept keeps;
+  upheld = λ asked homes source input opts j w r range fits on leaves spares mains p u n s q d mained b kept keeps.
+      upheld_along source input opts range r fits on p u n s q d leaves spares mains mained b homes asked kept keeps;
 }

@@ -1,4 +1,5 @@
--- Just before an object goes, or its building is given up, it is nowhere in the world: so nobody else has it at hand.
+-- Just before an object goes, or its building is given up, it is nowhere in the world: so nobody else has it at hand; and as an event is raised at one, what
+-- executions have of others stands upwards.
 use Rattle.std.specs.Prelude.{◌≡◌, ℕ, Bool, true, false, List, [], ◌∷◌}
 use Rattle.uc_tree.specs.Source.{Source}
 use Rattle.uc_entry.specs.declared.entry.Options.{Options}
@@ -8,7 +9,7 @@ use Rattle.uc_acts.specs.KernelRuns.{InRange}
 use Rattle.uc_acts.specs.Serves.{left}
 use Rattle.uc_machine.specs.declared.exec.Exec.{Exec}
 use Rattle.uc_machine.specs.Monitors.{this_object}
-use Rattle.uc_machine.specs.Pieces.{Value, Todo, GoneNow, GiveUpNow, Active, State}
+use Rattle.uc_machine.specs.Pieces.{Value, Todo, GoneNow, GiveUpNow, RaiseAtNow, Active, State}
 use Rattle.uc_machine.specs.Answering.{answered}
 use Rattle.uc_meaning.specs.Runs.{World, Runs, AsksIn, drawn}
 use Rattle.uc_state_laws.specs.Fitting.{RunFits}
@@ -18,64 +19,81 @@ use Rattle.uc_life_laws.specs.RunningRuns.{RunLeaves}
 use Rattle.uc_typing.specs.Typing.{Ty, Cell, Obj, Table}
 use Rattle.uc_life_laws.specs.Things.{Few, Base, Stands}
 use Rattle.uc_life_laws.specs.Knowing.{KnowsState, main_of}
+use Rattle.uc_life_laws.specs.Belonging.{Belongs}
 use Rattle.uc_life_laws.specs.Marks.{Puts}
-use Rattle.uc_life_laws.specs.Rooted.{Lives, Yet, OwnObject}
+use Rattle.uc_life_laws.specs.Rooted.{Lives, Yet, OwnObject, StandsUpwards}
 use Rattle.uc_apart_laws.specs.Before.{world_at, Before}
 use Rattle.uc_apart_laws.specs.Clear.{IsClearAt}
-use Rattle.uc_rooted_runs.specs.Makers.{Outside, Makers}
+use Rattle.uc_rooted_runs.specs.Makers.{Makers}
 use Rattle.uc_rooted_runs.specs.Binds.{BindsOwn}
 use Rattle.uc_rooted_runs.specs.Mains.{CallsNoMain, FindsAll}
-use Rattle.uc_rooted_runs.specs.OutlastRuns.{with_before, run_made}
+use Rattle.uc_rooted_runs.specs.OutlastRuns.{with_homes, run_made}
 use Rattle.uc_rooted_runs.specs.KeptRuns.{RideKeeps, RunKeeps, IsStood}
 use Rattle.uc_making_laws.specs.OwnThis.{FindsThis}
+use Rattle.uc_making_laws.specs.RideWhile.{RideWhile}
 use Rattle.uc_making_laws.specs.Upheld.{MadeLaterTo}
 
 module _ (t : Table) (few : Few) (own : Exec → Value → Ty → Bool) (yet : Exec → List Active → Value → Ty → Bool) (makers : Makers) (asked : Exec → Bool) (j : Journal) (w : World) (u : ℕ) (v : State) where
-  -- while task u has come to a state: what those that live have of others stood in what those had that made them; where an object is in the own object of
-  -- one that lives, it stands there in what one that lives is to clean up; it does not stand in what is told beside the marks; and it is not the object of
-  -- the program's main
-  pub record IsRootedOnWay (o : ℕ) : Type 0 where
+  -- while task u has come to a state: what those that live have of others stood in what those had that made them
+  pub record IsStoodOnWay : Type 0 where
     pub first : (z : Value) (b : Ty) → Base few (main_of 0) z b → own (main_of 0) z b ≡ true
     pub based : (n : Exec) (cs : List Active) → Lives j (world_at w u v) n cs → (z : Value) (b : Ty) → Base few n z b → own n z b ≡ false →
         IsStood t few makers asked yet j (world_at w u v) n z b
+
+  -- so it is; where an object is in the own object of one that lives, it stands there in what one that lives is to clean up; and it does not stand in what
+  -- is told beside the marks
+  pub record IsRootedOnWay (o : ℕ) : Type 0 where
+    pub stood : IsStoodOnWay
     pub covered : (n : Exec) (cs : List Active) → Lives j (world_at w u v) n cs → (c : ℕ) →
         Stands t few (OwnObject few own n) (Cell (Obj c)) (few.home o) →
         (m : Exec) × (ds : List Active) × Lives j (world_at w u v) m ds × (d : ℕ) × Stands t few (Yet t yet m ds) (Cell (Obj d)) (few.home o)
     pub told : (n : Exec) (cs : List Active) → Lives j (world_at w u v) n cs → (c : ℕ) →
         Stands t few (λ z b. yet n cs z b ≡ true) (Cell (Obj c)) (few.home o) → ⊥
-    pub other : o ≡ 0 → ⊥
 
-  -- so it is where an object goes, or is given up; of what else is let go of, or is entered again to be destroyed, those of whom it is asked are clear
+  -- so it is where an object goes, or is given up, and the first where an event is raised at one; of what else is let go of, or is entered again to be
+  -- destroyed, those of whom it is asked are clear
   abbrev pub RootedOnWayBy : Source → List Todo → Type 0
   RootedOnWayBy source (GoneNow ∷ todo) = IsRootedOnWay (this_object v)
   RootedOnWayBy source (GiveUpNow ∷ todo) = IsRootedOnWay (this_object v)
+  RootedOnWayBy source (RaiseAtNow ∷ todo) = IsStoodOnWay
   RootedOnWayBy source todo = (k : KnowsState t few [] v) → IsClearAt t few source v k todo
 
   abbrev pub RootedOnWay : Source → Type 0
   RootedOnWay source = RootedOnWayBy source v.run.control
 
+-- where an event is raised at an object what those that live have of others stands upwards, in the world as it stands while task u has come there
+module _ (t : Table) (few : Few) (own : Exec → Value → Ty → Bool) (yet : Exec → List Active → Value → Ty → Bool) (rank : Exec → ℕ) (j : Journal) (w : World) (u : ℕ) (v : State) where
+  abbrev pub RaisesUpwardsBy : List Todo → Type 0
+  RaisesUpwardsBy (RaiseAtNow ∷ todo) = StandsUpwards t few j (world_at w u v) own yet rank
+  RaisesUpwardsBy todo = Unit {0}
+
+  abbrev pub RaisesUpwards : Type 0
+  RaisesUpwards = RaisesUpwardsBy v.run.control
+
 -- on the way to what a task asks next, behind a run in which all that was asked so far fits, no step forgets the running execution, calls a main or binds
 -- what stands in a frame of another one, routines are there and unwindings have reasons, nobody leaves its home for good, marks are put for what is an
--- execution's own, and activations have their objects: just before an object goes, or its building is given up, it is nowhere in the world, and who does
--- not run in the task spares it, as long as of some executions what was to be cleaned up as they were made stays (`RunKeeps`, `RideKeeps`)
+-- execution's own, object 0 is at home in nobody's own, and activations have their objects: just before an object goes, or its building is given up, it is nowhere in the world, and who does
+-- not run in the task spares it, as long as of some executions what was to be cleaned up as they were made stays (`RunKeeps`, `RideKeeps`); and where an
+-- event is raised at an object, what executions have of others stands upwards; so it is before the first step that forgets the running execution, if there
+-- is one
 abbrev pub LawBeforeRides : Type 0
 LawBeforeRides =
     (t : Table) (few : Few) (own : Exec → Value → Ty → Bool) (yet : Exec → List Active → Value → Ty → Bool)
     (source : Source) (input : List ℕ) (opts : Options) (j : Journal) (w : World)
     (r : Runs source input opts j w) → InRange opts → RunFits source input opts j w r → is_over j ≡ false →
+    ((n : Exec) → Belongs few n (few.home 0) → ⊥) →
     RunLeaves source input opts j w r → RunMeets names.Spares source input opts j w r →
     RunMeets (BindsOwn source) source input opts j w r → RunMeets (CallsNoMain source) source input opts j w r →
     RunMeets (FindsAll source) source input opts j w r → RunMeets (Puts t few) source input opts j w r →
     RunMeets (FindsThis t few source) source input opts j w r →
     (p u n : ℕ) (s : State) (q : Asked) (d : AsksIn source opts j w p u n s q) →
-    RideMeets names.Spares source (answered source d.given (drawn j w u)) (left opts j u) s n q d.rides →
     RideMeets (BindsOwn source) source (answered source d.given (drawn j w u)) (left opts j u) s n q d.rides →
     RideMeets (CallsNoMain source) source (answered source d.given (drawn j w u)) (left opts j u) s n q d.rides →
     RideMeets (FindsAll source) source (answered source d.given (drawn j w u)) (left opts j u) s n q d.rides →
     RideMeets (Puts t few) source (answered source d.given (drawn j w u)) (left opts j u) s n q d.rides →
     RideMeets (FindsThis t few source) source (answered source d.given (drawn j w u)) (left opts j u) s n q d.rides →
-    (b : MadeLaterTo source input opts j w r p u n s q d) (asked : Exec → Bool) (before : Outside) →
-    RunKeeps (with_before before b.makers) asked source input opts r →
-    RideKeeps (with_before before b.makers) asked source (run_made source input opts r) d.rides →
-    RideMeets (λ v. RootedOnWay t few own yet (with_before before b.makers) asked j w u v source) source (answered source d.given (drawn j w u)) (left opts j u) s n q d.rides →
-    RideMeets (λ v. Before t few j w u v source) source (answered source d.given (drawn j w u)) (left opts j u) s n q d.rides
+    (b : MadeLaterTo source input opts j w r p u n s q d) (asked : Exec → Bool) (homes : ℕ → Value) →
+    RunKeeps (with_homes homes b.makers) asked source input opts r →
+    RideKeeps (with_homes homes b.makers) asked source (run_made source input opts r) d.rides →
+    RideMeets (λ v. RootedOnWay t few own yet (with_homes homes b.makers) asked j w u v source) source (answered source d.given (drawn j w u)) (left opts j u) s n q d.rides →
+    RideWhile names.Spares (λ v. Before t few j w u v source × RaisesUpwards t few own yet b.makers.rank j w u v) source (answered source d.given (drawn j w u)) (left opts j u) s n q d.rides

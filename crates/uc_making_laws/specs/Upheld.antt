@@ -7,7 +7,7 @@ use Rattle.uc_acts.specs.Journal.{Journal, held, is_over}
 use Rattle.uc_acts.specs.KernelRuns.{InRange}
 use Rattle.uc_acts.specs.Serves.{left}
 use Rattle.uc_machine.specs.declared.exec.Exec.{Exec}
-use Rattle.uc_machine.specs.Pieces.{State}
+use Rattle.uc_machine.specs.Pieces.{Value, State}
 use Rattle.uc_machine.specs.Answering.{answered}
 use Rattle.uc_meaning.specs.Runs.{World, Runs, AsksIn, drawn}
 use Rattle.uc_step_laws.specs.Hands.{keys}
@@ -17,13 +17,14 @@ use Rattle.uc_name_laws.specs.NameSteps as names
 use Rattle.uc_life_laws.specs.RunningRuns.{RunLeaves}
 use Rattle.uc_life_laws.specs.OwnNames.{IsOwn}
 use Rattle.uc_apart_laws.specs.Before.{world_at}
-use Rattle.uc_rooted_runs.specs.Makers.{Outside, Makers}
+use Rattle.uc_rooted_runs.specs.Makers.{Makers}
 use Rattle.uc_rooted_runs.specs.Births.{MakesLater, RunSpawnsLater}
 use Rattle.uc_rooted_runs.specs.Mains.{CallsNoMain}
-use Rattle.uc_rooted_runs.specs.OutlastRuns.{with_before, run_made, now}
+use Rattle.uc_rooted_runs.specs.OutlastRuns.{with_homes, run_made, now}
 use Rattle.uc_rooted_runs.specs.Upwards.{OutlastWorld}
 use Rattle.uc_rooted_runs.specs.MadeRuns.{AllMade}
 use Rattle.uc_rooted_runs.specs.KeptRuns.{RideKeeps, RunKeeps}
+use Rattle.uc_making_laws.specs.RideWhile.{RideWhile}
 
 -- in a run, and on the way to what is asked next, each execution that is made in a state is made by the running one, and each that is spawned by who
 -- asks that
@@ -44,20 +45,19 @@ pub record UpheldAt (makers : Makers) (asked : Exec → Bool) (j : Journal) (w :
   pub later : (n : Exec) → made n ≡ true → makers.rank (makers.parent n) < makers.rank n
 
 -- of a run in which all that was asked so far fits, no step forgets the running execution or calls a main, and nobody leaves its home for good, and of the
--- way to what is asked next: there are such, and so it is in each state on the way
+-- way to what is asked next, on which no step calls a main: there are such, and so it is in each state on the way before which no step forgot it
 pub record LawUpheld : Type 0 where
   pub births : (source : Source) (input : List ℕ) (opts : Options) (j : Journal) (w : World)
       (r : Runs source input opts j w) → InRange opts → RunFits source input opts j w r → is_over j ≡ false →
       (p u n : ℕ) (s : State) (q : Asked) (d : AsksIn source opts j w p u n s q) →
       MadeLaterTo source input opts j w r p u n s q d
-  pub upheld : (asked : Exec → Bool) (before : Outside) (source : Source) (input : List ℕ) (opts : Options)
+  pub upheld : (asked : Exec → Bool) (homes : ℕ → Value) (source : Source) (input : List ℕ) (opts : Options)
       (j : Journal) (w : World) (r : Runs source input opts j w) → InRange opts → RunFits source input opts j w r →
       is_over j ≡ false → RunLeaves source input opts j w r → RunMeets names.Spares source input opts j w r →
       RunMeets (CallsNoMain source) source input opts j w r →
       (p u n : ℕ) (s : State) (q : Asked) (d : AsksIn source opts j w p u n s q) →
-      RideMeets names.Spares source (answered source d.given (drawn j w u)) (left opts j u) s n q d.rides →
       RideMeets (CallsNoMain source) source (answered source d.given (drawn j w u)) (left opts j u) s n q d.rides →
       (b : MadeLaterTo source input opts j w r p u n s q d) →
-      RunKeeps (with_before before b.makers) asked source input opts r →
-      RideKeeps (with_before before b.makers) asked source (run_made source input opts r) d.rides →
-      RideMeets (UpheldAt (with_before before b.makers) asked j w u) source (answered source d.given (drawn j w u)) (left opts j u) s n q d.rides
+      RunKeeps (with_homes homes b.makers) asked source input opts r →
+      RideKeeps (with_homes homes b.makers) asked source (run_made source input opts r) d.rides →
+      RideWhile names.Spares (UpheldAt (with_homes homes b.makers) asked j w u) source (answered source d.given (drawn j w u)) (left opts j u) s n q d.rides

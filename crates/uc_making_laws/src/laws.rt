@@ -1,6 +1,7 @@
 // The laws: each is a function whose contract is the law.
 
 ghost use Rattle.uc_making_laws.specs.BeforeRides.{LawBeforeRides};
+ghost use Rattle.uc_making_laws.specs.ForgetsThis.{LawForgetsThis};
 ghost use Rattle.uc_making_laws.specs.NoOthers.{LawNoOthers};
 ghost use Rattle.uc_making_laws.specs.OwnThis.{LawThis};
 ghost use Rattle.uc_making_laws.specs.ThisRuns.{LawThisRuns};
@@ -21,13 +22,19 @@ pub fn law_no_others()
     ensures { LawNoOthers }
 {}
 
+/// So nobody has at hand what has gone, in runs in which behind each act by which an object goes nobody has at
+/// hand that in which it was at home, and who acted builds and destroys it no more.
+pub fn law_forgets_this()
+    ensures { LawForgetsThis }
+{}
+
 /// On the way to what a task asks next, what executions were to clean up as they made others stays with them.
 pub fn law_upheld()
     ensures { LawUpheld }
 {}
 
 /// So just before an object goes, or its building is given up, it is nowhere in the world, and who does not run
-/// in the task spares it.
+/// in the task spares it; and where an event is raised, what executions have of others stands upwards.
 pub fn law_before_rides()
     ensures { LawBeforeRides }
 {}

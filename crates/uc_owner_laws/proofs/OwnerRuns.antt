@@ -110,12 +110,13 @@ lives_here j w u s h =
     inl (u, h, ap (λ (x : State). x.env.exec) same, ap (λ (x : State). x.run ∷ x.callers) same)
 
 pub law_owner_runs : LawOwnerRuns
-law_owner_runs p formed accepted few places input opts range j w r fits on fair far n s c met own rank beside k todo control o at apart made there none =
+law_owner_runs p formed accepted few places input opts range j w r fits on fair far n s c met own yet rank beside up k todo control o at apart made there none =
     let seated = law_tasked p formed accepted few.home input opts range j w r fits on fair far in
     let kept = seated.comes n s c met in
     let alive = law_alive opts (source_of p).sites input j (run_rests (source_of p) input opts range r fits on).kernel on c.processor n c.runs in
     let a = law_aimed _ few s k todo control o at in
-    law_owners.aimed p few j (world_at w n s) own rank (record {
+    law_owners.aimed p few j (world_at w n s) own yet rank (record {
       seats = lives_kept p few.home j w seated (rest_bare (source_of p) input opts r) n s kept;
       beside = beside;
+      up = up;
     }) places s.env.exec k.sigs (s.run ∷ s.callers) (lives_here j w n s alive) a.0 o a.1 a.2 (apart a.0) made there none

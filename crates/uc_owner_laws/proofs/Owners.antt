@@ -13,15 +13,15 @@ use Rattle.uc_typing.specs.Typing.{Ty, Cell, Obj, Raw, Sig, Table}
 use Rattle.uc_sound.specs.Tables.{table_of}
 use Rattle.uc_life_laws.specs.Things.{Few, Base, Things, Stands, lies, inside}
 use Rattle.uc_life_laws.specs.Knowing.{InMaking}
-use Rattle.uc_life_laws.specs.Rooted.{IsPlace, Lives, OwnThings, Yet, Had, OwnObject}
+use Rattle.uc_life_laws.specs.Rooted.{IsPlace, Lives, Yet, Had, OwnObject}
 use Rattle.uc_life_laws.proofs.Rooted.{things_split, stands_more, stands_split, stands_things, within_on}
 use Rattle.uc_tasked_laws.specs.Aims.{IsAimed}
 use Rattle.uc_tasked_laws.specs.SeatedStates.{Told, IsFree}
 use Rattle.uc_tasked_laws.specs.TaskedRuns.{is_pending, told_by}
 use Rattle.uc_tasked_laws.proofs.SeatThings.{law_things}
-use Rattle.uc_owner_laws.specs.Owners.{nothing_yet, KeepsOwners, LawOwners}
+use Rattle.uc_owner_laws.specs.Owners.{KeepsOwners, LawOwners}
 
-module _ (p : Program) (few : Few) (j : Journal) (x : World) (own : Exec → Value → Ty → Bool) (rank : Exec → ℕ) (k : KeepsOwners p few j x own rank) where
+module _ (p : Program) (few : Few) (j : Journal) (x : World) (own : Exec → Value → Ty → Bool) (yet : Exec → List Active → Value → Ty → Bool) (rank : Exec → ℕ) (k : KeepsOwners p few j x own yet rank) where
   abbrev t : Table
   t = table_of p
 
@@ -39,7 +39,7 @@ module _ (p : Program) (few : Few) (j : Journal) (x : World) (own : Exec → Val
       by true e = inl (h, e)
       by false e = inr (h, e)
 
-  things_had : (n : Exec) (cs : List Active) (w : Value) (b : Ty) → Things t few n cs w b → Had t few nothing_yet n cs w b
+  things_had : (n : Exec) (cs : List Active) (w : Value) (b : Ty) → Things t few n cs w b → Had t few yet n cs w b
   things_had n cs w b h = ⊎_elim (λ y. inl (inl y)) (λ y. inr y) (things_split t few n cs w b h)
 
   -- such a thing of one that lives stands in what one has that was there before
@@ -48,29 +48,24 @@ module _ (p : Program) (few : Few) (j : Journal) (x : World) (own : Exec → Val
     active : List Active
     living : Lives j x other active
     before : rank other < rank n
-    stands : Stands t few (Had t few nothing_yet other active) b v
+    stands : Stands t few (Had t few yet other active) b v
 
   based : (n : Exec) (cs : List Active) → Lives j x n cs → (b : Ty) (v : Value) → Stands t few (OfOthers n) b v → Before n b v
   based n cs i b v (lies {w = w} {a = d} h l) =
-      let u = k.beside.up n cs i w d h.0 h.1 in
-      record { other = u.0; active = u.1; living = u.2; before = u.3; stands = within_on t few (Had t few nothing_yet u.0 u.1) d w b v u.4 l }
+      let u = k.up n cs i w d h.0 h.1 in
+      record { other = u.0; active = u.1; living = u.2; before = u.3; stands = within_on t few (Had t few yet u.0 u.1) d w b v u.4 l }
   based n cs i b v (inside {o = q} {c} m h l) =
       let u = based n cs i (Cell (Obj c)) (few.home q) h in
       record { other = u.other; active = u.active; living = u.living; before = u.before; stands = inside m u.stands l }
 
-  -- what it has to clean up is in scope, a part, or what else is told
-  own_yet : (n : Exec) (cs : List Active) (w : Value) (a : Ty) → Yet t nothing_yet n cs w a → OwnThings t n cs w a
-  own_yet n cs w a (inl h) = h
-  own_yet n cs w a (inr e) = absurd (cc)
-
-  cleaned : (n : Exec) (cs : List Active) → Lives j x n cs → (i : ℕ) → t.tasks i ≡ true → (w : Value) → Stands t few (Yet t nothing_yet n cs) (Cell (Obj i)) w → IsFree told w
+  cleaned : (n : Exec) (cs : List Active) → Lives j x n cs → (i : ℕ) → t.tasks i ≡ true → (w : Value) → Stands t few (Yet t yet n cs) (Cell (Obj i)) w → IsFree told w
   cleaned n cs l i e w h =
       ⊎_elim
       (λ s. law_things p told n cs (k.seats n cs l) i e w s)
       (λ f. f)
-      (k.beside.others n cs l i e w (stands_more t few (Yet t nothing_yet n cs) (OwnThings t n cs) (own_yet n cs) (Cell (Obj i)) w h))
+      (k.beside.others n cs l i e w h)
 
-  free : (fuel : ℕ) (n : Exec) (cs : List Active) → rank n < fuel → Lives j x n cs → (i : ℕ) → t.tasks i ≡ true → (w : Value) → Stands t few (Had t few nothing_yet n cs) (Cell (Obj i)) w → IsFree told w
+  free : (fuel : ℕ) (n : Exec) (cs : List Active) → rank n < fuel → Lives j x n cs → (i : ℕ) → t.tasks i ≡ true → (w : Value) → Stands t few (Had t few yet n cs) (Cell (Obj i)) w → IsFree told w
   free zero n cs f l i e w h = let z : ⊥ = omega (arith, f) in absurd z
   free (suc fuel) n cs f l i e w h =
       ⊎_elim
@@ -83,11 +78,11 @@ module _ (p : Program) (few : Few) (j : Journal) (x : World) (own : Exec → Val
       let g = u.before in
       free fuel u.other u.active (omega (arith, f, g)) u.living i e w u.stands)
       (stands_split t few (Base few n) (OwnObject few own n) (OfOthers n) (own_or_not n) (Cell (Obj i)) w s))
-      (stands_split t few (Had t few nothing_yet n cs) (Yet t nothing_yet n cs) (Base few n) (λ w b y. y) (Cell (Obj i)) w h)
+      (stands_split t few (Had t few yet n cs) (Yet t yet n cs) (Base few n) (λ w b y. y) (Cell (Obj i)) w h)
 
   things : (n : Exec) (cs : List Active) → Lives j x n cs → (i : ℕ) → t.tasks i ≡ true → (w : Value) → Stands t few (Things t few n cs) (Cell (Obj i)) w → IsFree told w
   things n cs l i e w h =
-      free (suc (rank n)) n cs (omega arith) l i e w (stands_more t few (Things t few n cs) (Had t few nothing_yet n cs) (things_had n cs) (Cell (Obj i)) w h)
+      free (suc (rank n)) n cs (omega arith) l i e w (stands_more t few (Things t few n cs) (Had t few yet n cs) (things_had n cs) (Cell (Obj i)) w h)
 
   -- who is not pending, has been made and is not gone is of a task
   owned : (o : ℕ) → is_pending j o ≡ false → o < object_count j → is_gone o j ≡ false → owner o j ≡ [] → ⊥
@@ -108,6 +103,6 @@ module _ (p : Program) (few : Few) (j : Journal) (x : World) (own : Exec → Val
 
 pub law_owners : LawOwners
 law_owners = record {
-  things = λ p few j x own rank k n cs l i e w h. things p few j x own rank k n cs l i e w h;
-  aimed = λ p few j x own rank k places n gs cs l i o e h apart made there none. aimed p few j x own rank k places n gs cs l i o e h apart made there none;
+  things = λ p few j x own yet rank k n cs l i e w h. things p few j x own yet rank k n cs l i e w h;
+  aimed = λ p few j x own yet rank k places n gs cs l i o e h apart made there none. aimed p few j x own yet rank k places n gs cs l i o e h apart made there none;
 }

@@ -6,7 +6,7 @@ use Rattle.uc_acts.specs.Journal.{Journal, is_over}
 use Rattle.uc_acts.specs.Known.{object_count, is_gone, owner}
 use Rattle.uc_acts.specs.KernelRuns.{InRange}
 use Rattle.uc_machine.specs.declared.exec.Exec.{Exec}
-use Rattle.uc_machine.specs.Pieces.{Value, Object, Todo, RaiseAtNow, State, top}
+use Rattle.uc_machine.specs.Pieces.{Value, Object, Todo, RaiseAtNow, Active, State, top}
 use Rattle.uc_machine.specs.Answering.{answered}
 use Rattle.uc_meaning.specs.Runs.{World, Runs, drawn}
 use Rattle.uc_state_laws.specs.Fitting.{RunFits}
@@ -19,7 +19,7 @@ use Rattle.uc_sound.specs.SoundFormed.{IsFormed}
 use Rattle.uc_sound.specs.Tables.{table_of}
 use Rattle.uc_life_laws.specs.Things.{Few, Base}
 use Rattle.uc_life_laws.specs.Knowing.{InMaking, KnowsState}
-use Rattle.uc_life_laws.specs.Rooted.{IsPlace}
+use Rattle.uc_life_laws.specs.Rooted.{IsPlace, StandsUpwards}
 use Rattle.uc_apart_laws.specs.Before.{world_at}
 use Rattle.uc_tasked_laws.specs.SeatedStates.{Fair}
 use Rattle.uc_tasked_laws.specs.TaskedRuns.{told_by, RunFair, RunMakesApart}
@@ -39,7 +39,8 @@ LawOwnerRuns =
     RunMakesApart p few.home (source_of p) input opts j w r →
     (n : ℕ) (s : State) (c : Comes (source_of p) j w n s) →
     LeadsMeet (Fair p (source_of p) (told_by few.home j)) (source_of p) (answered (source_of p) c.given (drawn j w n)) s c.leads →
-    (own : Exec → Value → Ty → Bool) (rank : Exec → ℕ) → OwnersBeside p few j (world_at w n s) own rank →
+    (own : Exec → Value → Ty → Bool) (yet : Exec → List Active → Value → Ty → Bool) (rank : Exec → ℕ) →
+    OwnersBeside p few j (world_at w n s) own yet → StandsUpwards (table_of p) few j (world_at w n s) own yet rank →
     (k : KnowsState (table_of p) few [] s) (todo : List Todo) → s.run.control ≡ RaiseAtNow ∷ todo →
     (o : ℕ) → top s.run.operands ≡ Object o →
     ((i : ℕ) → InMaking k.sigs (s.run ∷ s.callers) (Object o) (Raw i) → ⊥) →

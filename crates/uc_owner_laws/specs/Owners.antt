@@ -10,41 +10,39 @@ use Rattle.uc_typing.specs.Typing.{Ty, Cell, Obj, Raw, Sig}
 use Rattle.uc_sound.specs.Tables.{table_of}
 use Rattle.uc_life_laws.specs.Things.{Few, Base, Things, Stands}
 use Rattle.uc_life_laws.specs.Knowing.{InMaking}
-use Rattle.uc_life_laws.specs.Rooted.{IsPlace, Lives, OwnThings, OwnObject, StandsUpwards}
+use Rattle.uc_life_laws.specs.Rooted.{IsPlace, Lives, Yet, OwnObject, StandsUpwards}
 use Rattle.uc_tasked_laws.specs.Aims.{IsAimed}
 use Rattle.uc_tasked_laws.specs.SeatedStates.{IsFree}
 use Rattle.uc_tasked_laws.specs.TaskedRuns.{told_by, AllKeep}
 use Rattle.uc_tasked_laws.specs.TaskedLaws.{InScope}
 
--- beside the marks nothing is told of what is still to be cleaned up
-abbrev pub nothing_yet : Exec → List Active → Value → Ty → Bool
-nothing_yet n cs w a = false
-
 -- in a world, of those that live: where a mutex object that is a task stands in what they have to clean up, it is in scope, or a part of an object
--- under construction, or nobody is at home there who is still to be of a task; nor is anybody where one stands in their own objects; and what they have
--- of others stands upwards
-pub record OwnersBeside (p : Program) (few : Few) (j : Journal) (x : World) (own : Exec → Value → Ty → Bool) (rank : Exec → ℕ) : Type 0 where
+-- under construction, or nobody is at home there who is still to be of a task; nor is anybody where one stands in their own objects
+pub record OwnersBeside (p : Program) (few : Few) (j : Journal) (x : World) (own : Exec → Value → Ty → Bool) (yet : Exec → List Active → Value → Ty → Bool) : Type 0 where
   pub others : (n : Exec) (cs : List Active) → Lives j x n cs → (i : ℕ) → (table_of p).tasks i ≡ true → (w : Value) →
-      Stands (table_of p) few (OwnThings (table_of p) n cs) (Cell (Obj i)) w →
+      Stands (table_of p) few (Yet (table_of p) yet n cs) (Cell (Obj i)) w →
       InScope (table_of p) n cs w (Cell (Obj i)) ⊎ IsFree (told_by few.home j) w
   pub objects : (n : Exec) (cs : List Active) → Lives j x n cs → (i : ℕ) → (table_of p).tasks i ≡ true → (w : Value) →
       Stands (table_of p) few (OwnObject few own n) (Cell (Obj i)) w → IsFree (told_by few.home j) w
-  pub up : StandsUpwards (table_of p) few j x own nothing_yet rank
 
--- so it is, and nobody is at home who is still to be of a task where one is in scope, or a part of an object under construction
-pub record KeepsOwners (p : Program) (few : Few) (j : Journal) (x : World) (own : Exec → Value → Ty → Bool) (rank : Exec → ℕ) : Type 0 where
+-- so it is, nobody is at home who is still to be of a task where one is in scope, or a part of an object under construction, and what executions have of
+-- others stands upwards
+pub record KeepsOwners (p : Program) (few : Few) (j : Journal) (x : World) (own : Exec → Value → Ty → Bool) (yet : Exec → List Active → Value → Ty → Bool) (rank : Exec → ℕ) : Type 0 where
   pub seats : (n : Exec) (cs : List Active) → Lives j x n cs → AllKeep p (told_by few.home j) n cs
-  pub beside : OwnersBeside p few j x own rank
+  pub beside : OwnersBeside p few j x own yet
+  pub up : StandsUpwards (table_of p) few j x own yet rank
 
 -- then so it is wherever a task stands in what one that lives has at hand; and what is raised at is of a task, if it was made, is not gone, and
 -- whoever raises the event does not build or destroy it
 pub record LawOwners : Type 0 where
-  pub things : (p : Program) (few : Few) (j : Journal) (x : World) (own : Exec → Value → Ty → Bool) (rank : Exec → ℕ) →
-      KeepsOwners p few j x own rank → (n : Exec) (cs : List Active) → Lives j x n cs → (i : ℕ) →
+  pub things : (p : Program) (few : Few) (j : Journal) (x : World) (own : Exec → Value → Ty → Bool)
+      (yet : Exec → List Active → Value → Ty → Bool) (rank : Exec → ℕ) →
+      KeepsOwners p few j x own yet rank → (n : Exec) (cs : List Active) → Lives j x n cs → (i : ℕ) →
       (table_of p).tasks i ≡ true → (w : Value) → Stands (table_of p) few (Things (table_of p) few n cs) (Cell (Obj i)) w →
       IsFree (told_by few.home j) w
-  pub aimed : (p : Program) (few : Few) (j : Journal) (x : World) (own : Exec → Value → Ty → Bool) (rank : Exec → ℕ) →
-      KeepsOwners p few j x own rank → ((n : Exec) (w : Value) (b : Ty) → Base few n w b → IsPlace w) →
+  pub aimed : (p : Program) (few : Few) (j : Journal) (x : World) (own : Exec → Value → Ty → Bool)
+      (yet : Exec → List Active → Value → Ty → Bool) (rank : Exec → ℕ) →
+      KeepsOwners p few j x own yet rank → ((n : Exec) (w : Value) (b : Ty) → Base few n w b → IsPlace w) →
       (n : Exec) (gs : List Sig) (cs : List Active) → Lives j x n cs → (i o : ℕ) → (table_of p).tasks i ≡ true →
       IsAimed (table_of p) few n gs cs i o → (InMaking gs cs (Object o) (Raw i) → ⊥) →
       o < object_count j → is_gone o j ≡ false → owner o j ≡ [] → ⊥

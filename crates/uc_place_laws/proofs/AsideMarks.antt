@@ -12,7 +12,7 @@ use Rattle.uc_machine.specs.Pieces.{Link, Slot, At, Value, Number, Place, Runnin
 use Rattle.uc_state_laws.specs.There.{IsLoose, OfVariable, OfElements, OfEach, EachNext, IsBefore, OfBound, OpensBound, NextRest, NextDrop, NextCall, Pends}
 use Rattle.uc_state_laws.specs.Counted.{params}
 use Rattle.uc_place_laws.specs.OlderResting.{AllWait}
-use Rattle.uc_place_laws.specs.Siting.{PlainSingle, SitedAt, BuildsAt, SitedExpr, SitedStmt}
+use Rattle.uc_place_laws.specs.Siting.{Everywhere, PlainSingle, SitedAt, BuildsAt, Singly, SitedExpr, SitedStmt}
 use Rattle.uc_place_laws.specs.Asides.{IsNearer, PendsBefore, OwnerAside, LiesAside, IsNear, Mark, Any, Aside, Loose, Meets, Holds, rest, rests, anys, FirstAside, FirstLoose, IsTold, Free, Calm, after, Ok, Left, OkNow, Runs, Waits}
 
 -- operands
@@ -208,7 +208,7 @@ module _ (n : Exec) where
 -- what may be built where less may be
 
 module _ (makes : ℕ → Bool) (Near Other : ℕ → Type 0) (made other : Bool) (f : (k : ℕ) → Near k → Other k) (g : made ≡ true → other ≡ true) where
-  at_more : (e : Expr) → SitedAt makes Near made e → SitedAt makes Other other e
+  pub at_more : (e : Expr) → SitedAt makes Near made e → SitedAt makes Other other e
   at_more (src.Variable k) h = f k h
   at_more (src.OfObject (src.OwnField s i)) h = g h
   at_more (src.Element n s e i) h = (at_more e h.0, h.1)
@@ -220,12 +220,41 @@ module _ (makes : ℕ → Bool) (Near Other : ℕ → Type 0) (made other : Bool
   builds_more (src.OfObject (src.Bind p e)) h = (at_more p h.0, h.1)
   builds_more e h = absurd h
 
+module _ (makes : ℕ → Bool) (made other : Bool) (g : made ≡ true → other ≡ true) where
+  pub singly_more : (e : Expr) → Singly makes made e → Singly makes other e
+  singly_more (src.OfObject (src.Bind p e)) h = (at_more makes Everywhere Everywhere made other (λ k z. z) g p h.0, h.1)
+  singly_more (src.OfObject (src.MakeOn c r written p args)) h = (at_more makes Everywhere Everywhere made other (λ k z. z) g p h.0, h.1)
+  singly_more (src.OfObject (src.EndOn r written e)) h = h
+  singly_more (src.OfObject (src.EndCluster e)) h = h
+  singly_more (src.OfObject (src.EndProcessor e)) h = h
+  singly_more e h = absurd h
+
+module _ (makes : ℕ → Bool) (Near Other : ℕ → Type 0) (made other : Bool) (f : (k : ℕ) → Near k → Other k) (g : made ≡ true → other ≡ true) where
   pub sited_more : (e : Expr) → SitedExpr makes Near made e → SitedExpr makes Other other e
-  sited_more e (inl h) = inl h
-  sited_more e (inr h) = inr (builds_more e h)
+  sited_more e (inl (inl h)) = inl (inl h)
+  sited_more e (inl (inr h)) = inl (inr (singly_more makes made other g e h))
+  sited_more e (inr h) = inr (builds_more makes Near Other made other f g e h)
+
+-- what is new is bound at a place whose variable is so
+
+abbrev pub Rooted : (ℕ → Type 0) → Expr → Type 0
+Rooted Near (src.Variable k) = Near k
+Rooted Near (src.Element n s e i) = Rooted Near e
+Rooted Near e = Unit {0}
+
+abbrev pub NearNew : (ℕ → Type 0) → Expr → Type 0
+NearNew Near (src.OfObject (src.Bind p e)) = Rooted Near p
+NearNew Near (src.OfObject (src.MakeOn c r written p args)) = Rooted Near p
+NearNew Near e = Unit {0}
+
+pub near_sited : (makes : ℕ → Bool) (Near : ℕ → Type 0) (made : Bool) (e : Expr) → SitedAt makes Everywhere made e → Rooted Near e → SitedAt makes Near made e
+near_sited makes Near made (src.Variable k) h n = n
+near_sited makes Near made (src.OfObject (src.OwnField s i)) h n = h
+near_sited makes Near made (src.Element m s e i) h n = (near_sited makes Near made e h.0 n, h.1)
+near_sited makes Near made e h n = absurd h
 
 module _ (makes : ℕ → Bool) (Near Other : ℕ → Type 0) (Alone Lonely : Type 0) (made : Bool) (f : (k : ℕ) → Near k → Other k) (g : Alone → Lonely) where
-  fills_more : (b : Expr) → PlainSingle makes b ⊎ (BuildsAt makes Near made b × Alone) → PlainSingle makes b ⊎ (BuildsAt makes Other made b × Lonely)
+  fills_more : (b : Expr) → PlainSingle makes made b ⊎ (BuildsAt makes Near made b × Alone) → PlainSingle makes made b ⊎ (BuildsAt makes Other made b × Lonely)
   fills_more b (inl h) = inl h
   fills_more b (inr h) = inr (builds_more makes Near Other made made f (λ q. q) b h.0, g h.1)
 
@@ -240,14 +269,14 @@ module _ (makes : ℕ → Bool) (source : Source) (Near : ℕ → Type 0) (made 
   pub left : (ms : List Mark) (todo : List Todo) → Ok makes source Near made ms todo → Left makes source Near made todo
   left ms [] h = tt
   left ms (piece.Eval e ∷ todo) (n, inl h) = left (Any ∷ ms) todo h.1
-  left ms (piece.Eval e ∷ todo) (n, inr (inl h)) = left (Any ∷ ms) todo h.1
+  left ms (piece.Eval e ∷ todo) (n, inr (inl h)) = left (Any ∷ ms) todo h.2
   left ms (piece.Eval e ∷ todo) (n, inr (inr (inl h))) = left (Any ∷ ms) todo h.3
   left ms (piece.Eval e ∷ todo) (n, inr (inr (inr (inl h)))) = left (Aside ∷ ms) todo h.1
   left ms (piece.Eval e ∷ todo) (n, inr (inr (inr (inr h)))) = left (Loose ∷ ms) todo h.1
   left ms (piece.ElementNow n s ∷ todo) (inl h) = left (Any ∷ rest (rest ms)) todo h
   left ms (piece.ElementNow n s ∷ todo) (inr h) = left (Aside ∷ rest (rest ms)) todo h.1
   left ms (piece.BindNow ∷ todo) h = left (Any ∷ rest (rest ms)) todo h.1
-  left ms (piece.MakeNow c r ∷ todo) h = left (anys (params source r) (Loose ∷ rests (suc (params source r)) ms)) todo h
+  left ms (piece.MakeNow c r ∷ todo) h = left (anys (params source r) (Loose ∷ rests (suc (params source r)) ms)) todo h.1
   left ms (piece.BindMadeNow c r ∷ todo) h = left (anys (params source r) (Loose ∷ rests (suc (params source r)) (rest ms))) todo h.1
   left ms (piece.Do a ∷ todo) h = left [] todo h.2
   left ms (piece.Branch a b ∷ todo) h = left [] todo h.2

@@ -29,12 +29,12 @@ use Rattle.uc_state_laws.specs.There.{IsLoose, NextDrop, EachNext}
 use Rattle.uc_state_laws.proofs.ValueSteps.{exec_same}
 use Rattle.uc_state_laws.specs.Counted.{params_at, params, count, CountedExpr, CountedRaised, CountedAt}
 use Rattle.uc_place_laws.specs.OlderResting.{AllWait, NamedEnv}
-use Rattle.uc_place_laws.specs.Siting.{Nowhere, OpensAt, OpensAlone, PlainExpr, PlainNew, SitedAt, BuildsAt, Singly, PlainSingle, SitedExpr, SitedRaised}
+use Rattle.uc_place_laws.specs.Siting.{Nowhere, Everywhere, OpensAt, OpensAlone, PlainExpr, PlainNew, SitedAt, BuildsAt, Singly, PlainSingle, SitedExpr, SitedRaised}
 use Rattle.uc_place_laws.specs.Asides.{LiesAside, IsNear, Mark, Any, Aside, Loose, Holds, FirstAside, FirstLoose, rest, rests, anys, Free, Calm, NextAlone, CodeMaybe, CodeItems, CodeClean, CodeEnds, CodeStmt, CodeStmts, CodeHandlers, CodeClauses, CodeLoop, CodeRoutine, CallFits, FillsBy, LeftBy, Ok, Left, Finds, Runs, Waits, AsideState, AsideStep}
 use Rattle.uc_place_laws.proofs.AsideKeeping as kept
 use Rattle.uc_place_laws.proofs.AsideKeeping.{either}
 use Rattle.uc_place_laws.proofs.AsideMarks as marks
-use Rattle.uc_place_laws.proofs.AsideMarks.{holds_below, holds_aside, holds_loose, loose_aside, set_loose, holds_drop, holds_anys, rests_anys, drop_set, further_aside, waits_aside, calm_free, sited_more, stmt_more, AllLeft, waits_left}
+use Rattle.uc_place_laws.proofs.AsideMarks.{holds_below, holds_aside, holds_loose, loose_aside, set_loose, holds_drop, holds_anys, rests_anys, drop_set, further_aside, waits_aside, calm_free, singly_more, sited_more, Rooted, NearNew, near_sited, stmt_more, AllLeft, waits_left}
 
 no_both : {A : Type 0} (b : Bool) → b ≡ true → b ≡ false → A
 no_both b h k = absurd (cc)
@@ -208,17 +208,17 @@ module _ (makes : ℕ → Bool) (source : Source) where
     -- an expression that is evaluated by itself
     single : (ms : List Mark) (e : Expr) (todo : List Todo) → CountedExpr source e → SitedExpr makes Near made e → Free todo → EachNext (λ p. ⊥) todo → Fits (Any ∷ ms) todo → Fits ms (piece.Eval e ∷ todo)
     single ms e todo n (inl (inl k)) f d h = (n, inl (k, h))
-    single ms e todo n (inl (inr k)) f d h = (n, inr (inl (k, h)))
+    single ms e todo n (inl (inr k)) f d h = (n, inr (inl (k, f, h)))
     single ms e todo n (inr k) f d h = (n, inr (inr (inl (k, f, d, h))))
 
-    ends_plainly : (ms : List Mark) (e : Expr) (todo : List Todo) → CodeEnds makes source e → Fits (Any ∷ ms) todo → Fits ms (piece.Eval e ∷ todo)
-    ends_plainly ms e todo (n, inl k) h = (n, inl (k, h))
-    ends_plainly ms e todo (n, inr k) h = (n, inr (inl (k, h)))
+    ends_plainly : (ms : List Mark) (e : Expr) (todo : List Todo) → CodeEnds makes source e → Free todo → Fits (Any ∷ ms) todo → Fits ms (piece.Eval e ∷ todo)
+    ends_plainly ms e todo (n, inl k) f h = (n, inl (k, h))
+    ends_plainly ms e todo (n, inr k) f h = (n, inr (inl (singly_more makes false made (λ q. absurd (cc)) e k, f, h)))
 
     pub filled : (b : Bool) (n : ℕ) (e d : Expr) (todo : List Todo) → FillsBy makes source Near made n e d todo → CodeEnds makes source d → Calm todo → Fits [] todo → Fits [] (quiet.fill_todo b n e d todo)
     filled false n e d todo k q c h = h
     filled true n e d todo (k, inl (inl y)) q c h = (k, inl (y, (tt, (tt, (((k, inl (inl y)), q, c), h)))))
-    filled true n e d todo (k, inl (inr y)) q c h = (k, inr (inl (y, (tt, (tt, (((k, inl (inr y)), q, c), h))))))
+    filled true n e d todo (k, inl (inr y)) q c h = (k, inr (inl (y, calm_free todo c, (tt, (tt, (((k, inl (inr y)), q, c), h))))))
     filled true n e d todo (k, inr y) q c h = (k, inr (inr (inl (y.0, calm_free todo c, y.1, (tt, (tt, (((k, inr y), q, c), h)))))))
 
     -- an event is found before it is raised
@@ -241,7 +241,7 @@ module _ (makes : ℕ → Bool) (source : Source) where
     handled x todo k c h = (tt, (tt, (tt, (tt, (tt, (tt, ((k, c), (tt, h))))))))
 
     pub cleans : (c : CleanUp) (todo : List Todo) → CodeClean makes source c → Calm todo → Fits [] todo → Fits [] (piece.clean_todo c todo)
-    cleans (src.Destroys e) todo n q h = ends_plainly [] e (piece.DropNow ∷ todo) n (tt, h)
+    cleans (src.Destroys e) todo n q h = ends_plainly [] e (piece.DropNow ∷ todo) n (calm_free todo q) (tt, h)
     cleans (src.DestroysAll m e) todo n q h = (tt, ((n, q), h))
     cleans src.Unwinds todo n q h = (tt, h)
     cleans src.Forgets todo n q h = (tt, h)
@@ -292,10 +292,10 @@ module _ (makes : ℕ → Bool) (source : Source) where
     called_on n r m ms todo e h = subst (λ ns. Fits (Any ∷ ns) todo) (sym (below_on n r m ms e)) h
 
     -- a made object takes the place of its place below the arguments
-    made_on : (n r : ℕ) (ms : List Mark) (todo : List Todo) → n ≡ params source r → Fits (Any ∷ ms) todo → CallFits makes source r (anys (params source r) (Loose ∷ rests (suc (params source r)) (anys n (Any ∷ ms)))) todo × Fits (Any ∷ rests (suc (params source r)) (anys (params source r) (Loose ∷ rests (suc (params source r)) (anys n (Any ∷ ms))))) todo
-    made_on n r ms todo e h =
-        let under : List Mark = rests (suc (params source r)) (anys n (Any ∷ ms)) in
-        (inr (inl (subst FirstLoose (sym (rests_anys (params source r) (Loose ∷ under))) tt)), called_on (params source r) r Loose under todo refl (subst (λ ns. Fits (Any ∷ ns) todo) (sym (below_on n r Any ms e)) h))
+    made_on : (n r : ℕ) (ms : List Mark) (todo : List Todo) → n ≡ params source r → Free todo → Fits (Any ∷ ms) todo → (FirstAside (rests (params source r) (anys n (Aside ∷ ms))) × Free todo) × (CallFits makes source r (anys (params source r) (Loose ∷ rests (suc (params source r)) (anys n (Aside ∷ ms)))) todo × Fits (Any ∷ rests (suc (params source r)) (anys (params source r) (Loose ∷ rests (suc (params source r)) (anys n (Aside ∷ ms))))) todo)
+    made_on n r ms todo e f h =
+        let under : List Mark = rests (suc (params source r)) (anys n (Aside ∷ ms)) in
+        ((first_on n r ms e, f), (inr (inl (subst FirstLoose (sym (rests_anys (params source r) (Loose ∷ under))) tt)), called_on (params source r) r Loose under todo refl (subst (λ ns. Fits (Any ∷ ns) todo) (sym (below_on n r Aside ms e)) h)))
 
   module _ (s : State) (callers : W s.env.exec s.callers) (env : E s.env) (made : Bool) (this : made ≡ true → LiesAside s.env.exec s.callers s.run.this) where
     abbrev pub N : ℕ → Type 0
@@ -393,7 +393,7 @@ module _ (makes : ℕ → Bool) (source : Source) where
 
     pub swept : (n : ℕ) (e : Expr) (todo : List Todo) → CodeEnds makes source e → Calm todo → O [] todo → AsideStep makes source (quiet.sweep_step n e todo s)
     swept zero e todo n c h = anew _ _ h
-    swept (suc m) e todo n c h = record { run = record { made = made; this = this; marks = []; holds = tt; ok = ends_plainly (IsNear s.run.frame s.callers) made [] e (piece.DropNow ∷ (piece.Sweep e ∷ todo)) n (tt, ((n, c), h)) }; callers = callers; env = env }
+    swept (suc m) e todo n c h = record { run = record { made = made; this = this; marks = []; holds = tt; ok = ends_plainly (IsNear s.run.frame s.callers) made [] e (piece.DropNow ∷ (piece.Sweep e ∷ todo)) n (calm_free todo c) (tt, ((n, c), h)) }; callers = callers; env = env }
 
     -- the hidden cells in which an event is built lie aside
     abbrev pub Hidden : Raised → Type 0
@@ -441,7 +441,7 @@ module _ (makes : ℕ → Bool) (source : Source) where
     each_alone n line b d (piece.Rest (src.Scoped c ss) ∷ todo) h = h
     each_alone n line b d todo h = tt
 
-    fills_by : (n : ℕ) (b d : Expr) (line : ℕ) (todo : List Todo) → PlainSingle makes b ⊎ (BuildsAt makes (IsNear s.run.frame s.callers) made b × NextAlone todo) → PlainSingle makes b ⊎ (BuildsAt makes (IsNear s.run.frame s.callers) made b × EachNext (λ p. ⊥) (piece.DropNow ∷ (piece.MoreNow ∷ (piece.FillNow n b d ∷ (piece.Within line ∷ todo)))))
+    fills_by : (n : ℕ) (b d : Expr) (line : ℕ) (todo : List Todo) → PlainSingle makes made b ⊎ (BuildsAt makes (IsNear s.run.frame s.callers) made b × NextAlone todo) → PlainSingle makes made b ⊎ (BuildsAt makes (IsNear s.run.frame s.callers) made b × EachNext (λ p. ⊥) (piece.DropNow ∷ (piece.MoreNow ∷ (piece.FillNow n b d ∷ (piece.Within line ∷ todo)))))
     fills_by n b d line todo (inl k) = inl k
     fills_by n b d line todo (inr k) = inr (k.0, each_alone n line b d todo k.1)
 
@@ -620,20 +620,23 @@ module _ (makes : ℕ → Bool) (source : Source) where
       eval (src.Call r args) todo n q h = go ms _ _ holds ((n.0, q), (tt, (tt, called (IsNear s.run.frame s.callers) made args r ms todo n.1 h)))
       eval (src.OfObject x) todo n q h = object x todo n q h
 
-      singly : (a : Expr) (todo : List Todo) → CountedExpr source a → Singly makes a → O (Any ∷ ms) todo → AsideStep makes source (quiet.eval_step a todo s)
-      singly (src.OfObject (src.Bind a e)) todo n b h = go ms _ _ holds (n.0, inl (b.0, (n.1, inr (inr (inr (inr (b.1, (inr tt, h))))))))
-      singly (src.OfObject (src.MakeOn c r false a args)) todo n b h = go ms _ _ holds (n.0, inl (b.0, ((n.1, b.1), made_on (IsNear s.run.frame s.callers) made (count args) r ms todo n.2 h)))
-      singly (src.OfObject (src.MakeOn c r true a args)) todo n b h = go ms _ _ holds (n.0, inl (b.0, ((n.1, b.1), (tt, made_on (IsNear s.run.frame s.callers) made (count args) r ms todo n.2 h))))
-      singly (src.OfObject (src.EndOn r false a)) todo n b h = go ms _ _ holds (n.0, inl (b.1, (tt, (inl b.0, on 0 r Any todo n.1 h))))
-      singly (src.OfObject (src.EndOn r true a)) todo n b h = go ms _ _ holds (n.0, inl (b.1, (tt, (tt, (inl b.0, on 0 r Any todo n.1 h)))))
-      singly (src.OfObject (src.EndCluster a)) todo n b h = go ms _ _ holds (n, inl (b, (tt, h)))
-      singly (src.OfObject (src.EndProcessor a)) todo n b h = go ms _ _ holds (n, inl (b, (tt, h)))
-      singly a todo n b h = absurd b
+      near_at : (a : Expr) → SitedAt makes Everywhere made a → Rooted (IsNear s.run.frame s.callers) a → SitedAt makes (IsNear s.run.frame s.callers) made a
+      near_at a b k = near_sited makes (IsNear s.run.frame s.callers) made a b k
+
+      singly : (a : Expr) (todo : List Todo) → CountedExpr source a → Singly makes made a → NearNew (IsNear s.run.frame s.callers) a → Free todo → O (Any ∷ ms) todo → AsideStep makes source (quiet.eval_step a todo s)
+      singly (src.OfObject (src.Bind a e)) todo n b k f h = go ms _ _ holds (n.0, inr (inr (inr (inl (near_at a b.0 k, (n.1, inr (inr (inr (inr (b.1, ((tt, f), h)))))))))))
+      singly (src.OfObject (src.MakeOn c r false a args)) todo n b k f h = go ms _ _ holds (n.0, inr (inr (inr (inl (near_at a b.0 k, ((n.1, b.1), made_on (IsNear s.run.frame s.callers) made (count args) r ms todo n.2 f h))))))
+      singly (src.OfObject (src.MakeOn c r true a args)) todo n b k f h = go ms _ _ holds (n.0, inr (inr (inr (inl (near_at a b.0 k, ((n.1, b.1), (tt, made_on (IsNear s.run.frame s.callers) made (count args) r ms todo n.2 f h)))))))
+      singly (src.OfObject (src.EndOn r false a)) todo n b k f h = go ms _ _ holds (n.0, inl (b.1, (tt, (inl b.0, on 0 r Any todo n.1 h))))
+      singly (src.OfObject (src.EndOn r true a)) todo n b k f h = go ms _ _ holds (n.0, inl (b.1, (tt, (tt, (inl b.0, on 0 r Any todo n.1 h)))))
+      singly (src.OfObject (src.EndCluster a)) todo n b k f h = go ms _ _ holds (n, inl (b, (tt, h)))
+      singly (src.OfObject (src.EndProcessor a)) todo n b k f h = go ms _ _ holds (n, inl (b, (tt, h)))
+      singly a todo n b k f h = absurd b
 
       builds : (a : Expr) (todo : List Todo) → CountedExpr source a → BuildsAt makes (IsNear s.run.frame s.callers) made a → Free todo → EachNext (λ p. ⊥) todo → O (Any ∷ ms) todo → AsideStep makes source (quiet.eval_step a todo s)
       builds (src.OfObject (src.CallOn r a args)) todo n b f d h = go ms _ _ holds (n.0, inr (inr (inr (inl (b.0, ((n.1, b.1), (tt, (inr (inr (first_on (count args) r ms n.2, f, d)), on (count args) r Aside todo n.2 h))))))))
       builds (src.OfObject (src.CallUnwritten r a)) todo n b f d h = go ms _ _ holds (n.0, inr (inr (inr (inl (b, (inr (inr (first_on 0 r ms n.1, f, d)), on 0 r Aside todo n.1 h))))))
-      builds (src.OfObject (src.Bind a e)) todo n b f d h = go ms _ _ holds (n.0, inr (inr (inr (inl (b.0, (n.1, inl (b.1, (inl (tt, f), h))))))))
+      builds (src.OfObject (src.Bind a e)) todo n b f d h = go ms _ _ holds (n.0, inr (inr (inr (inl (b.0, (n.1, inl (b.1, ((tt, f), h))))))))
       builds a todo n b f d h = absurd b
 
       place : (e : Expr) (todo : List Todo) → CountedExpr source e → SitedAt makes (IsNear s.run.frame s.callers) made e → O (Aside ∷ ms) todo → AsideStep makes source (quiet.eval_step e todo s)
@@ -647,12 +650,12 @@ module _ (makes : ℕ → Bool) (source : Source) where
       making (src.OfObject (src.NewProcessor a)) todo n p h = go ms _ _ holds (n, inl (p, (Loose, tt, h)))
       making e todo n p h = absurd p
 
-      pub evals : (e : Expr) (todo : List Todo) → O ms (piece.Eval e ∷ todo) → AsideStep makes source (quiet.eval_step e todo s)
-      evals e todo (n, inl h) = eval e todo n h.0 h.1
-      evals e todo (n, inr (inl h)) = singly e todo n h.0 h.1
-      evals e todo (n, inr (inr (inl h))) = builds e todo n h.0 h.1 h.2 h.3
-      evals e todo (n, inr (inr (inr (inl h)))) = place e todo n h.0 h.1
-      evals e todo (n, inr (inr (inr (inr h)))) = making e todo n h.0 h.1
+      pub evals : (e : Expr) (todo : List Todo) → NearNew (IsNear s.run.frame s.callers) e → O ms (piece.Eval e ∷ todo) → AsideStep makes source (quiet.eval_step e todo s)
+      evals e todo k (n, inl h) = eval e todo n h.0 h.1
+      evals e todo k (n, inr (inl h)) = singly e todo n h.0 k h.1 h.2
+      evals e todo k (n, inr (inr (inl h))) = builds e todo n h.0 h.1 h.2 h.3
+      evals e todo k (n, inr (inr (inr (inl h)))) = place e todo n h.0 h.1
+      evals e todo k (n, inr (inr (inr (inr h)))) = making e todo n h.0 h.1
 
       -- calls
 
@@ -720,10 +723,10 @@ module _ (makes : ℕ → Bool) (source : Source) where
       leave true o todo h =
           unless o _ todo (record { run = record { made = made; this = this; marks = ms; holds = holds; ok = marks.now makes source (IsNear s.run.frame s.callers) made ms (monitors.leave_todo s.run.raised todo) (polled (IsNear s.run.frame s.callers) made s.run.raised ms todo h) }; callers = callers; env = likes env refl refl refl })
 
-      pub make : (c k : ℕ) (r : Option Routine) (todo : List Todo) → O (anys (params source k) (Loose ∷ rests (suc (params source k)) ms)) todo → AsideStep makes source (monitors.make_step c k r todo s)
-      make c k None todo h = ends _ _
-      make c k (Some r) todo h =
-          either (AsideStep makes source) (monitors.may_call r.written s) _ _ (record { run = record { made = made; this = this; first = Loose; told = tt; marks = ms; holds = holds; ok = (tt, h) }; callers = callers; env = likes env refl refl refl }) (stop Depth todo _)
+      pub make : (c k : ℕ) (r : Option Routine) (todo : List Todo) → FirstAside (rests (params source k) ms) × Free todo → O (anys (params source k) (Loose ∷ rests (suc (params source k)) ms)) todo → AsideStep makes source (monitors.make_step c k r todo s)
+      make c k None todo f h = ends _ _
+      make c k (Some r) todo f h =
+          either (AsideStep makes source) (monitors.may_call r.written s) _ _ (record { run = record { made = made; this = this; first = Loose; told = tt; marks = ms; holds = holds; ok = ((tt, f.0, f.1), h) }; callers = callers; env = likes env refl refl refl }) (stop Depth todo _)
 
       pub bind : (r : Option Routine) (todo : List Todo) → FirstLoose ms → O (anys (params_at r) (Loose ∷ rests (suc (params_at r)) (rest ms))) todo → AsideStep makes source (monitors.bind_step r todo s)
       bind None todo i h = ends _ _

@@ -1,8 +1,8 @@
 -- Every quiet step of a state in which what is bound lies aside of what is still to be bound, and answers to it.
-use Rattle.std.proofs.Common.{◌≡◌, ℕ, ◌≤◌, Bool, true, false, List, [], ◌∷◌, ◌++◌, inl, drop, Option, Some, None, refl, subst}
+use Rattle.std.proofs.Common.{◌≡◌, ℕ, ◌≤◌, Bool, true, false, List, [], ◌∷◌, ◌++◌, inl, drop, Option, Some, None, refl, subst, arith}
 use Rattle.std.specs.Prelude.{nat_lt, slice_get, if◌then◌else◌}
 use Rattle.uc_tree.specs.Source as src
-use Rattle.uc_tree.specs.Source.{Source, Stmt, EventStmt, Raised, Routine, routine_or_none, routine_of}
+use Rattle.uc_tree.specs.Source.{Source, Expr, Stmt, EventStmt, Raised, Routine, routine_or_none, routine_of}
 use Rattle.uc_entry.specs.declared.fault.RunFault.TheVariants.{NoReturn}
 use Rattle.uc_entry.specs.declared.request.Answer.{Answer}
 use Rattle.uc_entry.specs.declared.request.Answer.TheVariants as answer
@@ -17,6 +17,7 @@ use Rattle.uc_machine.specs.Pieces as piece
 use Rattle.uc_machine.specs.Pieces.{Value, Todo, State, Env, Members, Step, Goes, Ticks, Asks, at, top, below, number}
 use Rattle.uc_machine.specs.Answering.{answered, entered, new_members, with_operand}
 use Rattle.uc_answer_laws.specs.Suiting.{Form, AnObject, AClause, ANumber, AValue, AnEvent, JustGo, IsForm}
+use Rattle.uc_state_laws.specs.Ordinary.{IsNew}
 use Rattle.uc_state_laws.specs.Rooms.{Room, RaisedIn}
 use Rattle.uc_state_laws.specs.RoomStacks.{From, SomeTo, TodoTo, StackState}
 use Rattle.uc_state_laws.specs.Counted.{CountedExpr}
@@ -26,8 +27,8 @@ use Rattle.uc_place_laws.specs.Asides.{LiesAside, IsNear, Mark, Any, Holds, rest
 use Rattle.uc_place_laws.proofs.AsideKeeping as kept
 use Rattle.uc_place_laws.proofs.AsideKeeping.{either}
 use Rattle.uc_place_laws.proofs.AsideMarks as marks
-use Rattle.uc_place_laws.proofs.AsideMarks.{holds_below, holds_spread, holds_told}
-use Rattle.uc_place_laws.proofs.Nearness.{near_all, rest_from, hidden_from}
+use Rattle.uc_place_laws.proofs.AsideMarks.{holds_below, holds_spread, holds_told, Rooted, NearNew}
+use Rattle.uc_place_laws.proofs.Nearness.{from_low, near_all, rest_from, hidden_from}
 use Rattle.uc_place_laws.proofs.AsideSteps as steps
 
 module _ (Z : ℕ → ℕ → Type 0) (makes : ℕ → Bool) (source : Source) (known : (n : ℕ) → CodeRoutine makes source (makes n) (slice_get source.routines n)) where
@@ -54,6 +55,18 @@ module _ (Z : ℕ → ℕ → Type 0) (makes : ℕ → Bool) (source : Source) (
     near : (k : ℕ) → ((x : ℕ) → SomeTo Z (From x) s.run.control → x ≤ k) → IsNear s.run.frame s.callers k
     near k f = near_all Z makes source k s.run.frame s.run.control s.run.handles s.callers s.env.exec s.callers f st.stack.0.over callers
 
+    -- so does what is new, which is bound in the room of what is to do
+    rooted : (p : Expr) (todo : List Todo) → ((o : Room) (x : ℕ) → TodoTo Z (From x) o s.run.control → IsNew o.low p × TodoTo Z (From x) o todo) → Rooted (IsNear s.run.frame s.callers) p
+    rooted (src.Variable k) todo f =
+        near k (λ x z. let y = f z.0 x z.1 in let low : x ≤ z.0.low = from_low Z x z.0 todo y.1 in let there : z.0.low ≤ k = y.0 in omega (arith, low, there))
+    rooted (src.Element m h e i) todo f = rooted e todo (λ o x z. let y = f o x z in (y.0.0, y.1))
+    rooted p todo f = tt
+
+    new_near : (a : Expr) (todo : List Todo) → s.run.control ≡ piece.Eval a ∷ todo → NearNew (IsNear s.run.frame s.callers) a
+    new_near (src.OfObject (src.Bind p e)) todo c = rooted p todo (λ o x z. let y : TodoTo Z (From x) o (piece.Eval (src.OfObject (src.Bind p e)) ∷ todo) = subst (TodoTo Z (From x) o) c z in (y.0.0, y.1))
+    new_near (src.OfObject (src.MakeOn k r written p args)) todo c = rooted p todo (λ o x z. let y : TodoTo Z (From x) o (piece.Eval (src.OfObject (src.MakeOn k r written p args)) ∷ todo) = subst (TodoTo Z (From x) o) c z in (y.0.0, y.1))
+    new_near a todo c = tt
+
     hidden_raised : (r : Raised) (todo : List Todo) → ((o : Room) (x : ℕ) → TodoTo Z (From x) o s.run.control → RaisedIn Z o r × TodoTo Z (From x) o todo) → steps.Hidden makes source s callers env made this r
     hidden_raised (src.BuiltAt n k e) todo f = near k (λ x z. let y = f z.0 x z.1 in hidden_from Z z.0 x k todo y.1 y.0.0)
     hidden_raised (src.Plainly n) todo f = tt
@@ -67,7 +80,7 @@ module _ (Z : ℕ → ℕ → Type 0) (makes : ℕ → Bool) (source : Source) (
 
     -- one piece, with what is to do behind it
     acts : (p : Todo) (todo : List Todo) → s.run.control ≡ p ∷ todo → OkNow makes source (IsNear s.run.frame s.callers) made ms (p ∷ todo) → AsideStep makes source (quiet.act source p todo s)
-    acts (piece.Eval a) todo c h = steps.evals makes source s callers env made this ms holds a todo h
+    acts (piece.Eval a) todo c h = steps.evals makes source s callers env made this ms holds a todo (new_near a todo c) h
     acts piece.LoadNow todo c h = go (Any ∷ rest ms) _ _ (tt, one) h.1
     acts (piece.ElementNow m k) todo c h = steps.element makes source s callers env made this (rest ms) k _ todo _ _ (holds_spread s.env.exec s.callers (rest ms) (below s.run.operands) one) h
     acts (piece.FieldNow k i) todo c h = go (Any ∷ rest ms) _ _ (tt, one) h.1
@@ -137,8 +150,8 @@ module _ (Z : ℕ → ℕ → Type 0) (makes : ℕ → Bool) (source : Source) (
     acts piece.Land todo c h = steps.land makes source s callers env made this s.run.raised ms todo holds h.1
     acts (piece.EnterNow m r) todo c h = steps.enter makes source s callers env made this ms holds m (slice_get source.routines r) todo h.1
     acts piece.LeaveNow todo c h = steps.leave makes source s callers env made this ms holds _ (monitors.this_object s) todo h.1
-    acts (piece.MakeNow k r) todo c h = steps.make makes source s callers env made this ms holds k r (slice_get source.routines r) todo h
-    acts (piece.BindMadeNow k r) todo c h = steps.bind makes source s callers env made this ms holds (slice_get source.routines r) todo h.0 h.1
+    acts (piece.MakeNow k r) todo c h = steps.make makes source s callers env made this ms holds k r (slice_get source.routines r) todo h.0 h.1
+    acts (piece.BindMadeNow k r) todo c h = steps.bind makes source s callers env made this ms holds (slice_get source.routines r) todo h.0.0 h.1
     acts piece.MadeNow todo c h = steps.unless makes source s callers env made this ms holds (monitors.this_object s) _ todo (record { run = record { made = made; this = this; marks = []; holds = tt; ok = marks.now makes source (IsNear s.run.frame s.callers) made [] todo h.1 }; callers = callers; env = steps.likes makes source env refl refl refl })
     acts (piece.SpawnNow r) todo c h = steps.unless makes source s callers env made this ms holds (monitors.this_object s) _ (piece.ChildNow r ∷ todo) (record { run = record { made = made; this = this; marks = []; holds = tt; ok = (tt, h.1) }; callers = callers; env = steps.likes makes source env refl refl refl })
     acts (piece.ChildNow r) todo c h = anew _ _ h.1

@@ -62,7 +62,7 @@ module _ (Z : ℕ → ℕ → Type 0) where
   low_by piece.IsFinish y o x P f h = f o h
   low_by piece.IsFinishCoroutine y o x P f h = f o h
 
-  from_low : (x : ℕ) (o : Room) (todo : List Todo) → TodoTo Z (From x) o todo → x ≤ o.low
+  pub from_low : (x : ℕ) (o : Room) (todo : List Todo) → TodoTo Z (From x) o todo → x ≤ o.low
   from_low x o [] h = h.1
   from_low x o (p ∷ ps) h = low_by (piece.sort p) (PieceIn Z o p) o x (λ m. TodoTo Z (From x) m ps) (λ m k. from_low x m ps k) h
 
@@ -143,7 +143,7 @@ module _ (Z : ℕ → ℕ → Type 0) where
       pends_near : (o : Room) (ms : List Mark) (todo : List Todo) → o.high ≤ k → TodoIn Z o todo → Ok makes source Near made ms todo → Pends (IsBefore (address (Slot k ∷ []))) todo
       pends_near o ms [] le r h = tt
       pends_near o ms (piece.Eval e ∷ todo) le r (n, inl h) = (drop_near o todo le r.1, pends_near o (Any ∷ ms) todo le r.1 h.1)
-      pends_near o ms (piece.Eval e ∷ todo) le r (n, inr (inl h)) = (drop_near o todo le r.1, pends_near o (Any ∷ ms) todo le r.1 h.1)
+      pends_near o ms (piece.Eval e ∷ todo) le r (n, inr (inl h)) = (drop_near o todo le r.1, pends_near o (Any ∷ ms) todo le r.1 h.2)
       pends_near o ms (piece.Eval e ∷ todo) le r (n, inr (inr (inl h))) = (drop_near o todo le r.1, pends_near o (Any ∷ ms) todo le r.1 h.3)
       pends_near o ms (piece.Eval e ∷ todo) le r (n, inr (inr (inr (inl h)))) = (drop_near o todo le r.1, pends_near o (Aside ∷ ms) todo le r.1 h.1)
       pends_near o ms (piece.Eval e ∷ todo) le r (n, inr (inr (inr (inr h)))) = (drop_near o todo le r.1, pends_near o (Loose ∷ ms) todo le r.1 h.1)
@@ -151,7 +151,7 @@ module _ (Z : ℕ → ℕ → Type 0) where
       pends_near o ms (piece.ElementNow n s ∷ todo) le r (inl h) = pends_near o (Any ∷ rest (rest ms)) todo le r.1 h
       pends_near o ms (piece.ElementNow n s ∷ todo) le r (inr h) = pends_near o (Aside ∷ rest (rest ms)) todo le r.1 h.1
       pends_near o ms (piece.BindNow ∷ todo) le r h = (drop_near o todo le r.1, pends_near o (Any ∷ rest (rest ms)) todo le r.1 h.1)
-      pends_near o ms (piece.MakeNow c q ∷ todo) le r h = (call_near o todo le r.1, pends_near o (anys (params source q) (Loose ∷ rests (suc (params source q)) ms)) todo le r.1 h)
+      pends_near o ms (piece.MakeNow c q ∷ todo) le r h = (call_near o todo le r.1, pends_near o (anys (params source q) (Loose ∷ rests (suc (params source q)) ms)) todo le r.1 h.1)
       pends_near o ms (piece.BindMadeNow c q ∷ todo) le r h = (call_near o todo le r.1, pends_near o (anys (params source q) (Loose ∷ rests (suc (params source q)) (rest ms))) todo le r.1 h.1)
       pends_near o ms (piece.ClusterNow ∷ todo) le r h = pends_near o (h.0 ∷ ms) todo le r.1 h.2
       pends_near o ms (piece.ProcessorNow ∷ todo) le r h = pends_near o (h.0 ∷ rest ms) todo le r.1 h.2

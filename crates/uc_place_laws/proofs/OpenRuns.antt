@@ -1,5 +1,5 @@
 -- In programs within their limits what is bound is there behind the step that binds it: in runs.
-use Rattle.std.proofs.Common.{◌≡◌, ℕ, suc, Bool, false, true, Some, List, [], ◌∷◌, refl, sym, ap, ◌∙◌, subst}
+use Rattle.std.proofs.Common.{◌≡◌, ℕ, suc, inr, Bool, false, true, Some, List, [], ◌∷◌, refl, sym, ap, ◌∙◌, subst}
 use Rattle.std.specs.Prelude.{slice_get}
 use Rattle.uc_tree.specs.Programs.{Program}
 use Rattle.uc_tree.specs.Source as src
@@ -105,9 +105,9 @@ module _ (source : Source) (p : Program) (s : State) (h : PlacedState (Sized p) 
   made_ok : (c r : ℕ) (todo : List Todo) (e : s.run.control ≡ piece.BindMadeNow c r ∷ todo) → Ok (Sized p) source (anys (suc (params source r)) (rests (suc (params source r)) (rest h.run.marks))) todo
   made_ok c r todo e = (subst (Ok (Sized p) source h.run.marks) e h.run.ok).1
 
-  opens_at : (l : List Todo) → s.run.control ≡ l → AddressedAt l s → PutsAt l s → OpensAt source l s
+  opens_at : (l : List Todo) → s.run.control ≡ l → AddressedAt l s → PutsAt source l s → OpensAt source l s
   opens_at (piece.Rest (src.Scoped c ss) ∷ todo) e o q = o
-  opens_at (piece.BindNow ∷ todo) e o q = (behind_bind (quiet.act source piece.BindNow todo s) todo e (step _ e), q)
+  opens_at (piece.BindNow ∷ todo) e o q = (behind_bind (quiet.act source piece.BindNow todo s) todo e (step _ e), inr q)
   opens_at (piece.BindMadeNow k r ∷ todo) e o q =
       (behind_made (quiet.act source (piece.BindMadeNow k r) todo s) k r todo e (step _ e), object_loose (top s.run.operands) (law_bound.object source p s h k r todo e), fills_bare _ todo (made_ok k r todo e))
   opens_at (piece.SetUpNow r ∷ todo) e o q = q
@@ -121,7 +121,7 @@ record Stands (p : Program) (source : Source) (s : State) : Type 0 where
   stack : StackState (Sized p) s
 
 module _ (p : Program) (source : Source) (in_rooms : SourceIn (Sized p) source) (known : (n : ℕ) → CodeRoutine source (slice_get source.routines n)) where
-  opens : (s : State) → Stands p source s → Addressed s → Puts s → Opens source s
+  opens : (s : State) → Stands p source s → Addressed s → Puts source s → Opens source s
   opens s n o q = opens_at source p s n.placed n.stack s.run.control refl o q
 
   goes : (s t : State) → quiet.quiet source s ≡ Goes t → Stands p source s → Stands p source t
@@ -138,13 +138,13 @@ module _ (p : Program) (source : Source) (in_rooms : SourceIn (Sized p) source) 
     stack = subst (StackStep (Sized p)) e (walk_stack (Sized p) source in_rooms s n.stack);
   }
 
-  ridden : {s u : State} {q k : ℕ} {a : Asked} (d : Rides source s q u k a) → Stands p source s → RideMeets Addressed source s q u k a d → RideMeets Puts source s q u k a d → RideMeets (Opens source) source s q u k a d
+  ridden : {s u : State} {q k : ℕ} {a : Asked} (d : Rides source s q u k a) → Stands p source s → RideMeets Addressed source s q u k a d → RideMeets (Puts source) source s q u k a d → RideMeets (Opens source) source s q u k a d
   ridden rides.slices n o h = tt
   ridden (rides.goes_on {s} {t} e r) n o h = (opens s n o.0 h.0, ridden r (goes s t e n) o.1 h.1)
   ridden (rides.ticks {s} {t} e r) n o h = (opens s n o.0 h.0, ridden r (ticks s t e n) o.1 h.1)
   ridden (rides.asks {s} e) n o h = opens s n o h
 
-  led : {s u : State} (l : Leads source s u) → Stands p source s → LeadsMeet Addressed source s u l → LeadsMeet Puts source s u l → LeadsMeet (Opens source) source s u l
+  led : {s u : State} (l : Leads source s u) → Stands p source s → LeadsMeet Addressed source s u l → LeadsMeet (Puts source) source s u l → LeadsMeet (Opens source) source s u l
   led rooms.stays n o h = tt
   led (rooms.goes {s} {u} e l) n o h = (opens s n o.0 h.0, led l (goes s u e n) o.1 h.1)
   led (rooms.ticks {s} {u} e l) n o h = (opens s n o.0 h.0, led l (ticks s u e n) o.1 h.1)
@@ -162,7 +162,7 @@ module _ (p : Program) (formed : IsFormed p) (accepted : breaks_of p ≡ []) (in
   begins : {j : Journal} {w : World} (r : Runs (source_of p) input opts j w) → RunFits (source_of p) input opts j w r → is_over j ≡ false → (q t : ℕ) (a : Answer) → running q j ≡ t ∷ [] → answer_to (source_of p).sites t j ≡ Some a → Stands p (source_of p) (answered (source_of p) a (drawn j w t))
   begins {j} {w} r f on q t a runs told = stands r f on t _ (record { given = a; processor = q; runs = runs; told = told; leads = rooms.stays })
 
-  may_open : {j : Journal} {w : World} {a : List Entry} {x : World} (r : Runs (source_of p) input opts j w) → RunFits (source_of p) input opts j w r → is_over j ≡ false → (m : May (source_of p) opts input j w a x) → MayMeet Addressed (source_of p) opts input j w a x m → MayMeet Puts (source_of p) opts input j w a x m → MayMeet (Opens (source_of p)) (source_of p) opts input j w a x m
+  may_open : {j : Journal} {w : World} {a : List Entry} {x : World} (r : Runs (source_of p) input opts j w) → RunFits (source_of p) input opts j w r → is_over j ≡ false → (m : May (source_of p) opts input j w a x) → MayMeet Addressed (source_of p) opts input j w a x m → MayMeet (Puts (source_of p)) (source_of p) opts input j w a x m → MayMeet (Opens (source_of p)) (source_of p) opts input j w a x m
   may_open r f on (gives q t s le) o h = tt
   may_open r f on (no_room q t s le) o h = tt
   may_open r f on (acts q t n s asked d) o h =

@@ -1,15 +1,16 @@
 -- What is bound, and the object at hand that gets an execution, lies aside.
-use Rattle.std.proofs.Common.{◌≡◌, ℕ, ◌<◌, ◌⊎◌, inl, inr, Bool, true, List, [], ◌∷◌, arith}
+use Rattle.std.proofs.Common.{◌≡◌, ℕ, ◌<◌, Bool, true, List, [], ◌∷◌, drop, arith}
 use Rattle.uc_tree.specs.Source.{Source}
 use Rattle.uc_machine.specs.declared.exec.Owner.{Owner}
 use Rattle.uc_machine.specs.declared.exec.Owner.TheVariants.{Frame, Fields}
 use Rattle.uc_machine.specs.Pieces as piece
 use Rattle.uc_machine.specs.Pieces.{Link, Value, Number, Place, Running, Object, Nothing, LAST_ADDRESS, address, Todo, Active, State, top, below}
 use Rattle.uc_state_laws.specs.There.{IsBefore, Pends, EachNext}
-use Rattle.uc_state_laws.specs.ThereStates.{StackAside, InFrame, IsAside, PutsAside}
-use Rattle.uc_place_laws.specs.Asides.{IsNearer, PendsBefore, OwnerAside, LiesAside, IsNear, Mark, Holds, rest, FirstAside, FirstLoose, Free, OkNow}
+use Rattle.uc_state_laws.specs.ThereStates.{StackAside, InFrame, IsAside}
+use Rattle.uc_state_laws.specs.Counted.{params}
+use Rattle.uc_place_laws.specs.Asides.{IsNearer, PendsBefore, OwnerAside, LiesAside, IsNear, Mark, Holds, rest, rests, Free, OkNow}
 use Rattle.uc_place_laws.specs.AsideLaws.{PutsAt, LawPuts}
-use Rattle.uc_place_laws.proofs.AsideMarks.{holds_below, holds_aside, holds_loose, pends_more, each_next_more, free_pends}
+use Rattle.uc_place_laws.proofs.AsideMarks.{holds_below, holds_aside, holds_drop, pends_more, each_next_more, free_pends}
 
 -- what lies before a cell is not at that
 apart : (cell : ℕ) (p : List Link) → IsBefore cell p → address p ≡ cell → ⊥
@@ -37,12 +38,14 @@ module _ (s : State) (todo : List Todo) (free : Free todo) where
   is_aside Nothing h = tt
 
 module _ (makes : ℕ → Bool) (source : Source) (s : State) (made : Bool) (this : made ≡ true → LiesAside s.env.exec s.callers s.run.this) (ms : List Mark) (holds : Holds s.env.exec s.callers ms s.run.operands) where
-  bound : (todo : List Todo) → (FirstAside (rest ms) × Free todo) ⊎ FirstLoose ms → PutsAside todo s
-  bound todo (inl h) = inr (is_aside s todo h.1 (top (below s.run.operands)) (holds_aside s.env.exec s.callers (rest ms) (below s.run.operands) (holds_below s.env.exec s.callers ms s.run.operands holds) h.0))
-  bound todo (inr h) = inl (holds_loose s.env.exec s.callers ms s.run.operands holds h)
+  one : Holds s.env.exec s.callers (rest ms) (below s.run.operands)
+  one = holds_below s.env.exec s.callers ms s.run.operands holds
 
-  puts_at : (l : List Todo) → OkNow makes source (IsNear s.run.frame s.callers) made ms l → PutsAt l s
-  puts_at (piece.BindNow ∷ todo) h = bound todo h.0
+  puts_at : (l : List Todo) → OkNow makes source (IsNear s.run.frame s.callers) made ms l → PutsAt source l s
+  puts_at (piece.BindNow ∷ todo) h = is_aside s todo h.0.1 (top (below s.run.operands)) (holds_aside s.env.exec s.callers (rest ms) (below s.run.operands) one h.0.0)
+  puts_at (piece.BindMadeNow c r ∷ todo) h =
+      let n = params source r in
+      is_aside s todo h.0.2 (top (drop n (below s.run.operands))) (holds_aside s.env.exec s.callers (rests n (rest ms)) (drop n (below s.run.operands)) (holds_drop s.env.exec s.callers n (rest ms) (below s.run.operands) one) h.0.1)
   puts_at (piece.SetUpNow r ∷ todo) h = is_aside s todo h.0.2 s.run.this (this h.0.0)
   puts_at l h = tt
 

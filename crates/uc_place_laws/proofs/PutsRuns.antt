@@ -42,7 +42,7 @@ record Stands (p : Program) (s : State) : Type 0 where
   stack : StackState (Sized p) s
 
 module _ (p : Program) (in_rooms : SourceIn (Sized p) (source_of p)) (known : (n : ℕ) → CodeRoutine (makes_of p) (source_of p) (makes_of p n) (slice_get (source_of p).routines n)) where
-  puts : (s : State) → Stands p s → Puts s
+  puts : (s : State) → Stands p s → Puts (source_of p) s
   puts s n = law_puts (makes_of p) (source_of p) s n.aside
 
   goes : (s t : State) → quiet.quiet (source_of p) s ≡ Goes t → Stands p s → Stands p t
@@ -57,13 +57,13 @@ module _ (p : Program) (in_rooms : SourceIn (Sized p) (source_of p)) (known : (n
     stack = subst (StackStep (Sized p)) e (walk_stack (Sized p) (source_of p) in_rooms s n.stack);
   }
 
-  ridden : {s u : State} {q k : ℕ} {a : Asked} (d : Rides (source_of p) s q u k a) → Stands p s → RideMeets Puts (source_of p) s q u k a d
+  ridden : {s u : State} {q k : ℕ} {a : Asked} (d : Rides (source_of p) s q u k a) → Stands p s → RideMeets (Puts (source_of p)) (source_of p) s q u k a d
   ridden rides.slices n = tt
   ridden (rides.goes_on {s} {t} e r) n = (puts s n, ridden r (goes s t e n))
   ridden (rides.ticks {s} {t} e r) n = (puts s n, ridden r (ticks s t e n))
   ridden (rides.asks {s} e) n = puts s n
 
-  led : {s u : State} (l : Leads (source_of p) s u) → Stands p s → LeadsMeet Puts (source_of p) s u l
+  led : {s u : State} (l : Leads (source_of p) s u) → Stands p s → LeadsMeet (Puts (source_of p)) (source_of p) s u l
   led rooms.stays n = tt
   led (rooms.goes {s} {u} e l) n = (puts s n, led l (goes s u e n))
   led (rooms.ticks {s} {u} e l) n = (puts s n, led l (ticks s u e n))
@@ -79,7 +79,7 @@ module _ (p : Program) (formed : IsFormed p) (accepted : breaks_of p ≡ []) (in
         stack = (law_frame_runs p accepted input opts j w r).comes t _ c;
       }
 
-  may_put : {j : Journal} {w : World} {a : List Entry} {x : World} (r : Runs (source_of p) input opts j w) → RunFits (source_of p) input opts j w r → is_over j ≡ false → (m : May (source_of p) opts input j w a x) → MayMeet Puts (source_of p) opts input j w a x m
+  may_put : {j : Journal} {w : World} {a : List Entry} {x : World} (r : Runs (source_of p) input opts j w) → RunFits (source_of p) input opts j w r → is_over j ≡ false → (m : May (source_of p) opts input j w a x) → MayMeet (Puts (source_of p)) (source_of p) opts input j w a x m
   may_put r f on (gives q t s le) = tt
   may_put r f on (no_room q t s le) = tt
   may_put r f on (acts q t n s asked d) = ridden p (law_accepted p accepted) (code_of p formed accepted) d.rides (begins r f on q t d.given d.runs d.told)
@@ -91,7 +91,7 @@ law_runs = record {
   comes = λ p formed accepted input opts range j w r f on t s c. law_puts (makes_of p) (source_of p) s (aside_in p formed accepted input opts range j w r f on t s c);
 }
   where
-    runs : (p : Program) → IsFormed p → breaks_of p ≡ [] → (input : List ℕ) (opts : Options) → InRange opts → (j : Journal) (w : World) (r : Runs (source_of p) input opts j w) → RunFits (source_of p) input opts j w r → RunMeets Puts (source_of p) input opts j w r
+    runs : (p : Program) → IsFormed p → breaks_of p ≡ [] → (input : List ℕ) (opts : Options) → InRange opts → (j : Journal) (w : World) (r : Runs (source_of p) input opts j w) → RunFits (source_of p) input opts j w r → RunMeets (Puts (source_of p)) (source_of p) input opts j w r
     runs p formed accepted input opts range j w begun f = tt
     runs p formed accepted input opts range j w (more r on m) f =
         (runs p formed accepted input opts range _ _ r f.0, may_put p formed accepted input opts range r f.0 on m)

@@ -68,7 +68,7 @@ module _ (p : Program) (formed : IsFormed p) (u : Unbroken (program_visits p)) w
   field_built None f len k i args rest h l = field_started f k i args rest h l
   field_built (Some m) f len k i args rest h l =
       let behind : Stmts = src.Built (meaning.clean_up p m len (src.OfObject (src.OwnField k i))) rest in
-      (statements.build p (OpensAt behind) (OpensAlone behind) true 0 m len (src.OfObject (src.OwnField k i)) args (own_at m) (own_alone m) tt h, (statements.clean_up p m len (src.OfObject (src.OwnField k i)) tt, l))
+      (statements.build p (OpensAt behind) (OpensAlone behind) true 0 m len (src.OfObject (src.OwnField k i)) args (own_at m) (own_alone m) refl tt h, (statements.clean_up p m len (src.OfObject (src.OwnField k i)) tt, l))
 
   field_left : (m : Option Making) (len : Option ℕ) (k : Shape) (i : ℕ) (rest : Stmts) → Plain rest → Plain (meaning.field_left p m len (src.OfObject (src.OwnField k i)) rest)
   field_left None len k i rest l = l

@@ -13,7 +13,7 @@ use Rattle.uc_resolve.specs.Standings as tree
 use Rattle.uc_resolve.specs.Standings.{Meant}
 use Rattle.uc_resolve.specs.Resolve as meaning
 use Rattle.uc_resolve.specs.Resolve.{Scope}
-use Rattle.uc_place_laws.specs.Siting.{OpensAt, OpensAlone, Nowhere, PlainExpr, PlainMaybe, PlainItems, PlainTargets, PlainDeclared, SitedAt, BuildsAt, PlainSingle, SitedExpr, SitedClean, SitedRaised, SitedStmt, SitedStmts, SitedHandlers, SitedClauses}
+use Rattle.uc_place_laws.specs.Siting.{OpensAt, OpensAlone, Nowhere, Everywhere, PlainExpr, PlainMaybe, PlainItems, PlainTargets, PlainDeclared, SitedAt, BuildsAt, PlainSingle, SitedExpr, SitedClean, SitedRaised, SitedStmt, SitedStmts, SitedHandlers, SitedClauses}
 use Rattle.uc_place_laws.specs.AsideLaws.{makes_of}
 use Rattle.uc_place_laws.proofs.Roles.{written_plain, unwritten_plain}
 use Rattle.uc_place_laws.proofs.AsideMarks.{stmt_more}
@@ -37,11 +37,11 @@ module _ (p : Program) where
     called_by i place args None h k = h
     called_by i place args (Some r) h k = (h, expressions.args_by p (tree.params_of p r) args k)
 
-    made_by : (i : ℕ) (place : Expr) (args : List Meant) (r : Option ℕ) → PlainExpr (makes_of p) place → AllMeant p args → SitedExpr (makes_of p) Near made (meaning.made_by p i place args r)
+    made_by : (i : ℕ) (place : Expr) (args : List Meant) (r : Option ℕ) → SitedAt (makes_of p) Everywhere made place → AllMeant p args → SitedExpr (makes_of p) Near made (meaning.made_by p i place args r)
     made_by i place args None h k = inl (inr (h, tt))
     made_by i place args (Some r) h k = inl (inr (h, expressions.args_by p (tree.params_of p r) args k))
 
-    constructed : (m : Making) (place : Expr) (args : List Meant) → IfPlain m (SitedAt (makes_of p) Near made place) → PlainExpr (makes_of p) place → AllMeant p args → SitedExpr (makes_of p) Near made (meaning.constructed p m place args)
+    constructed : (m : Making) (place : Expr) (args : List Meant) → IfPlain m (SitedAt (makes_of p) Near made place) → SitedAt (makes_of p) Everywhere made place → AllMeant p args → SitedExpr (makes_of p) Near made (meaning.constructed p m place args)
     constructed (APlain i) place args a h k = inr (called_by i place args (written_at p i role.Constructor) a k)
     constructed (AMutex i) place args a h k = made_by i place args (written_at p i role.Constructor) h k
     constructed ACluster place args a h k = inl (inr (h, tt))
@@ -51,35 +51,35 @@ module _ (p : Program) where
   destroyed_by i place None e h = (unwritten_plain p i, h)
   destroyed_by i place (Some r) e h = (written_plain p i r e, h, expressions.args_by p (tree.params_of p r) [] tt)
 
-  ended_by : (i : ℕ) (object : Expr) (r : Option ℕ) → written_at p i role.Destructor ≡ r → PlainExpr (makes_of p) object → PlainSingle (makes_of p) (meaning.ended_by p i object r)
+  ended_by : (i : ℕ) (object : Expr) (r : Option ℕ) → written_at p i role.Destructor ≡ r → PlainExpr (makes_of p) object → PlainSingle (makes_of p) false (meaning.ended_by p i object r)
   ended_by i object None e h = inr (unwritten_plain p i, h)
   ended_by i object (Some r) e h = inr (written_plain p i r e, h)
 
-  destroyed : (m : Making) (place : Expr) → PlainExpr (makes_of p) place → PlainSingle (makes_of p) (meaning.destroyed p m place)
+  destroyed : (m : Making) (place : Expr) → PlainExpr (makes_of p) place → PlainSingle (makes_of p) false (meaning.destroyed p m place)
   destroyed (APlain i) place h = inl (destroyed_by i place (written_at p i role.Destructor) refl h)
   destroyed (AMutex i) place h = ended_by i (src.Load place) (written_at p i role.Destructor) refl h
   destroyed ACluster place h = inr h
   destroyed AProcessor place h = inr h
 
   module _ (Near : ℕ → Type 0) (Alone : Type 0) (made : Bool) where
-    fills : (b : Expr) → SitedExpr (makes_of p) Near made b → (BuildsAt (makes_of p) Near made b → Alone) → PlainSingle (makes_of p) b ⊎ (BuildsAt (makes_of p) Near made b × Alone)
+    fills : (b : Expr) → SitedExpr (makes_of p) Near made b → (BuildsAt (makes_of p) Near made b → Alone) → PlainSingle (makes_of p) made b ⊎ (BuildsAt (makes_of p) Near made b × Alone)
     fills b (inl h) f = inl h
     fills b (inr h) f = inr (h, f h)
 
-    pub build : (line : ℕ) (m : Making) (len : Option ℕ) (place : Expr) (args : List Meant) → IfPlain m (SitedAt (makes_of p) Near made place) → IfPlain m Alone → PlainExpr (makes_of p) place → AllMeant p args → SitedStmt (makes_of p) Near Alone made (meaning.build p line m len place args)
-    build line m None place args a l h k = constructed Near made m place args a h k
-    build line (APlain i) (Some n) place args a l h k =
+    pub build : (line : ℕ) (m : Making) (len : Option ℕ) (place : Expr) (args : List Meant) → IfPlain m (SitedAt (makes_of p) Near made place) → IfPlain m Alone → SitedAt (makes_of p) Everywhere made place → PlainExpr (makes_of p) place → AllMeant p args → SitedStmt (makes_of p) Near Alone made (meaning.build p line m len place args)
+    build line m None place args a l w h k = constructed Near made m place args a w k
+    build line (APlain i) (Some n) place args a l w h k =
         let e : Expr = meaning.counted_element p (APlain i) n place in
-        (fills (meaning.constructed p (APlain i) e []) (constructed Near made (APlain i) e [] (a, tt) (h, tt) tt) (λ b. l), destroyed (APlain i) e (h, tt))
-    build line (AMutex i) (Some n) place args a l h k =
+        (fills (meaning.constructed p (APlain i) e []) (constructed Near made (APlain i) e [] (a, tt) (w, tt) tt) (λ b. l), destroyed (APlain i) e (h, tt))
+    build line (AMutex i) (Some n) place args a l w h k =
         let e : Expr = meaning.counted_element p (AMutex i) n place in
-        (inl (mutex i e (written_at p i role.Constructor) (h, tt)), destroyed (AMutex i) e (h, tt))
+        (inl (mutex i e (written_at p i role.Constructor) (w, tt)), destroyed (AMutex i) e (h, tt))
       where
-        mutex : (i : ℕ) (e : Expr) (r : Option ℕ) → PlainExpr (makes_of p) e → PlainSingle (makes_of p) (meaning.made_by p i e [] r)
+        mutex : (i : ℕ) (e : Expr) (r : Option ℕ) → SitedAt (makes_of p) Everywhere made e → PlainSingle (makes_of p) made (meaning.made_by p i e [] r)
         mutex i e None h = inr (h, tt)
         mutex i e (Some r) h = inr (h, expressions.args_by p (tree.params_of p r) [] tt)
-    build line ACluster (Some n) place args a l h k = (inl (inr ((h, tt), tt)), inr (h, tt))
-    build line AProcessor (Some n) place args a l h k = (inl (inr ((h, tt), tt)), inr (h, tt))
+    build line ACluster (Some n) place args a l w h k = (inl (inr ((w, tt), tt)), inr (h, tt))
+    build line AProcessor (Some n) place args a l w h k = (inl (inr ((w, tt), tt)), inr (h, tt))
 
   pub clean_up : (m : Making) (len : Option ℕ) (place : Expr) → PlainExpr (makes_of p) place → SitedClean (makes_of p) (meaning.clean_up p m len place)
   clean_up m None place h = destroyed m place h
@@ -182,7 +182,7 @@ module _ (p : Program) where
   scoped made m line b d s rest h =
       let len : Option ℕ = meaning.length_of p d d.len in
       let scope : Stmts = src.Scoped (meaning.clean_up p m len (src.Variable s.cells)) rest in
-      ((tt, tt), (build (OpensAt scope) (OpensAlone scope) made line m len (src.Variable s.cells) (meaning.start_args p s d.start) (scope_at m len s.cells rest) (scope_alone m len s.cells rest) tt (start_args s d.start), (clean_up m len (src.Variable s.cells) tt, h)))
+      ((tt, tt), (build (OpensAt scope) (OpensAlone scope) made line m len (src.Variable s.cells) (meaning.start_args p s d.start) (scope_at m len s.cells rest) (scope_alone m len s.cells rest) tt tt (start_args s d.start), (clean_up m len (src.Variable s.cells) tt, h)))
 
   all_scoped : (made : Bool) (m : Making) (line : ℕ) (b : Base) (ds : List Declarator) (s : Scope) (rest : Stmts) → SitedStmts (makes_of p) made rest → SitedStmts (makes_of p) made (meaning.objects_scoped p m line b ds s rest)
   all_scoped made m line b [] s rest h = h

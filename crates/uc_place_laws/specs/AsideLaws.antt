@@ -1,13 +1,13 @@
 -- In programs that break no rule objects are built where they lie aside of the variables that are still to be bound, and so does what
 -- constructors bind.
-use Rattle.std.specs.Prelude.{◌≡◌, ℕ, Bool, true, false, List, [], ◌∷◌, Option, Some, None, slice_get}
+use Rattle.std.specs.Prelude.{◌≡◌, ℕ, Bool, true, false, List, [], ◌∷◌, drop, Option, Some, None, slice_get}
 use Rattle.uc_tree.specs.declared.kinds.Role.{Role}
 use Rattle.uc_tree.specs.declared.kinds.Role.TheVariants as role
 use Rattle.uc_tree.specs.Programs.{Program}
 use Rattle.uc_tree.specs.Source.{Source, routine_of}
 use Rattle.uc_entry.specs.declared.request.Answer.{Answer}
 use Rattle.uc_machine.specs.Quiet.{State, quiet, first_state}
-use Rattle.uc_machine.specs.Pieces.{Todo, BindNow, SetUpNow}
+use Rattle.uc_machine.specs.Pieces.{Todo, BindNow, BindMadeNow, SetUpNow, top, below}
 use Rattle.uc_machine.specs.Answering.{answered}
 use Rattle.uc_answer_laws.specs.Suiting.{Form, IsForm}
 use Rattle.uc_resolve.specs.Resolve.{source_of}
@@ -16,8 +16,8 @@ use Rattle.uc_state_laws.specs.Layout.{Sized}
 use Rattle.uc_state_laws.specs.RoomStacks.{StackState}
 use Rattle.uc_sound.specs.SoundFormed.{IsFormed}
 use Rattle.uc_state_laws.specs.Makers.{roles}
-use Rattle.uc_state_laws.specs.ThereStates.{IsAside, PutsAside}
-use Rattle.uc_state_laws.specs.Counted.{CountedSource}
+use Rattle.uc_state_laws.specs.ThereStates.{IsAside}
+use Rattle.uc_state_laws.specs.Counted.{params, CountedSource}
 use Rattle.uc_place_laws.specs.OlderResting.{AllWait, NamedEnv}
 use Rattle.uc_place_laws.specs.Siting.{SitedSource}
 use Rattle.uc_place_laws.specs.Asides.{FindsFor, Runs, Waits, AsideState, AsideStep}
@@ -51,14 +51,16 @@ pub record LawSteps : Type 0 where
       NamedEnv (Runs makes source) (Waits makes source) s.env →
       AsideState makes source (answered source given s)
 
--- what is bound lies aside, unless it is no place and no execution; so does the object at hand that gets an execution
-abbrev pub PutsAt : List Todo → State → Type 0
-PutsAt (BindNow ∷ todo) s = PutsAside todo s
-PutsAt (SetUpNow r ∷ todo) s = IsAside s.run.this todo s
-PutsAt todo s = Unit {0}
+-- what is bound lies aside of what is still to be bound, also to what is new; so does the object at hand that gets an execution
+abbrev pub PutsAt : Source → List Todo → State → Type 0
+PutsAt source (BindNow ∷ todo) s = IsAside (top (below s.run.operands)) todo s
+PutsAt source (BindMadeNow c r ∷ todo) s =
+    IsAside (top (drop (params source r) (below s.run.operands))) todo s
+PutsAt source (SetUpNow r ∷ todo) s = IsAside s.run.this todo s
+PutsAt source todo s = Unit {0}
 
-abbrev pub Puts : State → Type 0
-Puts s = PutsAt s.run.control s
+abbrev pub Puts : Source → State → Type 0
+Puts source s = PutsAt source s.run.control s
 
 abbrev pub LawPuts : Type 0
-LawPuts = (makes : ℕ → Bool) (source : Source) (s : State) → AsideState makes source s → Puts s
+LawPuts = (makes : ℕ → Bool) (source : Source) (s : State) → AsideState makes source s → Puts source s

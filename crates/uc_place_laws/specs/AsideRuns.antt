@@ -21,13 +21,13 @@ pub record LawRuns : Type 0 where
   pub runs : (p : Program) → IsFormed p → breaks_of p ≡ [] →
       (input : List ℕ) (opts : Options) → InRange opts → (j : Journal) (w : World) →
       (r : Runs (source_of p) input opts j w) → RunFits (source_of p) input opts j w r →
-      RunMeets Puts (source_of p) input opts j w r
+      RunMeets (Puts (source_of p)) (source_of p) input opts j w r
   pub leads : (p : Program) → IsFormed p → breaks_of p ≡ [] →
       (input : List ℕ) (opts : Options) → InRange opts → (j : Journal) (w : World) →
       (r : Runs (source_of p) input opts j w) → RunFits (source_of p) input opts j w r →
       is_over j ≡ false → (t : ℕ) (s : State) (c : Comes (source_of p) j w t s) →
-      LeadsMeet Puts (source_of p) (answered (source_of p) c.given (drawn j w t)) s c.leads
+      LeadsMeet (Puts (source_of p)) (source_of p) (answered (source_of p) c.given (drawn j w t)) s c.leads
   pub comes : (p : Program) → IsFormed p → breaks_of p ≡ [] →
       (input : List ℕ) (opts : Options) → InRange opts → (j : Journal) (w : World) →
       (r : Runs (source_of p) input opts j w) → RunFits (source_of p) input opts j w r →
-      is_over j ≡ false → (t : ℕ) (s : State) → Comes (source_of p) j w t s → Puts s
+      is_over j ≡ false → (t : ℕ) (s : State) → Comes (source_of p) j w t s → Puts (source_of p) s

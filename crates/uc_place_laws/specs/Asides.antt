@@ -174,7 +174,7 @@ module _ (makes : ℕ → Bool) (source : Source) where
   CodeDeclared ds = CountedDeclared source ds × PlainDeclared makes ds
 
   abbrev pub CodeEnds : Expr → Type 0
-  CodeEnds e = CountedExpr source e × PlainSingle makes e
+  CodeEnds e = CountedExpr source e × PlainSingle makes false e
 
   abbrev pub CodeClean : CleanUp → Type 0
   CodeClean c = CountedClean source c × SitedClean makes c
@@ -230,7 +230,7 @@ module _ (makes : ℕ → Bool) (source : Source) where
   -- elements are built at a place where no array follows of what is known by its number
   abbrev pub FillsBy : (ℕ → Type 0) → Bool → ℕ → Expr → Expr → List Todo → Type 0
   FillsBy Near made n b d todo =
-      CountedExpr source b × (PlainSingle makes b ⊎ (BuildsAt makes Near made b × EachNext (λ p. ⊥) (piece.DropNow ∷ (piece.MoreNow ∷ (piece.FillNow n b d ∷ todo)))))
+      CountedExpr source b × (PlainSingle makes made b ⊎ (BuildsAt makes Near made b × EachNext (λ p. ⊥) (piece.DropNow ∷ (piece.MoreNow ∷ (piece.FillNow n b d ∷ todo)))))
 
   -- one who leaves a simple piece comes to what stands behind it; at a mark that may be done
   abbrev pub LeftBy : (ℕ → Type 0) → Bool → Sort → List Todo → Type 0 → Type 0 → Type 0
@@ -253,11 +253,13 @@ module _ (makes : ℕ → Bool) (source : Source) where
       pub Ok : List Mark → List Todo → Type 0
       Ok ms [] = Unit {0}
       Ok ms (piece.Eval e ∷ todo) =
-          CountedExpr source e × ((PlainExpr makes e × Ok (Any ∷ ms) todo) ⊎ ((Singly makes e × Ok (Any ∷ ms) todo) ⊎ ((BuildsAt makes Near made e × Free todo × EachNext (λ p. ⊥) todo × Ok (Any ∷ ms) todo) ⊎ ((SitedAt makes Near made e × Ok (Aside ∷ ms) todo) ⊎ (PlainNew makes e × Ok (Loose ∷ ms) todo)))))
+          CountedExpr source e × ((PlainExpr makes e × Ok (Any ∷ ms) todo) ⊎ ((Singly makes made e × Free todo × Ok (Any ∷ ms) todo) ⊎ ((BuildsAt makes Near made e × Free todo × EachNext (λ p. ⊥) todo × Ok (Any ∷ ms) todo) ⊎ ((SitedAt makes Near made e × Ok (Aside ∷ ms) todo) ⊎ (PlainNew makes e × Ok (Loose ∷ ms) todo)))))
       Ok ms (piece.ElementNow n s ∷ todo) = Ok (Any ∷ rest (rest ms)) todo ⊎ (FirstAside (rest ms) × Ok (Aside ∷ rest (rest ms)) todo)
-      Ok ms (piece.BindNow ∷ todo) = ((FirstAside (rest ms) × Free todo) ⊎ FirstLoose ms) × Ok (Any ∷ rest (rest ms)) todo
-      Ok ms (piece.MakeNow c r ∷ todo) = Ok (anys (params source r) (Loose ∷ rests (suc (params source r)) ms)) todo
-      Ok ms (piece.BindMadeNow c r ∷ todo) = FirstLoose ms × Ok (anys (params source r) (Loose ∷ rests (suc (params source r)) (rest ms))) todo
+      Ok ms (piece.BindNow ∷ todo) = (FirstAside (rest ms) × Free todo) × Ok (Any ∷ rest (rest ms)) todo
+      Ok ms (piece.MakeNow c r ∷ todo) =
+          (FirstAside (rests (params source r) ms) × Free todo) × Ok (anys (params source r) (Loose ∷ rests (suc (params source r)) ms)) todo
+      Ok ms (piece.BindMadeNow c r ∷ todo) =
+          (FirstLoose ms × FirstAside (rests (params source r) (rest ms)) × Free todo) × Ok (anys (params source r) (Loose ∷ rests (suc (params source r)) (rest ms))) todo
       Ok ms (piece.ClusterNow ∷ todo) = (m : Mark) × IsTold m × Ok (m ∷ ms) todo
       Ok ms (piece.ProcessorNow ∷ todo) = (m : Mark) × IsTold m × Ok (m ∷ rest ms) todo
       Ok ms (piece.FillNow n b d ∷ todo) = (FillsBy Near made n b d todo × CodeEnds d × Calm todo) × Ok [] todo

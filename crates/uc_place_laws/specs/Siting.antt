@@ -26,9 +26,12 @@ abbrev pub OpensAlone : Stmts → Type 0
 OpensAlone (Scoped c rest) = OfEach (λ p. ⊥) c
 OpensAlone ss = Unit {0}
 
--- nothing is built at a variable
+-- nothing is built at a variable; something may be at each
 abbrev pub Nowhere : ℕ → Type 0
 Nowhere k = ⊥
+
+abbrev pub Everywhere : ℕ → Type 0
+Everywhere k = Unit {0}
 
 -- `makes r`: the routine of this number may bind fields of the object at hand
 module _ (makes : ℕ → Bool) where
@@ -125,24 +128,25 @@ module _ (makes : ℕ → Bool) where
   BuildsAt Near made (OfObject (Bind p e)) = SitedAt Near made p × PlainExpr e
   BuildsAt Near made e = ⊥
 
-  -- one that does not: it binds a place to what is new, makes a mutex object, or ends what is known by its number
-  abbrev pub Singly : Expr → Type 0
-  Singly (OfObject (Bind p e)) = PlainExpr p × PlainNew e
-  Singly (OfObject (MakeOn c r written p args)) = PlainExpr p × PlainExprs args
-  Singly (OfObject (EndOn r written e)) = (makes r ≡ false) × PlainExpr e
-  Singly (OfObject (EndCluster e)) = PlainExpr e
-  Singly (OfObject (EndProcessor e)) = PlainExpr e
-  Singly e = ⊥
+  -- one that does not: it binds a place to what is new, makes a mutex object, at a variable or at such a field, or ends what is known by its
+  -- number
+  abbrev pub Singly : Bool → Expr → Type 0
+  Singly made (OfObject (Bind p e)) = SitedAt Everywhere made p × PlainNew e
+  Singly made (OfObject (MakeOn c r written p args)) = SitedAt Everywhere made p × PlainExprs args
+  Singly made (OfObject (EndOn r written e)) = (makes r ≡ false) × PlainExpr e
+  Singly made (OfObject (EndCluster e)) = PlainExpr e
+  Singly made (OfObject (EndProcessor e)) = PlainExpr e
+  Singly made e = ⊥
 
-  abbrev pub PlainSingle : Expr → Type 0
-  PlainSingle e = PlainExpr e ⊎ Singly e
+  abbrev pub PlainSingle : Bool → Expr → Type 0
+  PlainSingle made e = PlainExpr e ⊎ Singly made e
 
   abbrev pub SitedExpr : (ℕ → Type 0) → Bool → Expr → Type 0
-  SitedExpr Near made e = PlainSingle e ⊎ BuildsAt Near made e
+  SitedExpr Near made e = PlainSingle made e ⊎ BuildsAt Near made e
 
   abbrev pub SitedClean : CleanUp → Type 0
-  SitedClean (Destroys e) = PlainSingle e
-  SitedClean (DestroysAll n e) = PlainSingle e
+  SitedClean (Destroys e) = PlainSingle false e
+  SitedClean (DestroysAll n e) = PlainSingle false e
   SitedClean c = Unit {0}
 
   -- an event is built in the hidden cells of its statement
@@ -169,7 +173,7 @@ module _ (makes : ℕ → Bool) where
     SitedStmt Near Alone made (Continue line) = Unit {0}
     SitedStmt Near Alone made (Return line e) = PlainMaybe e
     SitedStmt Near Alone made (Owes line) = Unit {0}
-    SitedStmt Near Alone made (Fill line n b d) = (PlainSingle b ⊎ (BuildsAt Near made b × Alone)) × PlainSingle d
+    SitedStmt Near Alone made (Fill line n b d) = (PlainSingle made b ⊎ (BuildsAt Near made b × Alone)) × PlainSingle false d
     SitedStmt Near Alone made (OfEvents a) = SitedEvent made a
     SitedStmt Near Alone made (OfTasks a) = SitedTask made a
 

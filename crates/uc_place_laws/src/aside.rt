@@ -19,8 +19,8 @@ pub fn law_steps()
     ensures { LawSteps }
 {}
 
-/// In such a task what is bound is no place and no execution, or its place lies aside of all variables that
-/// are still to be bound; and so does the object at hand that gets an execution.
+/// In such a task what is bound, also to what is new, lies aside of all variables that are still to be
+/// bound; and so does the object at hand that gets an execution.
 pub fn law_puts()
     ensures { LawPuts }
 {}

@@ -233,6 +233,7 @@ module _ (t : Table) (source : Source) (special : ℕ → Bool) (r q : Reach) (w
   cleans_more (src.Destroys e) (inr (inl h)) = inr (inl (calls_more (IsSpotOf (src.Destroys e)) (IsSpotOf (src.Destroys e)) (λ x i y. y) e h))
   cleans_more (src.Destroys e) (inr (inr h)) = inr (inr (ends_more (IsSpotOf (src.Destroys e)) (IsSpotOf (src.Destroys e)) (λ x i y. y) e h))
   cleans_more (src.DestroysAll n e) h = sweeps_more (IsSpotOf (src.DestroysAll n e)) (IsSpotOf (src.DestroysAll n e)) (λ x i y. y) e h
+  cleans_more src.Forgets h = wide (OfField src.Last 0) h
   cleans_more c h = h
 
   raises_more : (x : Raised) → RaisesBy t source special r x → RaisesBy t source special q x

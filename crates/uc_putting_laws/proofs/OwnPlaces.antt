@@ -57,6 +57,7 @@ module _ (g : Setting) (s : State) (made : Reach) (this : IsSeated g.table g.few
       let k = at_of g.few (here s) (rests n (rest ms)) (drop n vs) under (λ x. IsIn made x × Ok g (here s) made (made_marks g r (Homed x) (rest ms)) todo) h in
       spot_own (site_spot k.0) k.2.0 (top (drop n vs)) (stands_under g.few (here s) k.0 (top (drop n vs)) k.1)
   own_places ms holds (piece.SetUpNow r ∷ todo) h = below_own g.few s.env.exec s.run.frame s.run.this (this.own h.0.0)
+  own_places ms holds (piece.ForgetNow ∷ todo) h = below_own g.few s.env.exec s.run.frame s.run.this (this.own h.0)
   own_places ms holds l h = tt
 
 states : (g : Setting) (s : State) → PutState g s → OwnPlaces g.few g.source s
@@ -87,4 +88,10 @@ law_own_places = record {
   states = states;
   runs = λ p formed accepted few input opts range j w r f fair.
       run p accepted few (laid_out p formed accepted) (law_calling p formed accepted).main (code_of p formed accepted few) input opts range r f fair;
+  rides = λ p formed accepted few input opts range j w r f fair on q t n s asked d now.
+      let laid = laid_out p formed accepted in
+      let main = (law_calling p formed accepted).main in
+      let known = code_of p formed accepted few in
+      let k = run_put p accepted few laid main known input opts range r f fair in
+      ridden p (setting_of p few) laid (law_accepted p accepted) known d.rides now (start p accepted few laid main known input opts range (run_rests (source_of p) input opts range r f on) on (k.0 on) (law_frame_runs p accepted input opts j w r) q t d.given d.runs d.told);
 }

@@ -254,6 +254,7 @@ module _ (g : Setting) where
 
     abbrev CodeClean : CleanUp → Type 0
     CodeClean src.Ends = Unit {0}
+    CodeClean src.Forgets = made.builds ≡ true
     CodeClean (src.Frees r) = Begins g.table g.source g.special r
     CodeClean c = CountedClean g.source c
 
@@ -261,7 +262,7 @@ module _ (g : Setting) where
     code_clean (src.Destroys e) todo n = n.0
     code_clean (src.DestroysAll m e) todo n = n.0
     code_clean src.Unwinds todo n = n.0
-    code_clean src.Forgets todo n = n.0
+    code_clean src.Forgets todo n = n.1
     code_clean src.Leaves todo n = n.0
     code_clean src.Ends todo n = tt
     code_clean (src.Frees r) todo n = n
@@ -271,7 +272,7 @@ module _ (g : Setting) where
     cleaned (src.Destroys e) todo n l h = destroys e todo n l h
     cleaned (src.DestroysAll m e) todo n l h = (tt, ((n, l), h))
     cleaned src.Unwinds todo n l h = (tt, h)
-    cleaned src.Forgets todo n l h = (tt, h)
+    cleaned src.Forgets todo n l h = (n, h)
     cleaned src.Leaves todo n l h = (tt, h)
     cleaned src.Ends todo n l h = (tt, h)
     cleaned (src.Frees None) todo n l h = (tt, h)

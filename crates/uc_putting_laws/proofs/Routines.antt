@@ -94,7 +94,7 @@ module _ (p : Program) (formed : IsFormed p) (u : Unbroken (program_visits p)) w
   set_up c i rest at h = by (has_execution c.kind) refl
     where
       by : (b : Bool) → has_execution c.kind ≡ b → Fine (meaning.set_up p b i rest)
-      by true e = ((refl, main_plain p formed u i c at (executes_main c.kind e)), (tt, h))
+      by true e = ((refl, main_plain p formed u i c at (executes_main c.kind e)), (refl, h))
       by false e = h
 
   started_in : (b : Bool) (body : Stmts) → Fine body → Fine (meaning.started_in p b body)
@@ -111,7 +111,7 @@ module _ (p : Program) (formed : IsFormed p) (u : Unbroken (program_visits p)) w
 
   forgotten : (b : Bool) (rest : Stmts) → Fine rest → Fine (meaning.forgotten p b rest)
   forgotten false rest h = h
-  forgotten true rest h = (tt, h)
+  forgotten true rest h = (refl, h)
 
   -- fields get their marks in order
 

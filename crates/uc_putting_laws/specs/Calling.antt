@@ -1,7 +1,7 @@
 -- Code in which constructors and destructors are called at variables and at fields of the object at hand alone, each by what builds the object or
 -- by a clean-up, and in which what holds the mutex object that it builds or destroys is called by what makes or ends that.
 use Rattle.std.specs.Prelude.{◌≡◌, ℕ, ◌⊎◌, Bool, true, false, List, Option, Some, None, slice_get}
-use Rattle.uc_tree.specs.Source.{Binding, Expr, Exprs, ObjectExpr, Variable, Element, Load, OfObject, OwnField, Counted, CallOn, CallLive, CallUnwritten, EnterOn, EndOn, Bind, MakeOn, NewCluster, NewProcessor, EndCluster, EndProcessor, Item, Target, Declared, CleanUp, Destroys, DestroysAll, Ends, Frees, Stmt, Stmts, Skip, Block, Whole, Evaluate, Declare, Print, PrintTogether, Read, If, Loop, Break, Continue, Return, Owes, Fill, OfEvents, OfTasks, Nil, Then, Scoped, Built, Raised, Plainly, BuiltAt, AgainFrom, EventStmt, Throw, Raise, Try, RaiseAt, Enable, Disable, TaskStmt, SetUp, Migrate, Accept, Handlers, NoHandlers, MoreHandlers, Clauses, NoClauses, Otherwise, MoreClauses, Routine, Source}
+use Rattle.uc_tree.specs.Source.{Binding, Expr, Exprs, ObjectExpr, Variable, Element, Load, OfObject, OwnField, Counted, CallOn, CallLive, CallUnwritten, EnterOn, EndOn, Bind, MakeOn, NewCluster, NewProcessor, EndCluster, EndProcessor, Item, Target, Declared, CleanUp, Destroys, DestroysAll, Forgets, Ends, Frees, Stmt, Stmts, Skip, Block, Whole, Evaluate, Declare, Print, PrintTogether, Read, If, Loop, Break, Continue, Return, Owes, Fill, OfEvents, OfTasks, Nil, Then, Scoped, Built, Raised, Plainly, BuiltAt, AgainFrom, EventStmt, Throw, Raise, Try, RaiseAt, Enable, Disable, TaskStmt, SetUp, Migrate, Accept, Handlers, NoHandlers, MoreHandlers, Clauses, NoClauses, Otherwise, MoreClauses, Routine, Source}
 use Rattle.uc_typing.specs.Typing.{Table}
 use Rattle.uc_inner_laws.specs.Walks as walk
 use Rattle.uc_life_laws.specs.Ending.{OfVariable, OfField}
@@ -141,10 +141,11 @@ module _ (t : Table) (source : Source) (special : ℕ → Bool) where
   abbrev pub SweepsBy : Reach → (Site → Type 0) → Expr → Type 0
   SweepsBy r P e = EndsNumber r e ⊎ (CallsAt r P e ⊎ EndsEach r P e)
 
-  -- a clean-up at its spot, but for those of the mutex object at hand
+  -- a clean-up at its spot, but for those of the mutex object at hand; an execution is forgotten by what builds or destroys its coroutine
   abbrev pub CleansBy : Reach → CleanUp → Type 0
   CleansBy r (Destroys e) = EndsNumber r e ⊎ (CallsAt r (IsSpotOf (Destroys e)) e ⊎ EndsAt r (IsSpotOf (Destroys e)) e)
   CleansBy r (DestroysAll n e) = SweepsBy r (IsSpotOf (DestroysAll n e)) e
+  CleansBy r Forgets = r.builds ≡ true
   CleansBy r Ends = ⊥
   CleansBy r (Frees q) = ⊥
   CleansBy r c = Unit {0}

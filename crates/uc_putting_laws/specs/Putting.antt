@@ -295,6 +295,7 @@ module _ (g : Setting) where
     CodePiece (piece.Guards cs) ms todo = CodeClauses (apart made) cs
     CodePiece (piece.ChooseNow cs) ms todo = CodeClauses (apart made) cs
     CodePiece piece.BindNow ms todo = FirstUnder (rest ms) (λ p. IsOf made p)
+    CodePiece piece.ForgetNow ms todo = made.builds ≡ true
     CodePiece (piece.SetUpNow r) ms todo = (made.builds ≡ true) × (g.special r ≡ false)
     CodePiece (piece.SpawnNow r) ms todo = g.special r ≡ false
     CodePiece (piece.ChildNow r) ms todo = g.special r ≡ false

@@ -42,7 +42,8 @@ use Rattle.uc_life_laws.specs.NamedRuns.{is_here}
 use Rattle.uc_life_laws.proofs.Owned.{owner_still}
 use Rattle.uc_life_laws.proofs.Riding.{RideNamed, run_more, ride_more, grows_not}
 use Rattle.uc_life_laws.proofs.NamedWorlds.{WorldNamed, run_named, named_act, found_none, vacuous, known, start, ride, after_by, after_more, now_more, own_stays}
-use Rattle.uc_life_laws.specs.Placed.{Placed, stacked}
+use Rattle.uc_life_laws.specs.Placed.{Placed}
+use Rattle.uc_life_laws.specs.Outermost.{outermost}
 use Rattle.uc_rooted_runs.specs.Makers.{Makers, MadeBy}
 use Rattle.uc_rooted_runs.specs.Births.{MakesLater, SpawnsLater, MaySpawnLater, RunSpawnsLater, LawBirths}
 
@@ -127,7 +128,7 @@ pub makes_more : (source : Source) (before behind : Home → ℕ) → ((h : Home
 makes_more source before behind le b c k s h = record {
   running = below_more before behind le s.env.exec h.running;
   born = λ n x. below_more before behind le n (h.born n x);
-  later = λ n x. later_kept before b c k n s.env.exec s.run.this (stacked (s.run ∷ s.callers)) (h.born n x) h.running (h.later n x);
+  later = λ n x. later_kept before b c k n s.env.exec s.run.this (outermost s.callers) (h.born n x) h.running (h.later n x);
 }
 
 grows_on : (here : Home → Bool) (a b c : Home → ℕ) → Grows here a b → Grows here b c → Grows here a c
@@ -169,12 +170,12 @@ module _ (source : Source) (here : Home → Bool) where
       by (Some m) e =
           let new : IsBelow serials (new_exec (home_at s.run.this s.env) s.env) → ⊥ = law_new.unnamed here false serials s k (home_at s.run.this s.env) m e in
           record {
-            births = made_now b (new_exec (home_at s.run.this s.env) s.env) s.env.exec s.run.this (stacked (s.run ∷ s.callers));
-            keeps = made_keeps serials b (new_exec (home_at s.run.this s.env) s.env) s.env.exec s.run.this (stacked (s.run ∷ s.callers)) new;
+            births = made_now b (new_exec (home_at s.run.this s.env) s.env) s.env.exec s.run.this (outermost s.callers);
+            keeps = made_keeps serials b (new_exec (home_at s.run.this s.env) s.env) s.env.exec s.run.this (outermost s.callers) new;
             makes = record {
               running = grown s.env.exec k.names.env_named.exec_below;
               born = h.born;
-              later = λ n x. subst (λ q. MadeBy (made_now b (new_exec (home_at s.run.this s.env) s.env) s.env.exec s.run.this (stacked (s.run ∷ s.callers))) q s.env.exec s.run.this (stacked (s.run ∷ s.callers))) (sym x.named) (made_by serials b (new_exec (home_at s.run.this s.env) s.env) s.env.exec s.run.this (stacked (s.run ∷ s.callers)) new k.names.env_named.exec_below);
+              later = λ n x. subst (λ q. MadeBy (made_now b (new_exec (home_at s.run.this s.env) s.env) s.env.exec s.run.this (outermost s.callers)) q s.env.exec s.run.this (outermost s.callers)) (sym x.named) (made_by serials b (new_exec (home_at s.run.this s.env) s.env) s.env.exec s.run.this (outermost s.callers) new k.names.env_named.exec_below);
             };
           }
 
@@ -246,11 +247,11 @@ module _ (source : Source) (input : List ℕ) (opts : Options) (range : InRange 
       let none = f o refl in
       let new : IsBelow now (main_of o) → ⊥ = λ l. omega (arith, l, none) in
       record {
-        births = made_now b (main_of o) s.env.exec (piece.Object o) (stacked (s.run ∷ s.callers));
-        keeps = made_keeps now b (main_of o) s.env.exec (piece.Object o) (stacked (s.run ∷ s.callers)) new;
+        births = made_now b (main_of o) s.env.exec (piece.Object o) (outermost s.callers);
+        keeps = made_keeps now b (main_of o) s.env.exec (piece.Object o) (outermost s.callers) new;
         running = below_more now (after_by (ask.Spawn o) now) (after_more (ask.Spawn o) now) s.env.exec h;
         main = λ k e. let one = one_main (ask.Spawn o) now k e in omega (arith, one);
-        later = made_by now b (main_of o) s.env.exec (piece.Object o) (stacked (s.run ∷ s.callers)) new h;
+        later = made_by now b (main_of o) s.env.exec (piece.Object o) (outermost s.callers) new h;
       }
   spawned now q s h f b = record {
     births = b;
@@ -274,7 +275,7 @@ module _ (source : Source) (input : List ℕ) (opts : Options) (range : InRange 
   }
     where
       by : (q : Request) → ((o : ℕ) → q ≡ ask.Spawn o → IsBelow before (main_of o)) → SpawnsLater b q s → SpawnsLater c q s
-      by (ask.Spawn o) m l = later_kept before b c k (main_of o) s.env.exec (piece.Object o) (stacked (s.run ∷ s.callers)) (m o refl) h.running l
+      by (ask.Spawn o) m l = later_kept before b c k (main_of o) s.env.exec (piece.Object o) (outermost s.callers) (m o refl) h.running l
       by q m l = tt
 
   abbrev pub MaySpawnBelow : (serials : Home → ℕ) (b : Makers) {j : Journal} {w : World} {a : List Entry} {v : World} → May source opts input j w a v → Type 0

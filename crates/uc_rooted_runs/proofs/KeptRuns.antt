@@ -41,7 +41,7 @@ use Rattle.uc_rooted_runs.specs.FreshStates.{TakesOthersBy, KeepsFresh}
 use Rattle.uc_rooted_runs.specs.Mains.{FindsAll}
 use Rattle.uc_rooted_runs.specs.MainRuns.{EndsMains}
 use Rattle.uc_rooted_runs.specs.Outlasting.{IsAlone}
-use Rattle.uc_rooted_runs.specs.OutlastRuns.{with_before, made_behind, ride_made, run_made, now, OutlastsAt, RideOutlasts, SpawnsAlone, MayOutlast, RunOutlasts}
+use Rattle.uc_rooted_runs.specs.OutlastRuns.{with_homes, made_behind, ride_made, run_made, now, OutlastsAt, RideOutlasts, SpawnsAlone, MayOutlast, RunOutlasts}
 use Rattle.uc_rooted_runs.specs.OutlastNames.{NamesAt, RideNames, SpawnsNew, MayName, RunNames}
 use Rattle.uc_rooted_runs.specs.Upwards.{IsBased}
 use Rattle.uc_rooted_runs.specs.MadeRuns.{IsMade, AllMade}
@@ -64,7 +64,7 @@ module _ (source : Source) where
   takes s h (TakeDownNow ∷ todo) = h
   takes s h (p ∷ todo) = tt
 
-  keeps_at : (j : Journal) (w : World) (t : ℕ) (s : State) → BindsOwn source s → EndsMains source s → FindsAll source s → StaysOwn source j w t s → KeepsFresh source s
+  pub keeps_at : (j : Journal) (w : World) (t : ℕ) (s : State) → BindsOwn source s → EndsMains source s → FindsAll source s → StaysOwn source j w t s → KeepsFresh source s
   keeps_at j w t s b e a h = record {
     binds = law_binds source s h.now.alone (λ u g. (subst (StepOwn j w t) g h.next).alone) b;
     ends = record { mains = e.bare; takes = takes s h.now.alone s.run.control; asks = e.asks a };
@@ -92,7 +92,7 @@ module _ (makers : Makers) (asked : Exec → Bool) where
       by (Finish ∷ todo) e h = f.finish todo e
       by l e h = h
 
-  at_state : (source : Source) (made : Exec → Bool) (s : State) → EndsMains source s → Keeps makers asked source made s → NamesAt makers asked source made s → OutlastsAt makers asked source made s
+  pub at_state : (source : Source) (made : Exec → Bool) (s : State) → EndsMains source s → Keeps makers asked source made s → NamesAt makers asked source made s → OutlastsAt makers asked source made s
   at_state source made s f k n = record { takes = law_ways source (seating makers) (now makers asked made) s (takes_at source made s f k.leaves n); alone = n.alone; held = k.held }
 
   pub ride_both : (source : Source) (made : Exec → Bool) {s u : State} {q k : ℕ} {a : Asked} (r : Rides source s q u k a) → RideMeets (EndsMains source) source s q u k a r → RideKeeps makers asked source made r → RideNames makers asked source made r → RideOutlasts makers asked source made r
@@ -116,8 +116,8 @@ module _ (makers : Makers) (asked : Exec → Bool) where
     run_both (more r o m) f k n = (run_both r f.0 k.0 n.0, may_both (run_made source input opts r) m f.1 k.1 n.1)
 
 pub law_kept_runs : LawKeptRuns
-law_kept_runs asked before source input opts j w r range fits on leaves spares mains b k =
-    law_outlast_runs asked before source input opts j w r range fits on b (run_both (with_before before b.makers) asked source input opts r (law_mains.runs source input opts j w r mains) k (law_outlast_names asked before source input opts j w r range fits on leaves spares b))
+law_kept_runs asked homes source input opts j w r range fits on leaves spares mains b k =
+    law_outlast_runs asked homes source input opts j w r range fits on b (run_both (with_homes homes b.makers) asked source input opts r (law_mains.runs source input opts j w r mains) k (law_outlast_names asked homes source input opts j w r range fits on leaves spares b))
 
 -- who lives was made, or is the main of task 0
 
@@ -167,12 +167,12 @@ module _ (t : Table) (few : Few) (own : Exec → Value → Ty → Bool) (yet : E
   upheld : (j : Journal) (a : List Entry) (x : World) (r : Runs source input opts (j ++ a) x) → RunFits source input opts (j ++ a) x r → is_over (j ++ a) ≡ false → RunLeaves source input opts (j ++ a) x r → RunMeets names.Spares source input opts (j ++ a) x r → RunMeets (EndsMains source) source input opts (j ++ a) x r → RunMeets (MakesLater source makers) source input opts (j ++ a) x r → RunSpawnsLater makers source input opts (j ++ a) x r → (u : ℕ) (q : Request) → LeftBehind t few (j ++ a) x u q → RootedBy t few own yet makers source input opts j a x r u q → UpheldBy t few own yet makers source input opts j a x r q
   upheld j a x r f on l h g m s u (ask.Gone o) left k = record {
     asked = k.asked;
-    before = k.before;
-    outlasts = run_both (with_before k.before makers) k.asked source input opts r g k.keeps (law_outlast_names k.asked k.before source input opts (j ++ a) x r range f on l h (record { makers = makers; made = m; spawned = s }));
+    homes = k.homes;
+    outlasts = run_both (with_homes k.homes makers) k.asked source input opts r g k.keeps (law_outlast_names k.asked k.homes source input opts (j ++ a) x r range f on l h (record { makers = makers; made = m; spawned = s }));
     based = λ n cs i w b d e.
         let made = law_made_runs.there source input opts (j ++ a) x r range f on in
         let is = in_world (run_made source input opts r) source (j ++ a) x made (run_first source input opts range r f on) n cs i in
-        based_of t few (with_before k.before makers) k.asked (run_made source input opts r) yet own (j ++ a) x k.first (law_made_runs.later source input opts (j ++ a) x r (record { makers = makers; made = m; spawned = s })) n is w b d e (k.based n cs i w b d e);
+        based_of t few (with_homes k.homes makers) k.asked (run_made source input opts r) yet own (j ++ a) x k.first (law_made_runs.later source input opts (j ++ a) x r (record { makers = makers; made = m; spawned = s })) n is w b d e (k.based n cs i w b d e);
     beside = law_beside t few j a x own yet u o left k.beside;
   }
   upheld j a x r f on l h g m s u q left k = tt

@@ -42,7 +42,8 @@ use Rattle.uc_life_laws.proofs.OwnWorlds.{no_hand, first_env}
 use Rattle.uc_life_laws.proofs.OwnNamesLemmas.{run_first}
 use Rattle.uc_life_laws.specs.Knowing.{main_of}
 use Rattle.uc_life_laws.specs.LifeStates.{SlotBy, ParkedBy, HandBy, EnvBy, MembersBy}
-use Rattle.uc_life_laws.specs.Placed.{Placed, stacked}
+use Rattle.uc_life_laws.specs.Placed.{Placed}
+use Rattle.uc_life_laws.specs.Outermost.{outermost}
 use Rattle.uc_rooted_runs.specs.Makers.{Makers, MadeBy}
 use Rattle.uc_rooted_runs.specs.Births.{MakesLater, SpawnsLater, RunSpawnsLater}
 use Rattle.uc_rooted_runs.specs.OutlastRuns.{with_made, made_by, made_behind, ride_made, made_asked, run_made}
@@ -310,7 +311,7 @@ module _ (makers : Makers) where
       where
         by : (b : Bool) → made n ≡ b → IsLater n
         by true f = h n f
-        by false f = later_by n s.env.exec s.run.this (stacked (s.run ∷ s.callers)) (m n (born_there source s made n e f))
+        by false f = later_by n s.env.exec s.run.this (outermost s.callers) (m n (born_there source s made n e f))
 
     ride_later : (made : Exec → Bool) {s u : State} {q k : ℕ} {a : Asked} (r : Rides source s q u k a) → RideMeets (MakesLater source makers) source s q u k a r → AllLater made → AllLater (ride_made source made r)
     ride_later made slices m h = h
@@ -322,7 +323,7 @@ module _ (makers : Makers) where
     asked_later made (ask.Spawn o) s l h n e = by (exec_eq n (main_of o)) refl e
       where
         by : (b : Bool) → exec_eq n (main_of o) ≡ b → (if b then true else made n) ≡ true → IsLater n
-        by true g e = subst (λ k. IsLater k) (sym (same_exec n (main_of o) g)) (later_by (main_of o) s.env.exec (piece.Object o) (stacked (s.run ∷ s.callers)) l)
+        by true g e = subst (λ k. IsLater k) (sym (same_exec n (main_of o) g)) (later_by (main_of o) s.env.exec (piece.Object o) (outermost s.callers) l)
         by false g e = h n e
     asked_later made q s l h n e = h n e
 

@@ -41,9 +41,9 @@ use Rattle.uc_life_laws.specs.Knowing.{main_of}
 use Rattle.uc_life_laws.proofs.Fewer.{both_members, both_env}
 use Rattle.uc_life_laws.specs.OwnNames.{at_hand, IsElsewhere, IsOwn, StepOwn, StaysOwn}
 use Rattle.uc_life_laws.proofs.OwnNamesLemmas.{run_owns, law_own_names}
-use Rattle.uc_rooted_runs.specs.Makers.{Outside, Makers}
+use Rattle.uc_rooted_runs.specs.Makers.{Makers}
 use Rattle.uc_rooted_runs.specs.Births.{MakesLater, SpawnsLater, RunSpawnsLater}
-use Rattle.uc_rooted_runs.specs.OutlastRuns.{with_before, with_made, made_by, made_behind, ride_made, made_asked, run_made, now, MadeNone, NoneElsewhere}
+use Rattle.uc_rooted_runs.specs.OutlastRuns.{with_homes, with_made, made_by, made_behind, ride_made, made_asked, run_made, now, MadeNone, NoneElsewhere}
 use Rattle.uc_rooted_runs.specs.OutlastNames.{NamesAt, RideNames, SpawnsNew, MayName, RunNames, LawOutlastNames}
 use Rattle.uc_rooted_runs.proofs.Births.{no_more, none_there, named_given}
 
@@ -81,9 +81,9 @@ born_there source s made x h f = at s.run.control refl h
     at (SetUpNow r ∷ todo) c h = one r todo c (slice_get source.routines r) refl (members_at (home_at s.run.this s.env) s.env) refl h
     at l c h = absurd (no_both (made x) h f)
 
-module _ (whole : Makers) (before : Outside) (asked : Exec → Bool) where
+module _ (whole : Makers) (homes : ℕ → Value) (asked : Exec → Bool) where
   abbrev makers : Makers
-  makers = with_before before whole
+  makers = with_homes homes whole
 
   now_asked : (made : Exec → Bool) (x : Exec) → now makers asked made x ≡ true → asked x ≡ true
   now_asked made x h = by (asked x) refl h
@@ -115,14 +115,14 @@ module _ (whole : Makers) (before : Outside) (asked : Exec → Bool) where
 
     -- a state
     module _ (serials : Home → ℕ) (made : Exec → Bool) (s : State) (n : Named (at_hand j w t) false serials s) (h : MadeBelow serials made) (own : StaysOwn source j w t s) (later : MakesLater source whole s) where
-      names_at : NamesAt makers asked source made s
+      pub names_at : NamesAt makers asked source made s
       names_at = record {
         new = λ r todo c m e x u p.
             law_new.unnamed (at_hand j w t) false serials s n (home_at s.run.this s.env) m e (subst (IsBelow serials) p (h x (now_made made x u)));
         alone = λ m b u e. let o : StepOwn j w t (Goes u) = subst (StepOwn j w t) e own.next in o.alone;
       }
 
-      below_behind : (behind : Home → ℕ) → ((h : Home) → serials h ≤ behind h) → MadeBelow behind (made_behind source s made)
+      pub below_behind : (behind : Home → ℕ) → ((h : Home) → serials h ≤ behind h) → MadeBelow behind (made_behind source s made)
       below_behind behind le x e = by (made x) refl
         where
           by : (b : Bool) → made x ≡ b → IsBelow behind (whole.parent x)
@@ -301,6 +301,6 @@ module _ (whole : Makers) (before : Outside) (asked : Exec → Bool) where
         }
 
 pub law_outlast_names : LawOutlastNames
-law_outlast_names asked before source input opts j w r range fits on leaves spares b =
-    let y = run_told b.makers before asked source input opts range r fits on leaves spares b.made b.spawned in
+law_outlast_names asked homes source input opts j w r range fits on leaves spares b =
+    let y = run_told b.makers homes asked source input opts range r fits on leaves spares b.made b.spawned in
     y.names

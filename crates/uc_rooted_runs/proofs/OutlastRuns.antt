@@ -22,7 +22,7 @@ use Rattle.uc_machine.specs.declared.exec.Home.TheVariants as home
 use Rattle.uc_machine.specs.Executions.{exec_eq, members_at}
 use Rattle.uc_machine.specs.Switches as sw
 use Rattle.uc_machine.specs.Switches.{new_exec}
-use Rattle.uc_machine.specs.Pieces.{Todo, SetUpNow, Active, State, Env, Members, Goes, Ticks, Asks, at, in_env, written, Running}
+use Rattle.uc_machine.specs.Pieces.{Value, Todo, SetUpNow, Active, State, Env, Members, Goes, Ticks, Asks, at, in_env, written, Running}
 use Rattle.uc_machine.specs.Quiet as quiet
 use Rattle.uc_machine.specs.Quiet.{home_at, first_state}
 use Rattle.uc_machine.specs.Answering.{answered, child_main, child_of}
@@ -51,12 +51,12 @@ use Rattle.uc_life_laws.specs.Placed.{stacked, Ends}
 use Rattle.uc_life_laws.specs.Held.{Seating, Held, Soon, SoonHere, SoonAsked, AllHeld, HeldEx, HeldState, HeldAsked, HeldAsk, HeldStep, TakesAt, TakesNow}
 use Rattle.uc_life_laws.proofs.HeldLaws.{law_held, held_ends, soon_ends}
 use Rattle.uc_life_laws.proofs.HeldKeeping as kept
-use Rattle.uc_rooted_runs.specs.Makers.{Outside, Makers, seating}
+use Rattle.uc_rooted_runs.specs.Makers.{Makers, seating}
 use Rattle.uc_rooted_runs.proofs.EndedTasks.{ended_by}
 use Rattle.uc_rooted_runs.specs.Outlasting.{IsAlone, Outlasts, OutlastEx}
 use Rattle.uc_rooted_runs.specs.Births.{MakesLater, SpawnsLater, RunSpawnsLater}
 use Rattle.uc_rooted_runs.specs.Upwards.{OutlastWorld}
-use Rattle.uc_rooted_runs.specs.OutlastRuns.{with_before, with_made, made_by, made_behind, ride_made, made_asked, run_made, now, OutlastsAt, RideOutlasts, SpawnsAlone, MayOutlast, RunOutlasts, LawOutlastRuns}
+use Rattle.uc_rooted_runs.specs.OutlastRuns.{with_homes, with_made, made_by, made_behind, ride_made, made_asked, run_made, now, OutlastsAt, RideOutlasts, SpawnsAlone, MayOutlast, RunOutlasts, LawOutlastRuns}
 
 -- of fewer, and of more
 
@@ -112,10 +112,10 @@ no_fault : (source : Source) (seats : Seating) (up : Exec → Bool) (r : Request
 no_fault source seats up (ask.Fault m) s f h = absurd (f m refl)
 no_fault source seats up r s f h = h
 
-module _ (whole : Makers) (before : Outside) (asked : Exec → Bool) where
+module _ (whole : Makers) (homed : ℕ → Value) (asked : Exec → Bool) where
   -- with these outer parts
   abbrev makers : Makers
-  makers = with_before before whole
+  makers = with_homes homed whole
 
   -- who is made now was not before
   abbrev Now : (Exec → Bool) → Exec → Bool
@@ -469,5 +469,5 @@ module _ (makers : Makers) (up : Exec → Bool) where
       by false e = absurd (f x u e p)
 
 pub law_outlast_runs : LawOutlastRuns
-law_outlast_runs asked before source input opts j w r range fits on b o =
-    world_ends b.makers before asked source input opts range (now (with_before before b.makers) asked (run_made source input opts r)) j w (run_outlasts b.makers before asked source input opts range r fits on o b.made b.spawned)
+law_outlast_runs asked homes source input opts j w r range fits on b o =
+    world_ends b.makers homes asked source input opts range (now (with_homes homes b.makers) asked (run_made source input opts r)) j w (run_outlasts b.makers homes asked source input opts range r fits on o b.made b.spawned)

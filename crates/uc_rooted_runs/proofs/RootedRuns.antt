@@ -18,7 +18,7 @@ use Rattle.uc_life_laws.specs.Things.{Few}
 use Rattle.uc_rooted_runs.specs.Makers.{Makers}
 use Rattle.uc_rooted_runs.specs.Births.{MakesLater, RunSpawnsLater}
 use Rattle.uc_rooted_runs.specs.Forgetting.{RootsAt, MayRoot, RunRoots}
-use Rattle.uc_rooted_runs.specs.OutlastRuns.{with_before, run_made, now}
+use Rattle.uc_rooted_runs.specs.OutlastRuns.{with_homes, run_made, now}
 use Rattle.uc_rooted_runs.specs.RootedRuns.{UpheldBy, MayUphold, RunUpholds, LawRootedRuns}
 use Rattle.uc_rooted_runs.proofs.Forgetting.{law_forgetting}
 use Rattle.uc_rooted_runs.proofs.Upwards.{law_upwards}
@@ -29,8 +29,8 @@ module _ (t : Table) (few : Few) (own : Exec → Value → Ty → Bool) (yet : E
   roots_by : (j : Journal) (a : List Entry) (x : World) (r : Runs source input opts (j ++ a) x) → RunFits source input opts (j ++ a) x r → is_over (j ++ a) ≡ false → RunMeets (MakesLater source makers) source input opts (j ++ a) x r → RunSpawnsLater makers source input opts (j ++ a) x r → (q : Request) → UpheldBy t few own yet makers source input opts j a x r q → RootsAt t few own yet makers.rank j a x q
   roots_by j a x r f on m s (ask.Gone o) h = record {
     up =
-        let kept : Makers = with_before h.before makers in
-        law_upwards t few kept (now kept h.asked (run_made source input opts r)) (j ++ a) x own yet (law_outlast_runs h.asked h.before source input opts (j ++ a) x r range f on (record { makers = makers; made = m; spawned = s }) h.outlasts) h.based;
+        let kept : Makers = with_homes h.homes makers in
+        law_upwards t few kept (now kept h.asked (run_made source input opts r)) (j ++ a) x own yet (law_outlast_runs h.asked h.homes source input opts (j ++ a) x r range f on (record { makers = makers; made = m; spawned = s }) h.outlasts) h.based;
     beside = h.beside;
   }
   roots_by j a x r f on m s q h = tt

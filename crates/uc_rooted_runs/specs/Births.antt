@@ -1,5 +1,5 @@
 -- Runs of programs: each execution is made by one that was made before.
-use Rattle.std.specs.Prelude.{◌≡◌, ℕ, false, List, ◌∷◌}
+use Rattle.std.specs.Prelude.{◌≡◌, ℕ, false, List}
 use Rattle.uc_tree.specs.Source.{Source}
 use Rattle.uc_entry.specs.declared.entry.Entry.{Entry}
 use Rattle.uc_entry.specs.declared.entry.Options.{Options}
@@ -15,16 +15,16 @@ use Rattle.uc_state_laws.specs.Opens.{RunMeets}
 use Rattle.uc_name_laws.specs.NameSteps.{IsBorn}
 use Rattle.uc_life_laws.specs.Knowing.{main_of}
 use Rattle.uc_machine.specs.Pieces.{Object}
-use Rattle.uc_life_laws.specs.Placed.{stacked}
+use Rattle.uc_life_laws.specs.Outermost.{outermost}
 use Rattle.uc_rooted_runs.specs.Makers.{Makers, MadeBy}
 
 -- each that a state makes next is made by the running one
 abbrev pub MakesLater : Source → Makers → State → Type 0
-MakesLater source makers s = (n : Exec) → IsBorn source s n → MadeBy makers n s.env.exec s.run.this (stacked (s.run ∷ s.callers))
+MakesLater source makers s = (n : Exec) → IsBorn source s n → MadeBy makers n s.env.exec s.run.this (outermost s.callers)
 
 -- so is the main of a task, by who asks that it be spawned
 abbrev pub SpawnsLater : Makers → Request → State → Type 0
-SpawnsLater makers (ask.Spawn o) s = MadeBy makers (main_of o) s.env.exec (Object o) (stacked (s.run ∷ s.callers))
+SpawnsLater makers (ask.Spawn o) s = MadeBy makers (main_of o) s.env.exec (Object o) (outermost s.callers)
 SpawnsLater makers r s = Unit {0}
 
 module _ (makers : Makers) (source : Source) where

@@ -28,12 +28,12 @@ use Rattle.uc_life_laws.specs.Lasting.{RunForgets}
 use Rattle.uc_life_laws.specs.Rooted.{IsPlace, Lives, Had}
 use Rattle.uc_life_laws.specs.Held.{Soon}
 use Rattle.uc_life_laws.specs.Ways.{LeavesAt}
-use Rattle.uc_rooted_runs.specs.Makers.{Outside, Makers, seating}
+use Rattle.uc_rooted_runs.specs.Makers.{Makers, seating}
 use Rattle.uc_rooted_runs.specs.Births.{AllMadeLater}
 use Rattle.uc_rooted_runs.specs.Binds.{BindsOwn}
 use Rattle.uc_rooted_runs.specs.Mains.{CallsNoMain, FindsAll}
 use Rattle.uc_rooted_runs.specs.Outlasting.{HadBefore}
-use Rattle.uc_rooted_runs.specs.OutlastRuns.{with_before, made_behind, run_made, now}
+use Rattle.uc_rooted_runs.specs.OutlastRuns.{with_homes, made_behind, run_made, now}
 use Rattle.uc_rooted_runs.specs.Upwards.{IsThere, OutlastWorld}
 use Rattle.uc_rooted_runs.specs.Beside.{IsBeside}
 
@@ -76,13 +76,13 @@ module _ (makers : Makers) (asked : Exec → Bool) where
 -- its home for good
 abbrev pub LawKeptRuns : Type 0
 LawKeptRuns =
-    (asked : Exec → Bool) (before : Outside) (source : Source) (input : List ℕ) (opts : Options) (j : Journal) (w : World)
+    (asked : Exec → Bool) (homes : ℕ → Value) (source : Source) (input : List ℕ) (opts : Options) (j : Journal) (w : World)
     (r : Runs source input opts j w) → InRange opts → RunFits source input opts j w r → is_over j ≡ false →
     RunLeaves source input opts j w r → RunMeets names.Spares source input opts j w r →
     RunMeets (CallsNoMain source) source input opts j w r →
     (b : AllMadeLater source input opts j w r) →
-    RunKeeps (with_before before b.makers) asked source input opts r →
-    OutlastWorld (with_before before b.makers) (now (with_before before b.makers) asked (run_made source input opts r)) j w
+    RunKeeps (with_homes homes b.makers) asked source input opts r →
+    OutlastWorld (with_homes homes b.makers) (now (with_homes homes b.makers) asked (run_made source input opts r)) j w
 
 -- what one that lives has of others stood in what the one that made it was to clean up, or had of others, as it made this one, or stands in what that one
 -- has now; so it is asked of this one
@@ -94,17 +94,17 @@ pub record IsStood (t : Table) (few : Few) (makers : Makers) (asked : Exec → B
       Stands t few (Had t few yet (makers.parent n) active) b w
 
 module _ (t : Table) (few : Few) (own : Exec → Value → Ty → Bool) (yet : Exec → List Active → Value → Ty → Bool) (makers : Makers) (source : Source) (input : List ℕ) (opts : Options) where
-  -- behind an act a of task u by which the object o goes, in a run up to it: of some executions it is asked that an outer part of what was to be cleaned
-  -- up as they were made stays, and what those that live have of others was among it, or stands in what those have that made them; and what else is no
+  -- behind an act a of task u by which the object o goes, in a run up to it: of some executions it is asked that what was to be cleaned up as they
+  -- were made stays, and what those that live have of others was among it, or stands in what those have that made them; and what else is no
   -- matter of names
   pub record IsRooted (j : Journal) (a : List Entry) (x : World) (r : Runs source input opts (j ++ a) x) (u o : ℕ) : Type 0 where
     pub asked : Exec → Bool
-    pub before : Outside
-    pub keeps : RunKeeps (with_before before makers) asked source input opts r
+    pub homes : ℕ → Value
+    pub keeps : RunKeeps (with_homes homes makers) asked source input opts r
     -- the main of task 0 has nothing of others
     pub first : (w : Value) (b : Ty) → Base few (main_of 0) w b → own (main_of 0) w b ≡ true
     pub based : (n : Exec) (cs : List Active) → Lives (j ++ a) x n cs → (w : Value) (b : Ty) → Base few n w b → own n w b ≡ false →
-        IsStood t few (with_before before makers) asked yet (j ++ a) x n w b
+        IsStood t few (with_homes homes makers) asked yet (j ++ a) x n w b
     pub beside : IsBeside t few j a x own yet u o
 
   abbrev pub RootedBy : (j : Journal) (a : List Entry) (x : World) → Runs source input opts (j ++ a) x → ℕ → Request → Type 0

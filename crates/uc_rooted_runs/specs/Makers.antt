@@ -1,4 +1,4 @@
--- By whom executions were made, where their coroutines are, and what those that made them were to clean up then.
+-- By whom executions were made, where their coroutines are, and what those that made them were to clean up then, outwards of all that was under construction.
 use Rattle.std.specs.Prelude.{◌≡◌, ℕ, ◌<◌, List}
 use Rattle.uc_machine.specs.declared.exec.Exec.{Exec}
 use Rattle.uc_machine.specs.Pieces.{Value}
@@ -6,23 +6,18 @@ use Rattle.uc_life_laws.specs.Placed.{Placed}
 use Rattle.uc_life_laws.specs.Destroying.{Seat}
 use Rattle.uc_life_laws.specs.Held.{Seating}
 
--- by whom each execution was made, the object for which it was made, with where mutex objects are at home, what that was to clean up then, and a number that
--- grows with each that is made
+-- by whom each execution was made, the object for which it was made, with where mutex objects are at home, what that was to clean up then outwards of all that
+-- was under construction there, and a number that grows with each that is made
 pub record Makers : Type 0 where
   pub parent : Exec → Exec
   pub seat : Exec → Seat
   pub before : Exec → List Placed
   pub rank : Exec → ℕ
 
--- where mutex objects are at home, and what was to be cleaned up as executions were made, outwards of what holds them
-pub record Outside : Type 0 where
-  pub home : ℕ → Value
-  pub before : Exec → List Placed
-
 abbrev pub seating : Makers → Seating
 seating makers = record { parent = makers.parent; seat = makers.seat; before = makers.before }
 
--- one is made by another, which was made before, for this object, and is to clean up this then
+-- one is made by another, which was made before, for this object, and is to clean up this then outwards of what is under construction
 pub record MadeBy (makers : Makers) (n by : Exec) (v : Value) (ps : List Placed) : Type 0 where
   pub parent : makers.parent n ≡ by
   pub seat : (makers.seat n).place ≡ v

@@ -11,7 +11,7 @@ use Rattle.uc_acts.specs.KernelRuns.{InRange}
 use Rattle.uc_machine.specs.declared.exec.Exec.{Exec}
 use Rattle.uc_machine.specs.Executions.{members_at}
 use Rattle.uc_machine.specs.Switches.{new_exec}
-use Rattle.uc_machine.specs.Pieces.{Todo, SetUpNow, State, Members, Goes}
+use Rattle.uc_machine.specs.Pieces.{Value, Todo, SetUpNow, State, Members, Goes}
 use Rattle.uc_machine.specs.Quiet.{quiet, home_at}
 use Rattle.uc_machine.specs.Rides.{Rides, slices, goes_on, ticks, asks}
 use Rattle.uc_meaning.specs.Runs.{World, May, Runs, gives, no_room, acts, begun, more}
@@ -21,10 +21,10 @@ use Rattle.uc_name_laws.specs.NameSteps as names
 use Rattle.uc_name_laws.specs.NameSteps.{IsBorn}
 use Rattle.uc_life_laws.specs.RunningRuns.{RunLeaves}
 use Rattle.uc_life_laws.specs.Knowing.{main_of}
-use Rattle.uc_rooted_runs.specs.Makers.{Outside, Makers}
+use Rattle.uc_rooted_runs.specs.Makers.{Makers}
 use Rattle.uc_rooted_runs.specs.Births.{AllMadeLater}
 use Rattle.uc_rooted_runs.specs.Outlasting.{IsAlone}
-use Rattle.uc_rooted_runs.specs.OutlastRuns.{with_before, made_behind, ride_made, made_asked, run_made, now, NoneElsewhere}
+use Rattle.uc_rooted_runs.specs.OutlastRuns.{with_homes, made_behind, ride_made, made_asked, run_made, now, NoneElsewhere}
 
 module _ (makers : Makers) (asked : Exec → Bool) where
   -- at a state that makes an execution: none of those that were made by now was made by that, and behind it no other has the name of the running one
@@ -64,8 +64,8 @@ module _ (makers : Makers) (asked : Exec → Bool) where
 -- leaves its home for good
 abbrev pub LawOutlastNames : Type 0
 LawOutlastNames =
-    (asked : Exec → Bool) (before : Outside) (source : Source) (input : List ℕ) (opts : Options) (j : Journal) (w : World)
+    (asked : Exec → Bool) (homes : ℕ → Value) (source : Source) (input : List ℕ) (opts : Options) (j : Journal) (w : World)
     (r : Runs source input opts j w) → InRange opts → RunFits source input opts j w r → is_over j ≡ false →
     RunLeaves source input opts j w r → RunMeets names.Spares source input opts j w r →
     (b : AllMadeLater source input opts j w r) →
-    RunNames (with_before before b.makers) asked source input opts r
+    RunNames (with_homes homes b.makers) asked source input opts r

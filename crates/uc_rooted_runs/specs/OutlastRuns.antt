@@ -14,7 +14,7 @@ use Rattle.uc_machine.specs.declared.exec.Exec.{Exec}
 use Rattle.uc_machine.specs.declared.exec.Home.TheVariants.{Object}
 use Rattle.uc_machine.specs.Executions.{exec_eq, members_at}
 use Rattle.uc_machine.specs.Switches.{new_exec}
-use Rattle.uc_machine.specs.Pieces.{Todo, SetUpNow, State, Members, Goes}
+use Rattle.uc_machine.specs.Pieces.{Value, Todo, SetUpNow, State, Members, Goes}
 use Rattle.uc_machine.specs.Quiet.{quiet, home_at}
 use Rattle.uc_machine.specs.Rides.{Rides, slices, goes_on, ticks, asks}
 use Rattle.uc_meaning.specs.Runs.{World, May, Runs, gives, no_room, acts, begun, more}
@@ -23,17 +23,17 @@ use Rattle.uc_name_laws.specs.NameSteps.{IsBorn}
 use Rattle.uc_life_laws.specs.Knowing.{main_of}
 use Rattle.uc_life_laws.specs.LifeStates.{EnvBy, MembersBy}
 use Rattle.uc_life_laws.specs.Held.{Soon, TakesNow}
-use Rattle.uc_rooted_runs.specs.Makers.{Outside, Makers, seating}
+use Rattle.uc_rooted_runs.specs.Makers.{Makers, seating}
 use Rattle.uc_rooted_runs.specs.Births.{AllMadeLater}
 use Rattle.uc_rooted_runs.specs.Outlasting.{IsAlone}
 use Rattle.uc_rooted_runs.specs.Upwards.{OutlastWorld}
 
--- of what each was to clean up as it made others, an outer part is asked: parts of an object under construction are left as it is done
-abbrev pub with_before : Outside → Makers → Makers
-with_before out makers = record {
+-- who made whom, with the homes of mutex objects, of which births tell nothing
+abbrev pub with_homes : (ℕ → Value) → Makers → Makers
+with_homes homes makers = record {
   parent = makers.parent;
-  seat = λ x. record { place = (makers.seat x).place; home = out.home };
-  before = out.before;
+  seat = λ x. record { place = (makers.seat x).place; home = homes };
+  before = makers.before;
   rank = makers.rank;
 }
 
@@ -120,12 +120,12 @@ module _ (makers : Makers) (asked : Exec → Bool) where
     RunOutlasts begun = Unit {0}
     RunOutlasts (more r o m) = RunOutlasts r × MayOutlast (run_made source input opts r) m
 
--- so it is in each run in which all that was asked so far fits, as long as it is so at each state, with those by whom executions were made in it, and
--- parts of what those were to clean up then, outwards of what holds them
+-- so it is in each run in which all that was asked so far fits, as long as it is so at each state, with those by whom executions were made in it,
+-- and any homes of mutex objects
 abbrev pub LawOutlastRuns : Type 0
 LawOutlastRuns =
-    (asked : Exec → Bool) (before : Outside) (source : Source) (input : List ℕ) (opts : Options) (j : Journal) (w : World)
+    (asked : Exec → Bool) (homes : ℕ → Value) (source : Source) (input : List ℕ) (opts : Options) (j : Journal) (w : World)
     (r : Runs source input opts j w) → InRange opts → RunFits source input opts j w r → is_over j ≡ false →
     (b : AllMadeLater source input opts j w r) →
-    RunOutlasts (with_before before b.makers) asked source input opts r →
-    OutlastWorld (with_before before b.makers) (now (with_before before b.makers) asked (run_made source input opts r)) j w
+    RunOutlasts (with_homes homes b.makers) asked source input opts r →
+    OutlastWorld (with_homes homes b.makers) (now (with_homes homes b.makers) asked (run_made source input opts r)) j w

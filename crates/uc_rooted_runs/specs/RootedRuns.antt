@@ -17,21 +17,21 @@ use Rattle.uc_typing.specs.Typing.{Ty, Table}
 use Rattle.uc_life_laws.specs.Things.{Few, Base}
 use Rattle.uc_life_laws.specs.Lasting.{RunForgets}
 use Rattle.uc_life_laws.specs.Rooted.{IsPlace, Lives, RootedBeside}
-use Rattle.uc_rooted_runs.specs.Makers.{Outside, Makers}
+use Rattle.uc_rooted_runs.specs.Makers.{Makers}
 use Rattle.uc_rooted_runs.specs.Births.{AllMadeLater}
 use Rattle.uc_rooted_runs.specs.FreshStates.{KeepsFresh}
 use Rattle.uc_rooted_runs.specs.Upwards.{IsBased}
-use Rattle.uc_rooted_runs.specs.OutlastRuns.{with_before, run_made, now, RunOutlasts}
+use Rattle.uc_rooted_runs.specs.OutlastRuns.{with_homes, run_made, now, RunOutlasts}
 
 module _ (t : Table) (few : Few) (own : Exec → Value → Ty → Bool) (yet : Exec → List Active → Value → Ty → Bool) (makers : Makers) (source : Source) (input : List ℕ) (opts : Options) where
-  -- behind an act a by which the object o goes, in a run up to it: of some executions it is asked that an outer part of what was to be cleaned up as
-  -- they were made stays, so it does in all states, and what those that live have of others was among it, or stands in what those have that made them
+  -- behind an act a by which the object o goes, in a run up to it: of some executions it is asked that what was to be cleaned up as they were made
+  -- stays, so it does in all states, and what those that live have of others was among it, or stands in what those have that made them
   pub record IsUpheld (j : Journal) (a : List Entry) (x : World) (r : Runs source input opts (j ++ a) x) (o : ℕ) : Type 0 where
     pub asked : Exec → Bool
-    pub before : Outside
-    pub outlasts : RunOutlasts (with_before before makers) asked source input opts r
+    pub homes : ℕ → Value
+    pub outlasts : RunOutlasts (with_homes homes makers) asked source input opts r
     pub based : (n : Exec) (cs : List Active) → Lives (j ++ a) x n cs → (w : Value) (b : Ty) → Base few n w b → own n w b ≡ false →
-        IsBased t few (with_before before makers) (now (with_before before makers) asked (run_made source input opts r)) yet (j ++ a) x n w b
+        IsBased t few (with_homes homes makers) (now (with_homes homes makers) asked (run_made source input opts r)) yet (j ++ a) x n w b
     pub beside : RootedBeside t few j a x own yet o
 
   abbrev pub UpheldBy : (j : Journal) (a : List Entry) (x : World) → Runs source input opts (j ++ a) x → Request → Type 0

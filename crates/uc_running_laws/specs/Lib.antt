@@ -1,3 +1,5 @@
 pub mod Running
-pub mod Sparing
+pub mod Away
 pub mod OwnPrograms
+pub mod OtherNames
+pub mod OtherRuns

@@ -2,7 +2,9 @@
 
 ghost use Rattle.uc_running_laws.specs.OwnPrograms.{LawOwnPrograms};
 ghost use Rattle.uc_running_laws.specs.Running.{LawRunning};
-ghost use Rattle.uc_running_laws.specs.Sparing.{LawSparing};
+ghost use Rattle.uc_running_laws.specs.Away.{LawAway};
+ghost use Rattle.uc_running_laws.specs.OtherNames.{LawNames};
+ghost use Rattle.uc_running_laws.specs.OtherRuns.{LawNamesRuns};
 
 /// In each run of a program that breaks no rule in which all that was asked so far fits, nothing else
 /// is owed to what tasks let go of, and no step forgets the execution that runs, the running execution
@@ -18,8 +20,19 @@ pub fn law_own_programs()
 {}
 
 /// In each run of a program that breaks no rule in which all that was asked so far fits, and nothing else
-/// is owed to what is let go of, who builds or destroys an object is not at home there: so no step
-/// forgets the running execution that forgets one which is at home in such an object.
-pub fn law_sparing()
-    ensures { LawSparing }
+/// is owed to what is let go of, who builds or destroys an object is not at home there.
+pub fn law_away()
+    ensures { LawAway }
+{}
+
+/// No execution has its own name at hand, and none stands in what is its own: a task begins so, and each
+/// quiet step keeps it, of whatever source, that reads no such name in what is another's and binds what is
+/// its own alone; so does each answer. And no such step forgets the running execution.
+pub fn law_names()
+    ensures { LawNames }
+{}
+
+/// So no step of such a run forgets the execution that runs, and none on the way to what is asked next.
+pub fn law_names_runs()
+    ensures { LawNamesRuns }
 {}

@@ -1,7 +1,7 @@
 // The ops that go on elsewhere, calls, and the ends of activations.
 
-ghost use Rattle.std.specs.Prelude.{◌≡◌, IfOk, OnErr};
-ghost use Rattle.uc_step.specs.Effects.{ended};
+ghost use Rattle.std.specs.Prelude.{◌≡◌, ℕ, true, false, IfOk, OnErr};
+ghost use Rattle.uc_step.specs.Effects.{Quiet, ended};
 ghost use Rattle.uc_step.specs.OpEffects.{act_return, act_end, Does, DoesAlone, Ends};
 
 use crate::effect::{QuietResult, Stop, put_end, put_fault};
@@ -87,6 +87,38 @@ pub(crate) fn unwind(work: &mut Work, stop: &mut Stop) -> QuietResult
     work.begin_clean_up(next);
     *stop = Stop::Unwind;
     QuietResult::Stops
+}
+
+// Calls this routine, where there is one, and one call more may be active. Else the answer is false, and all stays as it is.
+#[inline(always)]
+pub(crate) fn called(code: &Code, number: u32, work: &mut Work) -> Result<bool, AllocError>
+    ensures calls { IfOk result (λ b. b ≡ true → (line : ℕ) →
+        Does code.now line (Op.Call number) work.old Quiet work.new) }
+    ensures stays { IfOk result (λ b. b ≡ false → work.new ≡ work.old) }
+{
+    match code.routine(number) {
+        Some(routine) if work.calls() < CALLS => {
+            work.call(routine)?;
+            Ok(true)
+        }
+        _ => Ok(false),
+    }
+}
+
+// The same as a member of the place below its arguments.
+#[inline(always)]
+pub(crate) fn called_on(code: &Code, number: u32, work: &mut Work) -> Result<bool, AllocError>
+    ensures calls { IfOk result (λ b. b ≡ true → (line : ℕ) →
+        Does code.now line (Op.CallOn number) work.old Quiet work.new) }
+    ensures stays { IfOk result (λ b. b ≡ false → work.new ≡ work.old) }
+{
+    match code.routine(number) {
+        Some(routine) if work.calls() < CALLS => {
+            work.call_on(routine, true)?;
+            Ok(true)
+        }
+        _ => Ok(false),
+    }
 }
 
 pub(crate) fn call(

@@ -178,7 +178,9 @@ pub(crate) fn bind_made(
     }
 }
 
-// The object at hand is built, which is asked so, unless the task is held up there.
+// The object at hand is built, which is asked so, unless the task is held up there. A part of who calls: a request that is handed over by
+// value is cleared and copied.
+#[inline(always)]
 pub(crate) fn built(
     code: &Code,
     line: u32,

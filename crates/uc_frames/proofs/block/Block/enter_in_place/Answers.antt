@@ -1,0 +1,21 @@
+use Rattle.std.proofs.Common.{rules, ◌≡◌, ◌∷◌, ◌++◌, ◌-◌, [], length, replicate, reverse, sym, ap, ◌∙◌, arith}
+use Rattle.std.proofs.lemmas.List.{reverse-append, append-nil}
+use Rattle.uc_frames.specs.declared.block.Extent.{Extent}
+use Rattle.uc_frames.specs.Block.{contents}
+use Rattle.uc_frames.specs.Machine.{nought}
+use Rattle.uc_frames.proofs.Extents.{called_in_place}
+use Rattle.uc_frames.proofs.block.Block.enter_in_place.Goals as goal
+
+pub returns-clause-made : goal.returns-clause-made
+returns-clause-made c =
+    let x = c.self.inside.newest in
+    let xs = reverse c.self.inside.older.items in
+    let cs = c.self.inside.cells.items in
+    let r = c.args.routine in
+    let n : c.len-length.result ≡ length cs = search rules in
+    let y : Extent = record { floor = c.len-length.result - c.args.taken; base = c.len-length.result - r.params; start = c.len-length.result } in
+    let o : reverse c.push_reserved.new.self.items ≡ x ∷ xs = ap reverse c.push_reserved.ensures.items ∙ reverse-append c.self.inside.older.items (x ∷ []) in
+    let z : r.cells - r.params ≡ 0 = omega (arith, c.if-routine.false) in
+    let k : cs ++ replicate (r.cells - r.params) nought ≡ cs = ap (λ i. cs ++ replicate i nought) z ∙ append-nil cs in
+    λ t. rw (← c.self.view_is) (ap (λ l. contents y l cs) o ∙ ap (contents y (x ∷ xs)) (sym k)
+    ∙ called_in_place x xs cs c.self.invariant r c.args.taken y (omega (arith, n)) (omega (arith, n)) (omega (arith, n, z)) (omega (arith, n, c.if-length-self.false)) (omega (arith, c.if-taken-params.false)))

@@ -1,3 +1,0 @@
-pub mod Notes
-pub mod Fitting
-pub mod DesksLemmas

@@ -1,3 +1,0 @@
-pub mod Watched
-pub mod Desks
-pub mod Four

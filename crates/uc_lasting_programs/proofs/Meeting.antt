@@ -1,0 +1,160 @@
+-- What each step of a run finds by numbers of what is not gone, and by all that have been made.
+use Rattle.std.proofs.Common.{◌≡◌, ℕ, zero, suc, Bool, false, [], List, ◌++◌}
+use Rattle.std.proofs.lemmas.Bool.{ltb-true}
+use Rattle.uc_tree.specs.Programs.{Program}
+use Rattle.uc_tree.specs.Source.{Source}
+use Rattle.uc_entry.specs.declared.entry.Entry.{Entry}
+use Rattle.uc_entry.specs.declared.entry.Options.{Options}
+use Rattle.uc_entry.specs.declared.request.Asked.{Asked}
+use Rattle.uc_acts.specs.Journal.{Journal, is_over}
+use Rattle.uc_acts.specs.Known.{object_count}
+use Rattle.uc_acts.specs.Queues.{cluster_count, processor_count}
+use Rattle.uc_acts.specs.KernelRuns.{InRange}
+use Rattle.uc_acts.specs.Serves.{left}
+use Rattle.uc_machine.specs.declared.exec.Exec.{Exec}
+use Rattle.uc_machine.specs.Pieces.{Value}
+use Rattle.uc_machine.specs.Quiet.{State}
+use Rattle.uc_machine.specs.Rides as rides
+use Rattle.uc_machine.specs.Rides.{Rides}
+use Rattle.uc_machine.specs.Answering.{answered}
+use Rattle.uc_meaning.specs.Runs.{World, May, Runs, AsksIn, drawn, gives, no_room, acts, begun, more}
+use Rattle.uc_resolve.specs.Resolve.{source_of}
+use Rattle.uc_rules.specs.Breaks.{breaks_of}
+use Rattle.uc_sound.specs.SoundFormed.{IsFormed}
+use Rattle.uc_sound.specs.Tables.{table_of}
+use Rattle.uc_state_laws.specs.Fitting.{RunFits}
+use Rattle.uc_state_laws.specs.RoomRuns as rooms
+use Rattle.uc_state_laws.specs.RoomRuns.{Leads}
+use Rattle.uc_state_laws.specs.Endings.{still_reading, RideHolds, RunHolds}
+use Rattle.uc_state_laws.specs.Opens.{RideMeets, RunMeets, LeadsMeet}
+use Rattle.uc_typing.specs.Typing.{Ty, Table}
+use Rattle.uc_life_laws.specs.Things.{Few}
+use Rattle.uc_life_laws.specs.LifeStates.{LifeState}
+use Rattle.uc_life_laws.specs.Knowing.{KnowsState}
+use Rattle.uc_life_laws.specs.KnownAnswers.{MainPasses}
+use Rattle.uc_life_laws.specs.KnownRuns.{PassesBelow, Meets, AllIsKnown}
+use Rattle.uc_life_laws.specs.Endings.{RawsPass, MeetsOutside}
+use Rattle.uc_life_laws.specs.Lasting.{lasting, RunForgets, RunMeetsAt}
+use Rattle.uc_life_laws.proofs.KnownWorlds.{earlier, law_known_runs}
+use Rattle.uc_life_laws.proofs.Endings as endings
+use Rattle.uc_life_laws.proofs.Endings.{goes_on, ticks_on, goes_met, ticks_met}
+use Rattle.uc_life_laws.proofs.Lasting.{law_lasting}
+use Rattle.uc_request_laws.specs.Lasting.{TellsMade}
+use Rattle.uc_lasting_programs.specs.Meeting.{RunHoldsAt}
+use Rattle.uc_lasting_programs.specs.Telling.{few_of}
+use Rattle.uc_lasting_programs.proofs.Numbers.{passes, meets}
+
+-- what passes the test of a run has been made
+pub tells_made : (p : Program) (input : List ℕ) (opts : Options) (j : Journal) (w : World) (r : Runs (source_of p) input opts j w) (base : Exec → Value → Ty → Bool) → TellsMade (few_of p input opts j w r base) opts j
+tells_made p input opts j w r base = record {
+  objects = λ c n h. ltb-true n (object_count j) h;
+  raws = λ c n h. ltb-true n (object_count j) h;
+  clusters = λ n h. ltb-true n (cluster_count j) h;
+  processors = λ n h. ltb-true n (processor_count opts j) h;
+}
+
+-- what holds at states
+
+-- at each state of a ride, by what holds on the way to it
+module _ (P Q : State → Type 0) (source : Source) (start : State) (turn : (s : State) (l : Leads source start s) → LeadsMeet P source start s l → P s → Q s) where
+  ride_turned : {s u : State} {q k : ℕ} {a : Asked} (l : Leads source start s) → LeadsMeet P source start s l → (r : Rides source s q u k a) → RideMeets P source s q u k a r → RideMeets Q source s q u k a r
+  ride_turned l m rides.slices h = tt
+  ride_turned {s} l m (rides.goes_on e r) h = (turn s l m h.0, ride_turned (goes_on P source l e) (goes_met P source l e m h.0) r h.1)
+  ride_turned {s} l m (rides.ticks e r) h = (turn s l m h.0, ride_turned (ticks_on P source l e) (ticks_met P source l e m h.0) r h.1)
+  ride_turned {s} l m (rides.asks e) h = turn s l m h
+
+-- and so outside of those in which a clean-up reads a variable
+module _ (t : Table) (few : Few) (source : Source) where
+  outside : (n : ℕ) (s : State) → Meets t few s → MeetsOutside t few n s
+  outside zero s h = h
+  outside (suc n) s h = tt
+
+  pub ride_outside : {s u : State} {q k : ℕ} {a : Asked} (n : ℕ) (r : Rides source s q u k a) → RideMeets (Meets t few) source s q u k a r → RideHolds (MeetsOutside t few) source n s q u k a r
+  ride_outside n rides.slices h = tt
+  ride_outside n (rides.goes_on {s} e r) h = (outside n s h.0, ride_outside (still_reading n s.run.control) r h.1)
+  ride_outside n (rides.ticks {s} e r) h = (outside n s h.0, ride_outside (still_reading n s.run.control) r h.1)
+  ride_outside n (rides.asks {s} e) h = outside n s h
+
+  pub run_outside : {input : List ℕ} {opts : Options} {j : Journal} {w : World} (r : Runs source input opts j w) → RunMeets (Meets t few) source input opts j w r → RunHolds (MeetsOutside t few) source input opts j w r
+  run_outside begun h = tt
+  run_outside (more r on (gives p n s le)) h = (run_outside r h.0, tt)
+  run_outside (more r on (no_room p n s le)) h = (run_outside r h.0, tt)
+  run_outside (more r on (acts p n k s asked d)) h = (run_outside r h.0, ride_outside 0 d.rides h.1)
+
+module _ (p : Program) (formed : IsFormed p) (ok : breaks_of p ≡ []) (numbers : Ty → ℕ → Bool) (home : ℕ → Value) (base : Exec → Value → Ty → Bool) where
+  abbrev pub few : Few
+  few = record { numbers = numbers; home = home; base = base }
+
+  abbrev source : Source
+  source = source_of p
+
+  abbrev t : Table
+  t = table_of p
+
+  -- so far each step found what it was to find, by both
+  pub record HasMet (input : List ℕ) (opts : Options) (j : Journal) (w : World) (r : Runs source input opts j w) : Type 0 where
+    pub all : RunMeets (Meets t few) source input opts j w r
+    pub lasts : RunMeetsAt (λ i s. Meets t (lasting few i) s) source input opts j w r
+    -- and what is in scope holds what is not gone
+    pub lives : RunMeetsAt (λ i s. LifeState t (lasting few i) s) source input opts j w r
+
+  module _ (raws : RawsPass few) (main : MainPasses t few (t.routine source.main).this 0) (input : List ℕ) (opts : Options) (range : InRange opts) where
+    -- of a run in which nobody has at hand what has gone
+    module _ (j : Journal) (w : World) (r : Runs source input opts j w) (f : RunFits source input opts j w r) (on : is_over j ≡ false) (below : PassesBelow few opts j) (forgets : RunForgets t few source input opts j w r) (so : HasMet input opts j w r) where
+      known : AllIsKnown t (lasting few j) source j w
+      known = law_lasting p formed ok few input opts range j w r f on below main so.lasts forgets
+
+      module _ (q n k : ℕ) (s : State) (asked : Asked) (d : AsksIn source opts j w q n k s asked) (h : RideHolds (MeetsOutside t (lasting few j)) source 0 (answered source d.given (drawn j w n)) (left opts j n) s k asked d.rides) where
+        abbrev start : State
+        start = answered source d.given (drawn j w n)
+
+        pub ride_lasts : RideMeets (Meets t (lasting few j)) source start (left opts j n) s k asked d.rides
+        ride_lasts =
+            endings.ride_met t (lasting few j) source (λ c o h. raws c o (passes t numbers home base j c o h)) (Meets t (lasting few j)) (MeetsOutside t (lasting few j)) (endings.met t (lasting few j)) start (λ v l. known.scopes n v (record { given = d.given; processor = q; runs = d.runs; told = d.told; leads = l })) (λ v l. known.comes n v (record { given = d.given; processor = q; runs = d.runs; told = d.told; leads = l })) rooms.stays tt 0 d.rides h tt
+
+        pub ride_lives : RideMeets (LifeState t (lasting few j)) source start (left opts j n) s k asked d.rides
+        ride_lives =
+            ride_turned (Meets t (lasting few j)) (LifeState t (lasting few j)) source start (λ v l m h. known.scopes n v (record { given = d.given; processor = q; runs = d.runs; told = d.told; leads = l }) m) rooms.stays tt d.rides ride_lasts
+
+        pub ride_all : RideMeets (Meets t few) source start (left opts j n) s k asked d.rides
+        ride_all =
+            ride_turned (Meets t (lasting few j)) (Meets t few) source start (λ v l m h. meets t numbers home base j raws v (known.scopes n v (record { given = d.given; processor = q; runs = d.runs; told = d.told; leads = l }) m) (known.comes n v (record { given = d.given; processor = q; runs = d.runs; told = d.told; leads = l }) m) h) rooms.stays tt d.rides ride_lasts
+
+    -- act by act, where what is left of runs shows of each that nobody has at hand what has gone
+    module _ (Left : (j : Journal) (w : World) → Runs source input opts j w → Type 0) (shorter : (j : Journal) (w : World) (a : List Entry) (v : World) (r : Runs source input opts j w) (on : is_over j ≡ false) (m : May source opts input j w a v) → Left (j ++ a) v (more r on m) → Left j w r) (forgets : (j : Journal) (w : World) (r : Runs source input opts j w) → RunFits source input opts j w r → is_over j ≡ false → PassesBelow few opts j → HasMet input opts j w r → Left j w r → RunForgets t few source input opts j w r) where
+      pub run_met : {j : Journal} {w : World} (r : Runs source input opts j w) → RunFits source input opts j w r → PassesBelow few opts j → RunHoldsAt (λ i. MeetsOutside t (lasting few i)) source input opts j w r → Left j w r → HasMet input opts j w r
+      run_met begun f below h x = record { all = tt; lasts = tt; lives = tt }
+      run_met (more {j} {w} {a} {w' = v} r on (gives q n s le)) f below h x =
+          let so = run_met r f.0 (earlier few opts j a below) h.0 (shorter j w a v r on (gives q n s le) x) in
+          record { all = (so.all, tt); lasts = (so.lasts, tt); lives = (so.lives, tt) }
+      run_met (more {j} {w} {a} {w' = v} r on (no_room q n s le)) f below h x =
+          let so = run_met r f.0 (earlier few opts j a below) h.0 (shorter j w a v r on (no_room q n s le) x) in
+          record { all = (so.all, tt); lasts = (so.lasts, tt); lives = (so.lives, tt) }
+      run_met (more {j} {w} {a} {w' = v} r on (acts q n k s asked d)) f below h x =
+          let l = shorter j w a v r on (acts q n k s asked d) x in
+          let e = earlier few opts j a below in
+          let so = run_met r f.0 e h.0 l in
+          let g = forgets j w r f.0 on e so l in
+          record {
+            all = (so.all, ride_all j w r f.0 on e g so q n k s asked d h.1);
+            lasts = (so.lasts, ride_lasts j w r f.0 on e g so q n k s asked d h.1);
+            lives = (so.lives, ride_lives j w r f.0 on e g so q n k s asked d h.1);
+          }
+
+    -- all is known then in each state
+
+    module _ (j : Journal) (w : World) (r : Runs source input opts j w) (f : RunFits source input opts j w r) (on : is_over j ≡ false) (below : PassesBelow few opts j) (met : RunMeets (Meets t few) source input opts j w r) where
+      all_known : AllIsKnown t few source j w
+      all_known = law_known_runs p formed ok few input opts range j w r f on below main met
+
+      pub ride_known : (q n k : ℕ) (s : State) (asked : Asked) (d : AsksIn source opts j w q n k s asked) → RideMeets (Meets t few) source (answered source d.given (drawn j w n)) (left opts j n) s k asked d.rides → RideMeets (KnowsState t few []) source (answered source d.given (drawn j w n)) (left opts j n) s k asked d.rides
+      ride_known q n k s asked d h =
+          ride_turned (Meets t few) (KnowsState t few []) source (answered source d.given (drawn j w n)) (λ v l m h. all_known.comes n v (record { given = d.given; processor = q; runs = d.runs; told = d.told; leads = l }) m) rooms.stays tt d.rides h
+
+    pub run_known : {j : Journal} {w : World} (r : Runs source input opts j w) → RunFits source input opts j w r → PassesBelow few opts j → RunMeets (Meets t few) source input opts j w r → RunMeets (KnowsState t few []) source input opts j w r
+    run_known begun f below h = tt
+    run_known (more {j} {w} {a} r on (gives q n s le)) f below h = (run_known r f.0 (earlier few opts j a below) h.0, tt)
+    run_known (more {j} {w} {a} r on (no_room q n s le)) f below h = (run_known r f.0 (earlier few opts j a below) h.0, tt)
+    run_known (more {j} {w} {a} r on (acts q n k s asked d)) f below h =
+        let e = earlier few opts j a below in
+        (run_known r f.0 e h.0, ride_known j w r f.0 on e h.0 q n k s asked d h.1)

@@ -1,0 +1,215 @@
+-- State by state what is let go of is nowhere in the world, and what executions have of others stands upwards where an event is raised, since no step
+-- forgets the running execution.
+use Rattle.std.proofs.Common.{◌≡◌, ℕ, ◌⊎◌, inl, inr, Bool, false, List, [], ◌∷◌, ◌++◌, refl, sym, ap, ◌∙◌, subst}
+use Rattle.std.specs.Prelude.{pos, slice_get}
+use Rattle.uc_tree.specs.Programs.{Program}
+use Rattle.uc_tree.specs.Source.{Source}
+use Rattle.uc_entry.specs.declared.entry.Options.{Options}
+use Rattle.uc_entry.specs.declared.request.Asked.{Asked}
+use Rattle.uc_entry.specs.declared.entry.EntryKind.TheVariants as kind
+use Rattle.uc_entry.specs.declared.request.Request.{Request}
+use Rattle.uc_entry.specs.declared.request.Request.TheVariants as ask
+use Rattle.uc_acts.specs.Journal.{Journal, asking, cost, is_over}
+use Rattle.uc_acts.specs.Known.{has_ended, spawns}
+use Rattle.uc_acts.specs.Acts.{act, row}
+use Rattle.uc_acts.proofs.Living.{going_row}
+use Rattle.uc_acts.specs.Serves.{left}
+use Rattle.uc_acts.specs.KernelRuns.{InRange}
+use Rattle.uc_machine.specs.declared.exec.Exec.{Exec}
+use Rattle.uc_machine.specs.Monitors.{this_object}
+use Rattle.uc_machine.specs.Pieces.{Value, Todo, GoneNow, GiveUpNow, Active, State, Asks}
+use Rattle.uc_machine.specs.Quiet.{quiet}
+use Rattle.uc_machine.specs.Answering.{answered}
+use Rattle.uc_machine.specs.Rides.{Rides, slices, goes_on, ticks, asks}
+use Rattle.uc_meaning.specs.Runs.{World, Runs, AsksIn, gives, no_room, acts, begun, more, drawn, world_after}
+use Rattle.uc_resolve.specs.Resolve.{source_of}
+use Rattle.uc_rules.specs.Breaks.{breaks_of}
+use Rattle.uc_state_laws.specs.Fitting.{RunFits}
+use Rattle.uc_state_laws.proofs.Others.{run_rests}
+use Rattle.uc_state_laws.proofs.Alive.{law_alive}
+use Rattle.uc_state_laws.specs.ScopeFrameRuns.{KeepsFrames}
+use Rattle.uc_state_laws.specs.RoomRuns as way
+use Rattle.uc_state_laws.specs.RoomRuns.{Leads}
+use Rattle.uc_state_laws.proofs.StackWorlds.{law_frame_runs}
+use Rattle.uc_state_laws.proofs.Unreferring.{law_accepted}
+use Rattle.uc_state_laws.specs.Opens.{RideMeets, RunMeets, LeadsMeet}
+use Rattle.uc_sound.specs.SoundFormed.{IsFormed}
+use Rattle.uc_sound.specs.Tables.{table_of}
+use Rattle.uc_name_laws.specs.NameSteps.{Spares}
+use Rattle.uc_typing.specs.Typing.{Ty, Table}
+use Rattle.uc_life_laws.specs.Things.{Few, Base, Things}
+use Rattle.uc_life_laws.specs.KnownAnswers.{MainPasses}
+use Rattle.uc_life_laws.specs.KnownRuns.{PassesBelow, Meets, AllIsKnown}
+use Rattle.uc_life_laws.specs.Marks.{Puts}
+use Rattle.uc_life_laws.specs.Belonging.{Belongs}
+use Rattle.uc_life_laws.specs.Rooted.{IsPlace, Lives}
+use Rattle.uc_life_laws.proofs.KnownWorlds.{earlier, law_known_runs}
+use Rattle.uc_life_laws.proofs.Laying.{laid_out}
+use Rattle.uc_letting_laws.specs.AloneRuns.{RunAlone}
+use Rattle.uc_running_laws.specs.OtherNames.{ReadsOthers}
+use Rattle.uc_running_laws.proofs.RunningLemmas.{run_leaves}
+use Rattle.uc_putting_laws.specs.Putting.{Setting, CodeRoutine}
+use Rattle.uc_putting_laws.specs.PuttingLaws.{special_of, setting_of, Fair}
+use Rattle.uc_putting_laws.proofs.Puts.{law_puts}
+use Rattle.uc_putting_laws.proofs.OwnPlaces.{law_own_places}
+use Rattle.uc_putting_laws.proofs.Routines.{law_calling}
+use Rattle.uc_putting_laws.proofs.Worlds as put
+use Rattle.uc_putting_laws.proofs.PuttingRuns.{code_of, law_runs}
+use Rattle.uc_request_laws.specs.ApartRuns.{StepApart}
+use Rattle.uc_request_laws.proofs.ApartLemmas.{law_apart_runs}
+use Rattle.uc_apart_laws.specs.Before.{world_at, NowhereBefore, BeforeAt, Before}
+use Rattle.uc_apart_laws.specs.Clear.{IsNoHome}
+use Rattle.uc_apart_laws.proofs.Before.{apart}
+use Rattle.uc_apart_laws.proofs.Nowhere.{law_nowhere}
+use Rattle.uc_rooted_runs.specs.Makers.{Makers}
+use Rattle.uc_rooted_runs.specs.Binds.{BindsOwn}
+use Rattle.uc_rooted_runs.specs.Mains.{CallsNoMain, FindsAll}
+use Rattle.uc_rooted_runs.specs.OutlastRuns.{run_made}
+use Rattle.uc_parts_laws.proofs.PartsRuns.{law_kept_parts, law_parts_runs}
+use Rattle.uc_making_laws.specs.RideWhile.{RideWhile}
+use Rattle.uc_making_laws.specs.BeforeRides.{RaisesUpwards}
+use Rattle.uc_making_laws.specs.ForgetsThis.{GoesBy, RunGoes, IsLeftNowhere}
+use Rattle.uc_making_laws.proofs.BeforeRides.{law_before_rides}
+use Rattle.uc_lasting_programs.specs.Asking.{LetsGoAt}
+use Rattle.uc_lasting_programs.specs.Ways.{IsKeptTo, RunKeepsTo, LawWays}
+use Rattle.uc_lasting_programs.proofs.CallsRuns.{IsKnownThere, ride_calls, law_calls_runs}
+use Rattle.uc_lasting_programs.proofs.Asking.{law_asked_at}
+use Rattle.uc_lasting_programs.proofs.Behind.{behind}
+use Rattle.uc_lasting_programs.proofs.Finding.{ride_map, ride_found, law_finding}
+use Rattle.uc_lasting_programs.proofs.Sparing.{run_spares, ride_spares}
+
+module _ (p : Program) (formed : IsFormed p) (ok : breaks_of p ≡ []) (few : Few) (own : Exec → Value → Ty → Bool) (yet : Exec → List Active → Value → Ty → Bool) (places : (n : Exec) (w : Value) (b : Ty) → Base few n w b → IsPlace w) (zero : (n : Exec) → Belongs few n (few.home 0) → ⊥) where
+  abbrev source : Source
+  source = source_of p
+
+  abbrev t : Table
+  t = table_of p
+
+  abbrev g : Setting
+  g = setting_of p few
+
+  code : (n : ℕ) → CodeRoutine (setting_of p few) (special_of p n) (slice_get (source_of p).routines n)
+  code = code_of p formed ok few
+
+  -- along a ride: of operands it is known what is the execution's own, and all that the state can come by is known
+  ride_put : {s u : State} {q k : ℕ} {a : Asked} (r : Rides (source_of p) s q u k a) → RideMeets (Fair (setting_of p few)) (source_of p) s q u k a r → put.Stands p (setting_of p few) s → RideMeets (put.Stands p (setting_of p few)) (source_of p) s q u k a r
+  ride_put slices f h = tt
+  ride_put (goes_on {s} {t = x} e r) f h = (h, ride_put r f.1 (put.goes p (setting_of p few) (laid_out p formed ok) (law_accepted p ok) code s x e h f.0))
+  ride_put (ticks {s} {t = x} e r) f h = (h, ride_put r f.1 (put.ticks p (setting_of p few) (laid_out p formed ok) (law_accepted p ok) code s x e h f.0))
+  ride_put (asks {s} e) f h = h
+
+  ride_known : {s u : State} {q k : ℕ} {a : Asked} (r : Rides (source_of p) s q u k a) → RideMeets (Meets (table_of p) few) (source_of p) s q u k a r → ((v : State) (l : Leads (source_of p) s v) → LeadsMeet (Meets (table_of p) few) (source_of p) s v l → IsKnownThere p few v) → RideMeets (IsKnownThere p few) (source_of p) s q u k a r
+  ride_known slices m f = tt
+  ride_known (goes_on {s} e r) m f = (f s way.stays tt, ride_known r m.1 (λ x l y. f x (way.goes e l) (m.0, y)))
+  ride_known (ticks {s} e r) m f = (f s way.stays tt, ride_known r m.1 (λ x l y. f x (way.ticks e l) (m.0, y)))
+  ride_known (asks {s} e) m f = f s way.stays tt
+
+  module _ (j : Journal) (w : World) (u : ℕ) where
+    -- what is told of a state on the way, and what else holds there
+    record Told (Up : State → Type 0) (s : State) : Type 0 where
+      before : Before (table_of p) few j w u s (source_of p)
+      known : IsKnownThere p few s
+      upwards : Up s
+
+    step : (Up : State → Type 0) (s : State) → Told Up s → StepApart (table_of p) few (source_of p) s
+    step Up s h = apart (table_of p) few (source_of p) places j w u s h.before
+
+    -- what is let go of is nowhere, since no step before forgot the running execution
+    ride_told : (Up : State → Type 0) {s x : State} {q k : ℕ} {a : Asked} (r : Rides (source_of p) s q x k a) → RideWhile Spares (λ v. Before (table_of p) few j w u v (source_of p) × Up v) (source_of p) s q x k a r → RideMeets Spares (source_of p) s q x k a r → RideMeets (IsKnownThere p few) (source_of p) s q x k a r → RideMeets (Told Up) (source_of p) s q x k a r
+    ride_told Up slices b f m = tt
+    ride_told Up (goes_on {s} e r) b f m = (record { before = b.0.0; known = m.0; upwards = b.0.1 }, ride_told Up r (b.1 f.0) f.1 m.1)
+    ride_told Up (ticks {s} e r) b f m = (record { before = b.0.0; known = m.0; upwards = b.0.1 }, ride_told Up r (b.1 f.0) f.1 m.1)
+    ride_told Up (asks {s} e) b f m = record { before = b.0; known = m; upwards = b.1 }
+
+  abbrev Upwards : (j : Journal) (w : World) (u : ℕ) (makers : Makers) → State → Type 0
+  Upwards j w u makers v = RaisesUpwards (table_of p) few own yet makers.rank j w u v
+
+  module _ (input : List ℕ) (opts : Options) (range : InRange opts) (first : MainPasses (table_of p) few ((table_of p).routine (source_of p).main).this 0) where
+    -- behind a run in which nobody else has at hand what is let go of
+    told : (j : Journal) (w : World) (r : Runs (source_of p) input opts j w) → RunFits (source_of p) input opts j w r → is_over j ≡ false → PassesBelow few opts j → RunMeets (Meets (table_of p) few) (source_of p) input opts j w r → RunMeets (Fair (setting_of p few)) (source_of p) input opts j w r → RunMeets (ReadsOthers few) (source_of p) input opts j w r → RunMeets (StepApart (table_of p) few (source_of p)) (source_of p) input opts j w r → (q u n : ℕ) (s : State) (asked : Asked) (d : AsksIn (source_of p) opts j w q u n s asked) → RideMeets (Meets (table_of p) few) (source_of p) (answered (source_of p) d.given (drawn j w u)) (left opts j u) s n asked d.rides → RideMeets (Fair (setting_of p few)) (source_of p) (answered (source_of p) d.given (drawn j w u)) (left opts j u) s n asked d.rides → RideMeets (ReadsOthers few) (source_of p) (answered (source_of p) d.given (drawn j w u)) (left opts j u) s n asked d.rides → (k : IsKeptTo (table_of p) few own yet (source_of p) (special_of p) input opts j w r q u n s asked d) → RideMeets (Told j w u (Upwards j w u k.births.makers)) (source_of p) (answered (source_of p) d.given (drawn j w u)) (left opts j u) s n asked d.rides
+    told j w r fits on below met fair reads apart q u n s asked d meets fairs names k =
+        let lone : RunAlone (source_of p) input opts j w r = law_apart_runs.runs p formed ok few input opts range j w r fits below first met apart in
+        let rests = run_rests (source_of p) input opts range r fits on in
+        let found = law_finding.runs p formed ok input opts range j w r fits lone in
+        let finds = ride_found p formed ok input opts range r fits lone on q u n s asked d in
+        let known : AllIsKnown (table_of p) few (source_of p) j w = law_known_runs p formed ok few input opts range j w r fits on below first met in
+        let there : (v : State) (l : Leads (source_of p) (answered (source_of p) d.given (drawn j w u)) v) → LeadsMeet (Meets (table_of p) few) (source_of p) (answered (source_of p) d.given (drawn j w u)) v l → IsKnownThere p few v = λ v l y.
+        let c : way.Comes (source_of p) j w u v = record { given = d.given; processor = q; runs = d.runs; told = d.told; leads = l } in
+        record { knows = known.comes u v c y; life = known.scopes u v c y } in
+        let main = (law_calling p formed ok).main in
+        let world = put.run_put p ok few (laid_out p formed ok) main code input opts range r fits fair in
+        let frames : KeepsFrames p j w = law_frame_runs p ok input opts j w r in
+        let begins = put.start p ok few (laid_out p formed ok) main code input opts range rests on (world.0 on) frames q u d.given d.runs d.told in
+        let stands = ride_put d.rides fairs begins in
+        let before = law_before_rides (table_of p) few own yet (source_of p) input opts j w r range fits on zero (run_leaves p formed ok input opts range r fits lone) (run_spares p formed ok few input opts range r fits lone fair reads) (law_finding.runs_bind p formed ok few input opts range j w r fits fair) found.calls found.finds (law_runs.runs p formed ok few input opts range j w r fits fair) (law_calls_runs.runs p formed ok few places input opts range j w r fits below first met fair).0 q u n s asked d (ride_map (put.Stands p (setting_of p few)) (BindsOwn (source_of p)) (λ v x. law_finding.binds few (source_of p) v (law_own_places.states (setting_of p few) v x.put)) d.rides stands) (ride_map (λ v. FindsAll (source_of p) v × CallsNoMain (source_of p) v) (CallsNoMain (source_of p)) (λ v x. x.1) d.rides finds) (ride_map (λ v. FindsAll (source_of p) v × CallsNoMain (source_of p) v) (FindsAll (source_of p)) (λ v x. x.0) d.rides finds) (ride_map (put.Stands p (setting_of p few)) (Puts (table_of p) few) (λ v x. law_puts (setting_of p few) v x.put) d.rides stands) (ride_calls p formed ok few places d.rides meets fairs there begins) k.births k.asked k.homes (law_kept_parts.runs (source_of p) (special_of p) k.births.makers k.homes k.asked input opts j w r (law_parts_runs.runs p formed ok k.homes input opts j w r k.taken) k.births.made k.births.spawned k.kept) (law_kept_parts.ride (source_of p) (special_of p) k.births.makers k.homes k.asked (run_made (source_of p) input opts r) d.rides (law_parts_runs.rides p formed ok k.homes input opts j w r k.taken q u n s asked d k.taken_now) k.births.rides k.keeps) k.rooted in
+        ride_told j w u (Upwards j w u k.births.makers) d.rides before (ride_spares p formed ok few input opts range r fits lone fair reads on q u n s asked d fairs names) (ride_known d.rides meets there)
+
+    along : (j : Journal) (w : World) (r : Runs (source_of p) input opts j w) → RunFits (source_of p) input opts j w r → is_over j ≡ false → PassesBelow few opts j → RunMeets (Meets (table_of p) few) (source_of p) input opts j w r → RunMeets (Fair (setting_of p few)) (source_of p) input opts j w r → RunMeets (ReadsOthers few) (source_of p) input opts j w r → RunMeets (StepApart (table_of p) few (source_of p)) (source_of p) input opts j w r → (q u n : ℕ) (s : State) (asked : Asked) (d : AsksIn (source_of p) opts j w q u n s asked) → RideMeets (Meets (table_of p) few) (source_of p) (answered (source_of p) d.given (drawn j w u)) (left opts j u) s n asked d.rides → RideMeets (Fair (setting_of p few)) (source_of p) (answered (source_of p) d.given (drawn j w u)) (left opts j u) s n asked d.rides → RideMeets (ReadsOthers few) (source_of p) (answered (source_of p) d.given (drawn j w u)) (left opts j u) s n asked d.rides → (k : IsKeptTo (table_of p) few own yet (source_of p) (special_of p) input opts j w r q u n s asked d) → RideMeets (StepApart (table_of p) few (source_of p)) (source_of p) (answered (source_of p) d.given (drawn j w u)) (left opts j u) s n asked d.rides × RideMeets (Upwards j w u k.births.makers) (source_of p) (answered (source_of p) d.given (drawn j w u)) (left opts j u) s n asked d.rides
+    along j w r fits on below met fair reads apart q u n s asked d meets fairs names k =
+        let all = told j w r fits on below met fair reads apart q u n s asked d meets fairs names k in (
+          ride_map (Told j w u (Upwards j w u k.births.makers)) (StepApart (table_of p) few (source_of p)) (step j w u (Upwards j w u k.births.makers)) d.rides all,
+          ride_map (Told j w u (Upwards j w u k.births.makers)) (Upwards j w u k.births.makers) (λ v h. h.upwards) d.rides all,
+        )
+
+    -- behind an act by which an object goes
+    module _ (j : Journal) (w : World) (r : Runs (source_of p) input opts j w) (fits : RunFits (source_of p) input opts j w r) (on : is_over j ≡ false) (q u n : ℕ) (s : State) (asked : Asked) (d : AsksIn (source_of p) opts j w q u n s asked) (going : is_over (j ++ act opts (source_of p).sites input j q u n asked) ≡ false) (Up : State → Type 0) where
+      abbrev TellsAll : State → Type 0
+      TellsAll v = Told j w u Up v
+
+      no_spawn : (o : ℕ) → asked.request ≡ ask.Gone o → (z : ℕ) → spawns (act opts (source_of p).sites input j q u n asked) z ≡ false
+      no_spawn o e z =
+          let one : act opts (source_of p).sites input j q u n asked ≡ asking kind.Gone q u (cost n asked.line) o (pos 0) (pos 0) ∷ [] = (going_row opts (source_of p).sites input j q u n asked going).0 ∙ ap (row opts (source_of p).sites input j q u (cost n asked.line) asked.line) e in
+          ap (λ l. spawns l z) one
+
+      alive : has_ended u j ≡ false
+      alive = law_alive opts (source_of p).sites input j (run_rests (source_of p) input opts range r fits on).kernel on q u d.runs
+
+      -- the object is nowhere just before
+      nowhere : (v : State) (o : ℕ) (todo : List Todo) → (v.run.control ≡ GoneNow ∷ todo) ⊎ (v.run.control ≡ GiveUpNow ∷ todo) → TellsAll v → NowhereBefore (table_of p) few j w u v (this_object v)
+      nowhere v o todo (inl e) h = subst (λ l. BeforeAt (table_of p) few j w u v (source_of p) h.known.knows l) e (h.before h.known.knows)
+      nowhere v o todo (inr e) h = subst (λ l. BeforeAt (table_of p) few j w u v (source_of p) h.known.knows l) e (h.before h.known.knows)
+
+      left_nowhere : (v : State) (o : ℕ) (e : asked.request ≡ ask.Gone o) → TellsAll v → LetsGoAt o v s → IsLeftNowhere (table_of p) few j (act opts (source_of p).sites input j q u n asked) (world_after (source_of p) (act opts (source_of p).sites input j q u n asked) w u s) u o
+      left_nowhere v o e h lets =
+          let before = nowhere v o lets.todo lets.lets_go h in
+          let there : (m : Exec) (cs : List Active) → Lives j (world_at w u v) m cs → IsNoHome (table_of p) few o (Things (table_of p) few m cs) = subst (λ (o : ℕ). (m : Exec) (cs : List Active) → Lives j (world_at w u v) m cs → IsNoHome (table_of p) few o (Things (table_of p) few m cs)) (sym lets.object) (λ m cs i. law_nowhere.lives (table_of p) few j (world_at w u v) before.own before.yet before.rank (this_object v) before.nowhere m cs i) in
+          record { nowhere = behind (table_of p) few (source_of p) j w u v s (act opts (source_of p).sites input j q u n asked) o lets alive (no_spawn o e) there }
+
+    -- what is told of the state in which the last is asked
+    last_at : (P : State → Type 0) {s x : State} {q k : ℕ} {a : Asked} (r : Rides (source_of p) s q x k a) → RideMeets P (source_of p) s q x k a r → (a.request ≡ ask.Slice) ⊎ ((v : State) × P v × (quiet (source_of p) v ≡ Asks a.request x))
+    last_at P slices h = inl refl
+    last_at P (goes_on e r) h = last_at P r h.1
+    last_at P (ticks e r) h = last_at P r h.1
+    last_at P (asks {s} e) h = inr (s, h, e)
+
+    goes_by : (j : Journal) (w : World) (r : Runs (source_of p) input opts j w) → RunFits (source_of p) input opts j w r → is_over j ≡ false → PassesBelow few opts j → RunMeets (Meets (table_of p) few) (source_of p) input opts j w r → RunMeets (Fair (setting_of p few)) (source_of p) input opts j w r → RunMeets (ReadsOthers few) (source_of p) input opts j w r → RunMeets (StepApart (table_of p) few (source_of p)) (source_of p) input opts j w r → (q u n : ℕ) (s : State) (asked : Asked) (d : AsksIn (source_of p) opts j w q u n s asked) → RideMeets (Meets (table_of p) few) (source_of p) (answered (source_of p) d.given (drawn j w u)) (left opts j u) s n asked d.rides → RideMeets (Fair (setting_of p few)) (source_of p) (answered (source_of p) d.given (drawn j w u)) (left opts j u) s n asked d.rides → RideMeets (ReadsOthers few) (source_of p) (answered (source_of p) d.given (drawn j w u)) (left opts j u) s n asked d.rides → IsKeptTo (table_of p) few own yet (source_of p) (special_of p) input opts j w r q u n s asked d → is_over (j ++ act opts (source_of p).sites input j q u n asked) ≡ false → (x : Request) → asked.request ≡ x → GoesBy (IsLeftNowhere (table_of p) few) j (act opts (source_of p).sites input j q u n asked) (world_after (source_of p) (act opts (source_of p).sites input j q u n asked) w u s) u x
+    goes_by j w r fits on below met fair reads apart q u n s asked d meets fairs names k going (ask.Gone o) e =
+        by (last_at (TellsAll j w r fits on q u n s asked d going (Upwards j w u k.births.makers)) d.rides (told j w r fits on below met fair reads apart q u n s asked d meets fairs names k))
+      where
+        by : (asked.request ≡ ask.Slice) ⊎ ((v : State) × TellsAll j w r fits on q u n s asked d going (Upwards j w u k.births.makers) v × (quiet (source_of p) v ≡ Asks asked.request s)) → IsLeftNowhere (table_of p) few j (act opts (source_of p).sites input j q u n asked) (world_after (source_of p) (act opts (source_of p).sites input j q u n asked) w u s) u o
+        by (inl f) = let z : ask.Gone o ≡ ask.Slice = sym e ∙ f in absurd (cc)
+        by (inr (v, h, f)) =
+            let lets : LetsGoAt o v s = law_asked_at (source_of p) v (ask.Gone o) s (f ∙ ap (λ (x : Request). Asks x s) e) in
+            left_nowhere j w r fits on q u n s asked d going (Upwards j w u k.births.makers) v o e h lets
+    goes_by j w r fits on below met fair reads apart q u n s asked d meets fairs names k going x e = tt
+
+    run_apart : (j : Journal) (w : World) (r : Runs (source_of p) input opts j w) → RunFits (source_of p) input opts j w r → is_over j ≡ false → PassesBelow few opts j → RunMeets (Meets (table_of p) few) (source_of p) input opts j w r → RunMeets (Fair (setting_of p few)) (source_of p) input opts j w r → RunMeets (ReadsOthers few) (source_of p) input opts j w r → RunKeepsTo (table_of p) few own yet (source_of p) (special_of p) input opts r → RunMeets (StepApart (table_of p) few (source_of p)) (source_of p) input opts j w r × RunGoes (IsLeftNowhere (table_of p) few) (source_of p) input opts r
+    run_apart _ _ begun fits on below met fair reads k = (tt, tt)
+    run_apart _ _ (more {j} {w} {a} r o (gives q u s le)) fits on below met fair reads k =
+        let h = run_apart j w r fits.0 o (earlier few opts j a below) met.0 fair.0 reads.0 k.0 in ((h.0, tt), (h.1, tt))
+    run_apart _ _ (more {j} {w} {a} r o (no_room q u s le)) fits on below met fair reads k =
+        let h = run_apart j w r fits.0 o (earlier few opts j a below) met.0 fair.0 reads.0 k.0 in ((h.0, tt), (h.1, tt))
+    run_apart _ _ (more {j} {w} {a} r o (acts q u n s asked d)) fits on below met fair reads k =
+        let before = earlier few opts j a below in
+        let h = run_apart j w r fits.0 o before met.0 fair.0 reads.0 k.0 in (
+          (h.0, (along j w r fits.0 o before met.0 fair.0 reads.0 h.0 q u n s asked d met.1 fair.1 reads.1 k.1).0),
+          (h.1, goes_by j w r fits.0 o before met.0 fair.0 reads.0 h.0 q u n s asked d met.1 fair.1 reads.1 k.1 on asked.request refl),
+        )
+
+pub law_ways : LawWays
+law_ways = record {
+  runs = λ p formed ok few own yet places zero input opts range j w r fits on below first met fair reads k.
+      run_apart p formed ok few own yet places zero input opts range first j w r fits on below met fair reads k;
+  rides = λ p formed ok few own yet places zero input opts range j w r fits on below first met fair reads k q u n s asked d meets fairs names h.
+      along p formed ok few own yet places zero input opts range first j w r fits on below met fair reads (run_apart p formed ok few own yet places zero input opts range first j w r fits on below met fair reads k).0 q u n s asked d meets fairs names h;
+}

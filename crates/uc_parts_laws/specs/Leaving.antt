@@ -1,0 +1,36 @@
+-- What is left to find of steps that take marks away, where parts of objects are taken over; of steps that make executions nothing is.
+use Rattle.std.specs.Prelude.{◌≡◌, ℕ, Bool, false, List, ◌∷◌}
+use Rattle.uc_tree.specs.Source.{Source}
+use Rattle.uc_machine.specs.declared.exec.Exec.{Exec}
+use Rattle.uc_machine.specs.Pieces as piece
+use Rattle.uc_machine.specs.Pieces.{Value, Todo, State, sort}
+use Rattle.uc_life_laws.specs.Destroying.{EndsBelow}
+use Rattle.uc_life_laws.specs.Held.{Seating, IsOwn, Takes}
+use Rattle.uc_life_laws.specs.Ways.{calls_plainly, ForgetsBy, UnwindsBy}
+use Rattle.uc_rooted_runs.specs.Makers.{Makers, seating}
+use Rattle.uc_rooted_runs.specs.Births.{MakesLater}
+use Rattle.uc_rooted_runs.specs.OutlastRuns.{with_homes, now}
+use Rattle.uc_rooted_runs.specs.KeptRuns.{Keeps}
+use Rattle.uc_parts_laws.specs.PartStates.{PartsState}
+
+module _ (source : Source) (seats : Seating) (up : Exec → Bool) where
+  -- an execution is up no more where its coroutine is forgotten or its task goes; where the destructor of a mutex object is called, those that this ends are held
+  -- soon; and none is up at an element of an array that is to be built
+  abbrev pub GoesAt : List Todo → State → Type 0
+  GoesAt (piece.Clean c ∷ todo) s = ForgetsBy source seats up (piece.IsClean c) c todo s
+  GoesAt (piece.Sweep d ∷ todo) s = calls_plainly d ≡ false → Takes source seats up s (piece.IsSweep d) todo
+  GoesAt (piece.CountNow m ∷ (piece.FillNow n b d ∷ todo)) s = (x : Exec) → IsOwn source seats up s x →
+      EndsBelow source (seats.seat x) s.env.exec s.run.frame s.run.this s.run.elements d → ⊥
+  GoesAt (piece.Unwind ∷ (p ∷ todo)) s = UnwindsBy source seats up (sort p) todo s
+  GoesAt todo s = Unit {0}
+
+  abbrev pub GoesNow : State → Type 0
+  GoesNow s = GoesAt s.run.control s
+
+-- so executions are held soon behind steps that take their marks away or make them, in states in which parts are taken over, by homes that are told
+abbrev pub LawLeaving : Type 0
+LawLeaving =
+    (source : Source) (special : ℕ → Bool) (makers : Makers) (homes : ℕ → Value) (asked made : Exec → Bool) (s : State) →
+    PartsState (record { source = source; special = special; home = homes }) s → MakesLater source makers s →
+    GoesNow source (seating (with_homes homes makers)) (now makers asked made) s →
+    Keeps (with_homes homes makers) asked source made s
