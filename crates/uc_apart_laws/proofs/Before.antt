@@ -3,16 +3,12 @@ use Rattle.std.proofs.Common.{◌≡◌, ℕ, ◌==◌, List, [], ◌∷◌, ref
 use Rattle.std.specs.Prelude.{if◌then◌else◌}
 use Rattle.std.proofs.lemmas.Bool.{eq-eqb}
 use Rattle.uc_tree.specs.Source.{Source}
-use Rattle.uc_entry.specs.declared.entry.Options.{Options}
-use Rattle.uc_entry.specs.declared.request.Asked.{Asked}
 use Rattle.uc_acts.specs.Journal.{Journal}
 use Rattle.uc_machine.specs.declared.exec.Exec.{Exec}
 use Rattle.uc_machine.specs.Monitors.{this_object}
 use Rattle.uc_machine.specs.Pieces as piece
 use Rattle.uc_machine.specs.Pieces.{Value, Todo, State}
-use Rattle.uc_machine.specs.Rides.{Rides, slices, goes_on, ticks, asks}
-use Rattle.uc_meaning.specs.Runs.{World, Runs, gives, no_room, acts, begun, more}
-use Rattle.uc_state_laws.specs.Opens.{RideMeets, RunMeets}
+use Rattle.uc_meaning.specs.Runs.{World}
 use Rattle.uc_typing.specs.Typing.{Ty, Table}
 use Rattle.uc_life_laws.specs.Things.{Few, Base}
 use Rattle.uc_life_laws.specs.LifeStates.{EnvBy}
@@ -21,7 +17,7 @@ use Rattle.uc_life_laws.specs.Rooted.{IsPlace}
 use Rattle.uc_life_laws.specs.AtHand.{IsApart}
 use Rattle.uc_apart_laws.specs.Clear.{ClearEx, IsClearAt}
 use Rattle.uc_apart_laws.specs.Nowhere.{SparesEx}
-use Rattle.uc_apart_laws.specs.Before.{world_at, NowhereBefore, BeforeAt, Before, RunBefore, LawBefore}
+use Rattle.uc_apart_laws.specs.Before.{world_at, NowhereBefore, BeforeAt, Before, LawBefore}
 use Rattle.uc_apart_laws.proofs.Clear.{law_clear}
 use Rattle.uc_apart_laws.proofs.Nowhere.{law_nowhere}
 
@@ -43,17 +39,5 @@ module _ (t : Table) (few : Few) (source : Source) (places : (n : Exec) (w : Val
         by (piece.GiveUpNow ∷ todo) f = clear s (this_object s) f
         by (p ∷ todo) f = f
 
-    ride : {s v : State} {q k : ℕ} {a : Asked} (r : Rides source s q v k a) → RideMeets (λ x. Before t few j w u x source) source s q v k a r → RideMeets (λ x. (k : KnowsState t few [] x) → IsApart t few source x k) source s q v k a r
-    ride slices h = tt
-    ride (goes_on {s} e r) h = (apart s h.0, ride r h.1)
-    ride (ticks {s} e r) h = (apart s h.0, ride r h.1)
-    ride (asks {s} e) h = apart s h
-
-  run : {input : List ℕ} {opts : Options} {j : Journal} {w : World} (r : Runs source input opts j w) → RunBefore t few source input opts j w r → RunMeets (λ s. (k : KnowsState t few [] s) → IsApart t few source s k) source input opts j w r
-  run begun h = tt
-  run (more r o (gives q u s le)) h = (run r h.0, tt)
-  run (more r o (no_room q u s le)) h = (run r h.0, tt)
-  run (more {j} {w} r o (acts q u n s asked d)) h = (run r h.0, ride j w u d.rides h.1)
-
 pub law_before : LawBefore
-law_before t few source places input opts j w r h = run t few source places r h
+law_before t few source places j w u = apart t few source places j w u

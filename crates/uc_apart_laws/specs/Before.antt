@@ -1,17 +1,12 @@
--- Runs in which just before an object goes, or is given up, it is nowhere in the world: nobody who does not run has it at hand.
+-- Just before an object goes, or is given up, it is nowhere in the world: nobody who does not run has it at hand.
 use Rattle.std.specs.Prelude.{ℕ, ◌==◌, Bool, List, [], ◌∷◌, if◌then◌else◌}
 use Rattle.uc_tree.specs.Source.{Source}
 use Rattle.uc_entry.specs.Keyed.{find}
-use Rattle.uc_entry.specs.declared.entry.Entry.{Entry}
-use Rattle.uc_entry.specs.declared.entry.Options.{Options}
 use Rattle.uc_acts.specs.Journal.{Journal}
-use Rattle.uc_acts.specs.Serves.{left}
 use Rattle.uc_machine.specs.declared.exec.Exec.{Exec}
 use Rattle.uc_machine.specs.Monitors.{this_object}
 use Rattle.uc_machine.specs.Pieces.{Value, Todo, GoneNow, GiveUpNow, Active, State}
-use Rattle.uc_machine.specs.Answering.{answered}
-use Rattle.uc_meaning.specs.Runs.{World, May, Runs, drawn, or_else, gives, no_room, acts, begun, more}
-use Rattle.uc_state_laws.specs.Opens.{RideMeets, RunMeets}
+use Rattle.uc_meaning.specs.Runs.{World, or_else}
 use Rattle.uc_typing.specs.Typing.{Ty, Table}
 use Rattle.uc_life_laws.specs.Things.{Few, Base}
 use Rattle.uc_life_laws.specs.LifeStates.{EnvBy}
@@ -46,25 +41,9 @@ module _ (t : Table) (few : Few) (j : Journal) (w : World) (u : ℕ) (s : State)
   abbrev pub Before : Source → Type 0
   Before source = (k : KnowsState t few [] s) → BeforeAt source k s.run.control
 
-module _ (t : Table) (few : Few) (source : Source) where
-  abbrev pub MayBefore : (opts : Options) (input : List ℕ) (j : Journal) (w : World) (a : List Entry) (x : World) →
-      May source opts input j w a x → Type 0
-  MayBefore opts input j w _ _ (gives p u s h) = Unit {0}
-  MayBefore opts input j w _ _ (no_room p u s h) = Unit {0}
-  MayBefore opts input j w _ _ (acts p u n s asked d) =
-      RideMeets (λ v. Before t few j w u v source) source (answered source d.given (drawn j w u)) (left opts j u) s n asked d.rides
-
-  -- and at each step of a run
-  abbrev pub RunBefore : (input : List ℕ) (opts : Options) (j : Journal) (w : World) →
-      Runs source input opts j w → Type 0
-  RunBefore input opts _ _ begun = Unit {0}
-  RunBefore input opts _ _ (more {j} {w} {a} {w' = x} r o m) = RunBefore input opts j w r ×
-      MayBefore opts input j w a x m
-
--- then at each step nobody else has at hand what is let go of, where executions have places alone of others
+-- then nobody else has at hand what is let go of in that state, where executions have places alone of others
 abbrev pub LawBefore : Type 0
 LawBefore =
     (t : Table) (few : Few) (source : Source) → ((n : Exec) (w : Value) (b : Ty) → Base few n w b → IsPlace w) →
-    (input : List ℕ) (opts : Options) (j : Journal) (w : World) (r : Runs source input opts j w) →
-    RunBefore t few source input opts j w r →
-    RunMeets (λ s. (k : KnowsState t few [] s) → IsApart t few source s k) source input opts j w r
+    (j : Journal) (w : World) (u : ℕ) (s : State) → Before t few j w u s source →
+    (k : KnowsState t few [] s) → IsApart t few source s k

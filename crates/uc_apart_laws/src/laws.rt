@@ -23,8 +23,8 @@ pub fn law_own()
     ensures { LawOwn }
 {}
 
-/// In each run in which just before an object goes, or is given up, it is nowhere in the world, and what
-/// else is let go of is at hand of nobody of whom that is asked, nobody else has at hand what is let go of.
+/// Where just before an object goes, or is given up, it is nowhere in the world, and what else is let go of
+/// is at hand of nobody of whom that is asked, nobody else has at hand what is let go of.
 pub fn law_before()
     ensures { LawBefore }
 {}

@@ -29,15 +29,18 @@ use Rattle.uc_sound.proofs.DeclaringLemmas.{made_kind, made}
 use Rattle.uc_sound.proofs.ObjectLemmas.{Making_is, made_told}
 use Rattle.uc_sound.proofs.SoundLemmas.{law_sound}
 use Rattle.uc_state_laws.specs.Counted.{params_at, params}
-use Rattle.uc_life_laws.specs.Things.{IsUnbound}
+use Rattle.uc_life_laws.specs.Things.{IsUnbound, Within, itself}
+use Rattle.uc_life_laws.specs.Makings as makings
+use Rattle.uc_life_laws.specs.Makings.{Builds}
 use Rattle.uc_life_laws.specs.Knowing.{KnowsState}
 use Rattle.uc_life_laws.specs.Opened.{any}
 use Rattle.uc_place_laws.specs.Opened.{role_number, ArePaired, OfPlain}
-use Rattle.uc_place_laws.specs.OpeningLaws.{Awaited, CallsAt, IsCalled}
+use Rattle.uc_place_laws.specs.OpeningLaws.{Awaited, IsAt, CallsAt, IsCalled}
 use Rattle.uc_building_laws.specs.Building.{is_bound_in, heads_of, InHead}
 use Rattle.uc_building_laws.specs.BuildingStates.{variable}
 use Rattle.uc_building_laws.specs.BuildingLaws.{IsConstructed, Constructs, BuildsAt, Fair}
 use Rattle.uc_building_laws.specs.BuildingRuns.{Makes, MakesNext, RemainsAt, Remains, LawHeads}
+use Rattle.uc_building_laws.specs.Awaiting.{OpensPlain, LawAwaited}
 use Rattle.uc_building_laws.proofs.Given.{owns, in_scope, made_elsewhere, numbered_holds}
 use Rattle.uc_building_laws.proofs.Heads.{heads, unsited}
 use Rattle.uc_building_laws.proofs.Plain.{plain_of, no_scope}
@@ -145,6 +148,24 @@ module _ (p : Program) (formed : IsFormed p) (accepted : breaks_of p ≡ []) whe
     purpose : (q : Routine) → slice_get source.routines r ≡ Some q → q.purpose ≡ src.Builder
     purpose q e = builder q.purpose (t.routine r).whole whole ((law_sound p formed accepted).routines r q e).purpose
 
+  -- what is called where the scope of an object opens next builds what is waited for
+  module _ (ends : ℕ → Bool) (s : State) where
+    built : (r d k i : ℕ) → ArePaired p r d → (t.routine d).this ≡ Some i → top (drop (params source r) s.run.operands) ≡ variable s.env.exec s.run.frame k → (c : CleanUp) → CleansAt t (Obj i) (src.Variable k) c → (line : ℕ) (ss : src.Stmts) (todo : List Todo) → Builds t ends source s r (piece.DropNow ∷ (piece.Within line ∷ (piece.Rest (src.Scoped c ss) ∷ todo)))
+    built r d k i pair of at c cleans line ss todo late q is whole e is_class =
+        let class : e ≡ i = let u : Some pair.class ≡ Some e = sym (constructs r d pair) ∙ is_class in let v : pair.class ≡ e = cc in sym v ∙ class_is r d pair i of in
+        let place : top (drop q.params s.run.operands) ≡ variable s.env.exec s.run.frame k = subst (λ o. top (drop (params_at o) s.run.operands) ≡ variable s.env.exec s.run.frame k) is at in
+        inl (inr (inl (e, refl, (variable s.env.exec s.run.frame k, Obj i, inl (k, cleans, refl), subst (λ w. Within t (variable s.env.exec s.run.frame k) (Obj i) w (Obj e)) (sym place) (subst (λ c. Within t (variable s.env.exec s.run.frame k) (Obj i) (variable s.env.exec s.run.frame k) (Obj c)) (sym class) itself)))))
+
+    opens : (r : ℕ) (todo : List Todo) → Awaited (IsAt p source s r) todo → OpensPlain t todo → Builds t ends source s r todo
+    opens r (piece.DropNow ∷ (piece.Within line ∷ (piece.Rest (src.Scoped c ss) ∷ todo))) h o =
+        let z = plain_of t o.0 o.1 (IsAt p source s r) c o.2 h in
+        built r z.0 o.0 o.1 z.2.0 z.1 z.2.1 c o.2 line ss todo
+    opens r todo h o = absurd o
+
+    pub awaited : IsCalled p source s → (r : ℕ) (todo : List Todo) → (s.run.control ≡ piece.CallOnNow r ∷ todo) ⊎ (s.run.control ≡ piece.CallUnwrittenNow r ∷ todo) → OpensPlain t todo → makings.BuildsAt t ends source s s.run.control
+    awaited h r todo (inl e) o = subst (makings.BuildsAt t ends source s) (sym e) (opens r todo (subst (λ l. CallsAt p source l s) e h.calls) o)
+    awaited h r todo (inr e) o = subst (makings.BuildsAt t ends source s) (sym e) (opens r todo (subst (λ l. CallsAt p source l s) e h.calls) o)
+
   module _ (s : State) (x : KnowsState t any [] s) where
     -- the routine is called at the variable
     abbrev Called : ℕ → ℕ → ℕ → Type 0
@@ -185,6 +206,9 @@ module _ (p : Program) (formed : IsFormed p) (accepted : breaks_of p ≡ []) whe
 
     pub fair : Remains t source s → IsCalled p source s → Fair t (heads_of p) any source s
     fair m c = record { at = at s.run.control refl c.calls m; joins = c.joins }
+
+pub law_awaited : LawAwaited
+law_awaited p formed accepted ends s h r todo e o = awaited p formed accepted ends s h r todo e o
 
 pub law_heads : LawHeads
 law_heads = record {

@@ -3,3 +3,4 @@ pub mod BuildingStates
 pub mod BuildingLaws
 pub mod BuildingRuns
 pub mod BuiltRuns
+pub mod Awaiting

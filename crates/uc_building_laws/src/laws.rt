@@ -1,5 +1,6 @@
 // The laws: each is a function whose contract is the law.
 
+ghost use Rattle.uc_building_laws.specs.Awaiting.{LawAwaited};
 ghost use Rattle.uc_building_laws.specs.BuildingLaws.{LawClears, LawSteps};
 ghost use Rattle.uc_building_laws.specs.BuildingRuns.{LawBuilt, LawHeads};
 ghost use Rattle.uc_building_laws.specs.BuiltRuns.{LawBuiltRuns};
@@ -24,6 +25,11 @@ pub fn law_clears()
 /// that is known by its number holds what is known as soon as its cell holds an object.
 pub fn law_heads()
     ensures { LawHeads }
+{}
+
+/// Where the scope of an object that is a variable opens next, what its constructor builds is waited for.
+pub fn law_awaited()
+    ensures { LawAwaited }
 {}
 
 /// So objects hold what is known where their scopes open, in each run of a program of the grammar that

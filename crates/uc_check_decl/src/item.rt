@@ -149,15 +149,9 @@ fn is_definition(
     ensures { IfOk result (λ b. b ≡ is_definition index.now owner.now sig.now place) }
 {
     match owner {
-        Owner::Here => {
-            let holds = is_well_declared(alloc, index, sig, place)?;
-            Ok(holds)
-        }
+        Owner::Here => is_well_declared(alloc, index, sig, place),
         Owner::Main => Ok(is_program_main(sig)),
-        Owner::Class(name) => {
-            let holds = is_member_definition(alloc, index, name, home, sig, place)?;
-            Ok(holds)
-        }
+        Owner::Class(name) => is_member_definition(alloc, index, name, home, sig, place),
     }
 }
 
@@ -183,8 +177,7 @@ fn is_defined(
     ensures { IfOk result (λ b. b ≡ is_defined index.now class.now proto sig.now) }
 {
     if proto {
-        let defined = index.defines_member_sig(alloc, &class.name, sig)?;
-        Ok(defined)
+        index.defines_member_sig(alloc, &class.name, sig)
     } else {
         Ok(true)
     }
@@ -221,18 +214,11 @@ pub fn is_sound_item(
         ItemForm::Routine { routine } => {
             let sig = &routine.sig;
             let home = owner_home(tables, &sig.owner);
-            let holds = is_definition(alloc, index, &sig.owner, home, sig, place)?;
-            Ok(holds)
+            is_definition(alloc, index, &sig.owner, home, sig, place)
         }
         ItemForm::Constant { .. } => Ok(true),
-        ItemForm::Proto { sig } => {
-            let defined = index.defines_sig(alloc, sig)?;
-            Ok(defined)
-        }
-        ItemForm::Forward { forward } => {
-            let defined = index.has_class_of(alloc, forward)?;
-            Ok(defined)
-        }
+        ItemForm::Proto { sig } => index.defines_sig(alloc, sig),
+        ItemForm::Forward { forward } => index.has_class_of(alloc, forward),
         ItemForm::Using { .. } => Ok(true),
     }
 }

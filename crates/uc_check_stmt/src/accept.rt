@@ -223,8 +223,7 @@ fn note_owned(
                 class,
                 names: tables.mutex_members(place),
             };
-            note_clauses(names.alloc(), listing, clauses, found)?;
-            Ok(())
+            note_clauses(names.alloc(), listing, clauses, found)
         }
         None => {
             note_unowned(clauses, found);

@@ -299,6 +299,5 @@ pub fn check_declaration(
         ≡ with_visits found.old (declaration_visits names.old at base.now declarators.now)) }
 {
     ask_base(names, base, at, found);
-    check_variables(names, base, declarators, found)?;
-    Ok(())
+    check_variables(names, base, declarators, found)
 }

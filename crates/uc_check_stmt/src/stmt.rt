@@ -210,8 +210,7 @@ fn check_if(
 {
     check_condition(names, test, found);
     check_inner(names, names.around(), chosen, found)?;
-    check_maybe_inner(names, other, found)?;
-    Ok(())
+    check_maybe_inner(names, other, found)
 }
 
 #[cycle(stmt)]
@@ -228,8 +227,7 @@ fn check_while(
         ++ stmt_visits body.now (opened (looped names.old)))) }
 {
     check_condition(names, test, found);
-    check_inner(names, in_loop(names.around()), body, found)?;
-    Ok(())
+    check_inner(names, in_loop(names.around()), body, found)
 }
 
 #[cycle(stmt)]
@@ -266,8 +264,7 @@ fn check_try(
 {
     check_guarded(names, body, found)?;
     ask_handlers(names, handlers, found);
-    check_handlers(names, handlers, found)?;
-    Ok(())
+    check_handlers(names, handlers, found)
 }
 
 // An `_Enable` or a `_Disable`.
@@ -285,8 +282,7 @@ fn check_masked(
         ++ stmt_visits body.now (opened names.old))) }
 {
     check_events(names, events, found);
-    check_inner(names, names.around(), body, found)?;
-    Ok(())
+    check_inner(names, names.around(), body, found)
 }
 
 #[cycle(stmt)]
@@ -306,8 +302,7 @@ fn check_accept(
 {
     ask_accept(names, clauses, at, found)?;
     check_clauses(names, clauses, found)?;
-    check_maybe_inner(names, other, found)?;
-    Ok(())
+    check_maybe_inner(names, other, found)
 }
 
 /// The same of a body.
@@ -398,10 +393,7 @@ fn check_maybe_inner(
         ≡ with_visits found.old (maybe_stmt_visits (maybe_at s.now) names.old)) }
 {
     match s {
-        Some(s) => {
-            check_inner(names, names.around(), s, found)?;
-            Ok(())
-        }
+        Some(s) => check_inner(names, names.around(), s, found),
         None => Ok(()),
     }
 }
@@ -476,8 +468,7 @@ fn check_clause(names: &mut Names, clause: &Clause, found: &mut Found) -> Result
         ≡ with_visits found.old (clause_visits clause.now names.old)) }
 {
     check_maybe_condition(names, &clause.guard, found);
-    check_inner(names, names.around(), &clause.body, found)?;
-    Ok(())
+    check_inner(names, names.around(), &clause.body, found)
 }
 
 #[cycle(stmt)]

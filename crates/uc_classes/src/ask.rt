@@ -399,8 +399,7 @@ pub fn ask_routine(
         (AtRoutine names.now walked.entry.class.now proto sig.now member)) }
 {
     note_routine(names, walked, sig, member, found);
-    note_sound(names, walked, proto, sig, member, found)?;
-    Ok(())
+    note_sound(names, walked, proto, sig, member, found)
 }
 
 /// A member with its mark, where the numbered members of its class have these names.
@@ -555,10 +554,7 @@ fn has_unset_fields(names: &Names, inits: &[Init]) -> Result<bool, AllocError>
         ≡ has_unset names.now.program inits.now (home_class names.now)) }
 {
     match home_class(names) {
-        Some(class) => {
-            let unset = has_unset(names.alloc(), names.tables(), inits, class)?;
-            Ok(unset)
-        }
+        Some(class) => has_unset(names.alloc(), names.tables(), inits, class),
         None => Ok(false),
     }
 }
@@ -603,8 +599,7 @@ pub fn ask_inits(
     ensures { OnOk result (found.new
         ≡ first_break_after found.old (AtInits names.now sig.now inits.now)) }
 {
-    note_inits(names, sig, inits, found)?;
-    Ok(())
+    note_inits(names, sig, inits, found)
 }
 
 #[tactic(auto, using(uc_check_stmt::proofs::Joined::joining))]

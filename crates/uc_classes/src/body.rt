@@ -55,8 +55,7 @@ pub fn check_sig(names: &mut Names, sig: &Sig, found: &mut Found) -> Result<(), 
 {
     check_returned(names, sig, found);
     ask_sig(names, sig, found);
-    check_params(names, &sig.params, found)?;
-    Ok(())
+    check_params(names, &sig.params, found)
 }
 
 #[tactic(auto, using(uc_check_stmt::proofs::Joined::joining))]
@@ -65,8 +64,7 @@ fn check_body(names: &mut Names, routine: &Routine, found: &mut Found) -> Result
 {
     ask_inits(names, &routine.sig, &routine.inits, found)?;
     check_inits(names, &routine.inits, found);
-    check_stmts(names, &routine.body, found)?;
-    Ok(())
+    check_stmts(names, &routine.body, found)
 }
 
 /// A routine where no local is in scope yet.
@@ -80,6 +78,5 @@ pub fn check_routine(
         ≡ with_visits found.old (routine_visits names.old routine.now)) }
 {
     check_sig(names, &routine.sig, found)?;
-    check_body(names, routine, found)?;
-    Ok(())
+    check_body(names, routine, found)
 }

@@ -148,8 +148,7 @@ fn check_field(
         declarator.now (place_in listed.entry.member index) ∷ [])) }
 {
     check_maybe(names, &declarator.len, found);
-    ask_field(names, walked, listed, index, declarator, found)?;
-    Ok(())
+    ask_field(names, walked, listed, index, declarator, found)
 }
 
 #[tactic(auto, using(uc_check_stmt::proofs::Joined::joining))]
@@ -196,8 +195,7 @@ fn check_listed(
 {
     let outer = Names::new(walked.alloc, walked.tables, class_around(walked.home));
     ask_base(&outer, listed.base, at, found);
-    check_fields(&outer, walked, listed, found)?;
-    Ok(())
+    check_fields(&outer, walked, listed, found)
 }
 
 fn ask_inner(
@@ -215,8 +213,7 @@ fn ask_inner(
         walked.entry.class.now proto sig.now place)) }
 {
     let outer = Names::new(walked.alloc, walked.tables, class_around(walked.home));
-    ask_routine(&outer, walked, proto, sig, place, found)?;
-    Ok(())
+    ask_routine(&outer, walked, proto, sig, place, found)
 }
 
 // The environment of a routine in its class, before its parameters.
@@ -245,8 +242,7 @@ fn check_inner(
 {
     ask_inner(walked, false, &routine.sig, place, found)?;
     let mut names = inner_names(walked, mark, &routine.sig);
-    check_routine(&mut names, routine, found)?;
-    Ok(())
+    check_routine(&mut names, routine, found)
 }
 
 fn check_proto(
@@ -266,8 +262,7 @@ fn check_proto(
 {
     ask_inner(walked, true, sig, place, found)?;
     let mut names = inner_names(walked, mark, sig);
-    check_sig(&mut names, sig, found)?;
-    Ok(())
+    check_sig(&mut names, sig, found)
 }
 
 fn check_form(
@@ -296,8 +291,7 @@ fn check_form(
                 base,
                 declarators,
             };
-            check_listed(walked, listed, *at, found)?;
-            Ok(())
+            check_listed(walked, listed, *at, found)
         }
         MemberForm::Routine { routine } => {
             check_inner(walked, place, member.mark, routine, found)?;
@@ -332,8 +326,7 @@ fn check_member(
 {
     let outer = Names::new(walked.alloc, walked.tables, class_around(walked.home));
     ask_mark(&outer, walked.class, walked.numbered, member, found);
-    check_form(walked, place, member, found)?;
-    Ok(())
+    check_form(walked, place, member, found)
 }
 
 #[tactic(auto, using(uc_check_stmt::proofs::Joined::joining))]
@@ -396,8 +389,7 @@ fn ask_whole(
         (AtClass (plain_env tables.now (class_around home)) class.now home.class)) }
 {
     let outer = Names::new(alloc, tables, class_around(home));
-    ask_class(&outer, index, class, home.class, events, found)?;
-    Ok(())
+    ask_class(&outer, index, class, home.class, events, found)
 }
 
 // The members of a class, with the flags of the classes that have it in their fields.
@@ -432,8 +424,7 @@ fn check_held<'x>(
         },
         numbered: tables.mutex_members(home.class),
     };
-    check_members(walked, found)?;
-    Ok(())
+    check_members(walked, found)
 }
 
 fn check_inside(
@@ -455,8 +446,7 @@ fn check_inside(
         circular,
         holders: &holders,
     };
-    check_held(alloc, tables, index, class, home, circle, found)?;
-    Ok(())
+    check_held(alloc, tables, index, class, home, circle, found)
 }
 
 /// A class by its place among the classes of the program, before which so many events stand.
@@ -480,6 +470,5 @@ pub fn check_class(
         kind: class.kind,
     };
     ask_whole(alloc, tables, index, class, home, events, found)?;
-    check_inside(alloc, tables, index, class, home, found)?;
-    Ok(())
+    check_inside(alloc, tables, index, class, home, found)
 }

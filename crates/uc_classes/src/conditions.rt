@@ -86,6 +86,5 @@ pub fn count_conditions<'x>(
         return Ok(0);
     }
     let conditions = conditions_in(alloc, &class.members)?;
-    let count = count_among(alloc, tables, class, &conditions)?;
-    Ok(count)
+    count_among(alloc, tables, class, &conditions)
 }

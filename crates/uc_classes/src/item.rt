@@ -50,10 +50,7 @@ fn mark_of(
     ensures { IfOk result (λ mark. mark ≡ outer_mark index.now home sig.now) }
 {
     match home {
-        Some(home) => {
-            let mark = index.mark_in(alloc, home.class, sig)?;
-            Ok(mark)
-        }
+        Some(home) => index.mark_in(alloc, home.class, sig),
         None => Ok(MutexMark::Unmarked),
     }
 }
@@ -107,8 +104,7 @@ fn check_outer(
         ≡ with_visits found.old (routine_visits (outer_env tables.now routine.now.sig) routine.now)) }
 {
     let mut names = outer_names(alloc, tables, index, &routine.sig)?;
-    check_routine(&mut names, routine, found)?;
-    Ok(())
+    check_routine(&mut names, routine, found)
 }
 
 #[tactic(auto, using(uc_check_stmt::proofs::Joined::joining))]
@@ -132,8 +128,7 @@ fn check_proto(
         ≡ with_visits found.old (sig_visits (plain_env tables.now no_around) sig.now)) }
 {
     let mut names = Names::new(alloc, tables, no_around());
-    check_sig(&mut names, sig, found)?;
-    Ok(())
+    check_sig(&mut names, sig, found)
 }
 
 // What stands before an item: so many classes, of which so many are events.
@@ -178,10 +173,7 @@ fn check_item(
             check_constant(alloc, tables, constant, found);
             Ok(())
         }
-        ItemForm::Proto { sig } => {
-            check_proto(alloc, tables, sig, found)?;
-            Ok(())
-        }
+        ItemForm::Proto { sig } => check_proto(alloc, tables, sig, found),
         ItemForm::Forward { .. } => Ok(()),
         ItemForm::Using { .. } => Ok(()),
     }
@@ -226,8 +218,7 @@ fn check_placed(
         ∷ item_visits tables.now before.classes item.now)) }
 {
     ask_item(alloc, tables, index, item, place, found)?;
-    check_item(alloc, tables, index, before, item, found)?;
-    Ok(())
+    check_item(alloc, tables, index, before, item, found)
 }
 
 /// The items of a program.

@@ -36,8 +36,7 @@ fn numbered_in_classes<'a>(
         ≡ map numbered_in (classes_of program.now.items)) }
 {
     let classes = classes_in(alloc, &program.items)?;
-    let all = numbered_in_each(alloc, &classes)?;
-    Ok(all)
+    numbered_in_each(alloc, &classes)
 }
 
 /// The names of a program.
@@ -45,6 +44,5 @@ pub fn tables_of<'a>(alloc: Global, program: &'a Program) -> Result<Tables<'a>, 
     ensures { IfOk result (λ t. t ≡ program.now) }
 {
     let numbered = numbered_in_classes(alloc, program)?;
-    let tables = Tables::new(alloc, program, numbered)?;
-    Ok(tables)
+    Tables::new(alloc, program, numbered)
 }

@@ -121,18 +121,8 @@ impl Work {
         Ok(called)
     }
 
-    /// The same, where the one that waits is handed a number.
-    #[inline(always)]
-    pub fn leave_with(&mut self, number: i64) -> Result<bool, AllocError>
-        ensures called { IfOk result (λ called. called ≡ nat_lt 0 (length self.old.callers)) }
-        ensures after { OnOk result (self.new ≡ left (Cell.Number number) self.old.callers self.old) }
-        ensures err { OnErr result (self.new ≡ self.old) }
-    {
-        let called = self.task.running.leave_with(number)?;
-        Ok(called)
-    }
-
     /// The same, where the one that waits is handed nothing.
+    #[inline(always)]
     pub fn leave_bare(&mut self) -> bool
         ensures called { result ≡ nat_lt 0 (length self.old.callers) }
         ensures after { self.new ≡ left_bare self.old.callers self.old }
@@ -218,6 +208,7 @@ impl Work {
         running.block.drop_all();
         running.run.next = to;
         running.run.raised = None;
+        running.run.is_exceptional = running.run.says_more();
     }
 
     /// A clean-up of the running activation begins at this op.
@@ -238,6 +229,7 @@ impl Work {
         running.block.put_event(event)?;
         running.run.next = entry;
         running.run.raised = None;
+        running.run.is_exceptional = running.run.says_more();
         Ok(())
     }
 
@@ -288,6 +280,7 @@ impl Work {
         running.block.replace_all(running.run.result)?;
         running.run.next = to;
         running.run.raised = None;
+        running.run.is_exceptional = running.run.says_more();
         Ok(())
     }
 }

@@ -2,7 +2,7 @@
 
 ghost use Rattle.std.specs.Prelude.{◌≡◌, [], ◌∷◌, None, true, false};
 ghost use Rattle.uc_machine.specs.Executions.{begun};
-ghost use Rattle.uc_frames.specs.Block.{completed, Told};
+ghost use Rattle.uc_frames.specs.Block.{completed, exceptional, Told};
 ghost use Rattle.uc_frames.specs.Unwinding.{operands_of, handler_of};
 
 use crate::cell::{Cell, is_nothing};
@@ -87,6 +87,13 @@ impl Activation {
         self.handles = None;
         self.raised = None;
         self.result = Cell::Nothing;
+    }
+
+    // Whether it says something exceptional, where it is unwound no more.
+    pub(crate) fn says_more(&self) -> bool
+        ensures { exceptional result self.now.handles None self.now.result }
+    {
+        self.handles.is_some() || !is_nothing(&self.result)
     }
 
     // It is the same as another.

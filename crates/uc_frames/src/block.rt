@@ -340,8 +340,8 @@ impl Block {
         }
     }
 
-    // A call of a routine that takes so many of the newest operands, its parameters among them, where that needs no more room and no more
-    // cells. The answer is whether it does not; else all stays as it is.
+    // A call of a routine that takes so many of the newest operands, its parameters among them, where that needs no more room. The answer
+    // is whether it does not; else all stays as it is.
     #[inline(always)]
     pub(crate) fn enter_in_place(&mut self, routine: RoutineCode, taken: u64) -> bool
         ensures made { result ≡ true → self.new ≡ with_call taken (call_frame routine self.old.operands) self.old }
@@ -353,16 +353,17 @@ impl Block {
         if length - self.newest.start < taken || taken < params {
             return false;
         }
-        if routine.params < routine.cells {
+        if self.older.len() >= self.older.capacity() {
             return false;
         }
-        if self.older.len() >= self.older.capacity() {
+        let others = routine.cells.saturating_sub(routine.params);
+        if !zeros_in_place(&mut self.cells, others) {
             return false;
         }
         self.older.push_reserved(self.newest);
         self.newest.floor = length - taken;
         self.newest.base = length - params;
-        self.newest.start = length;
+        self.newest.start = length + others as usize;
         true
     }
 
@@ -452,21 +453,6 @@ impl Block {
         }
     }
 
-    // The same, where that one is handed a number.
-    #[inline(always)]
-    pub(crate) fn leave_with(&mut self, number: i64) -> Result<(), AllocError>
-        ensures ok { OnOk result (self.new ≡ with_return (Cell.Number number ∷ []) self.old.waiting self.old) }
-        ensures err { OnErr result (self.new ≡ self.old) }
-    {
-        have_room(&mut self.cells)?;
-        if let Some(extent) = self.older.pop() {
-            self.cells.truncate(self.newest.floor);
-            self.cells.push_reserved(Cell::Number(number));
-            self.newest = extent;
-        }
-        Ok(())
-    }
-
     // The newest activation is left, if another waits, whose operands go.
     pub(crate) fn leave_unwinding(&mut self)
         ensures { self.new ≡ without_call self.old.waiting self.old }
@@ -500,6 +486,32 @@ fn make_room<X>(list: &mut Vec<X>) -> Result<(), AllocError>
 {
     list.reserve(1)?;
     Ok(())
+}
+
+// So many cells more that are 0, where there is room for them. The answer is whether there is; else they stay as they are.
+#[inline(always)]
+fn zeros_in_place(cells: &mut Vec<Cell>, count: u32) -> bool
+    ensures made { result ≡ true → cells.new.items ≡ cells.old.items ++ replicate count nought }
+    ensures stays { result ≡ false → cells.new.items ≡ cells.old.items }
+{
+    if count == 0 {
+        return true;
+    }
+    zeros_within(cells, count)
+}
+
+#[inline(never)]
+fn zeros_within(cells: &mut Vec<Cell>, count: u32) -> bool
+    ensures made { result ≡ true → cells.new.items ≡ cells.old.items ++ replicate count nought }
+    ensures stays { result ≡ false → cells.new.items ≡ cells.old.items }
+{
+    if cells.capacity() < cells.len() + count as usize {
+        return false;
+    }
+    for _ in 0..count {
+        cells.push_reserved(Cell::Number(0));
+    }
+    true
 }
 
 // So many cells more that are 0; most calls need none.

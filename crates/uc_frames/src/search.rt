@@ -20,8 +20,11 @@ pub enum HandlerQuery {
 pub fn first_handler(code: &Code, next: u32, sought: HandlerQuery) -> Option<u32>
     ensures { result ≡ first_in sought code.now.rows (chain code.now.rows next) }
 {
-    let rows = code.rows();
-    first_from(rows, covering(code, next), sought)
+    let number = covering(code, next);
+    if number == 0 {
+        return None;
+    }
+    first_from(code.rows(), number, sought)
 }
 
 /// The same within so many of them, where all handlers of a guarded block are passed over together.

@@ -219,24 +219,6 @@ impl Stack {
         true
     }
 
-    // The same, where that one is handed a number.
-    #[inline(always)]
-    pub(crate) fn leave_with(&mut self, number: i64) -> Result<bool, AllocError>
-        ensures called { IfOk result (λ called. called ≡ nat_lt 0 (length self.old.callers)) }
-        ensures after { OnOk result (self.new ≡ call_left (Cell.Number number) self.old.callers self.old) }
-        ensures err { OnErr result (self.new ≡ self.old) }
-    {
-        let waiting = self.waiting;
-        if waiting == 0 {
-            return Ok(false);
-        }
-        self.block.leave_with(number)?;
-        self.links.leave(self.run.counts);
-        self.run.copy_from(&self.callers[waiting - 1]);
-        self.waiting = waiting - 1;
-        Ok(true)
-    }
-
     // The newest activation is left with its frame, and the one that waits for it is unwound in its turn, for this reason and with
     // what a return that arrives hands over. The answer is whether one waits.
     pub(crate) fn leave_unwinding(&mut self, why: UnwindReason, given: Cell) -> bool

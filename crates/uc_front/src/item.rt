@@ -52,8 +52,7 @@ fn enter_routine(names: &mut Names, routine: &Routine, steps: &[Step]) -> Result
         ≡ reached there names.new) }
 {
     add_params(names, &routine.sig.params)?;
-    let there = follow_body(names, &routine.body, steps)?;
-    Ok(there)
+    follow_body(names, &routine.body, steps)
 }
 
 fn enter_sig(names: &mut Names, sig: &Sig, steps: &[Step]) -> Result<bool, AllocError>
@@ -83,14 +82,12 @@ fn enter_form(
         MemberForm::Routine { routine } => {
             let around = sig_around(names.tables(), Some(home), false, member.mark, &routine.sig);
             names.set_around(around);
-            let there = enter_routine(names, routine, steps)?;
-            Ok(there)
+            enter_routine(names, routine, steps)
         }
         MemberForm::Proto { sig } => {
             let around = sig_around(names.tables(), Some(home), false, member.mark, sig);
             names.set_around(around);
-            let there = enter_sig(names, sig, steps)?;
-            Ok(there)
+            enter_sig(names, sig, steps)
         }
     }
 }
@@ -107,10 +104,7 @@ fn enter_class(
         (class_node names.old.program place class.now number) steps.now ≡ reached there names.new) }
 {
     match class.members.get(number) {
-        Some(member) => {
-            let there = enter_form(names, class_home(class, place), member, steps)?;
-            Ok(there)
-        }
+        Some(member) => enter_form(names, class_home(class, place), member, steps),
         None => Ok(false),
     }
 }
@@ -129,10 +123,7 @@ fn enter_member(
         ≡ reached there names.new) }
 {
     match &item.form {
-        ItemForm::Class { class } => {
-            let there = enter_class(names, class, classes, number, steps)?;
-            Ok(there)
-        }
+        ItemForm::Class { class } => enter_class(names, class, classes, number, steps),
         ItemForm::Routine { .. } => Ok(false),
         ItemForm::Constant { .. } => Ok(false),
         ItemForm::Proto { .. } => Ok(false),
@@ -158,14 +149,10 @@ fn enter_outer(
         }
         ItemForm::Routine { routine } => {
             names.set_around(outer_around(names.tables(), &routine.sig));
-            let there = enter_routine(names, routine, steps)?;
-            Ok(there)
+            enter_routine(names, routine, steps)
         }
         ItemForm::Constant { .. } => Ok(is_end(steps)),
-        ItemForm::Proto { sig } => {
-            let there = enter_sig(names, sig, steps)?;
-            Ok(there)
-        }
+        ItemForm::Proto { sig } => enter_sig(names, sig, steps),
         ItemForm::Forward { .. } => Ok(is_end(steps)),
         ItemForm::Using { .. } => Ok(is_end(steps)),
     }
@@ -183,14 +170,8 @@ fn enter_item(
         ≡ reached there names.new) }
 {
     match place.member {
-        Some(number) => {
-            let there = enter_member(names, item, classes, number, &place.steps)?;
-            Ok(there)
-        }
-        None => {
-            let there = enter_outer(names, item, classes, &place.steps)?;
-            Ok(there)
-        }
+        Some(number) => enter_member(names, item, classes, number, &place.steps),
+        None => enter_outer(names, item, classes, &place.steps),
     }
 }
 
@@ -204,8 +185,7 @@ pub(crate) fn enter_place(names: &mut Names, place: &Place) -> Result<bool, Allo
     match program.items.get(place.item) {
         Some(item) => {
             let classes = count_classes(&program.items[..place.item]);
-            let there = enter_item(names, item, classes, place)?;
-            Ok(there)
+            enter_item(names, item, classes, place)
         }
         None => Ok(false),
     }

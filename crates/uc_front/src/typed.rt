@@ -50,10 +50,7 @@ fn sort_base(alloc: Global, tables: &Tables, sort: Sort) -> Result<Base, AllocEr
         Sort::Condition => Ok(Base::Condition),
         Sort::Cluster => Ok(Base::Cluster),
         Sort::Processor => Ok(Base::Processor),
-        Sort::Object { class, .. } => {
-            let base = class_base(alloc, tables, class)?;
-            Ok(base)
-        }
+        Sort::Object { class, .. } => class_base(alloc, tables, class),
     }
 }
 
@@ -78,18 +75,9 @@ fn entity_type(alloc: Global, tables: &Tables, entity: Entity) -> Result<Ty, All
     ensures { IfOk result (λ ty. ty ≡ entity_type tables.now entity) }
 {
     match entity {
-        Entity::Value { sort } => {
-            let ty = sort_type(alloc, tables, sort, None)?;
-            Ok(ty)
-        }
-        Entity::Place { sort } => {
-            let ty = sort_type(alloc, tables, sort, None)?;
-            Ok(ty)
-        }
-        Entity::Array { sort, len } => {
-            let ty = sort_type(alloc, tables, sort, Some(len))?;
-            Ok(ty)
-        }
+        Entity::Value { sort } => sort_type(alloc, tables, sort, None),
+        Entity::Place { sort } => sort_type(alloc, tables, sort, None),
+        Entity::Array { sort, len } => sort_type(alloc, tables, sort, Some(len)),
         Entity::Input => Ok(type_with(Base::Void, None)),
         Entity::Fail => Ok(type_with(Base::Void, None)),
         Entity::Operation { .. } => Ok(type_with(Base::Void, None)),
@@ -105,10 +93,7 @@ fn given_type(alloc: Global, tables: &Tables, entity: Option<Entity>) -> Result<
     ensures { IfOk result (λ ty. ty ≡ given_type tables.now entity) }
 {
     match entity {
-        Some(entity) => {
-            let ty = entity_type(alloc, tables, entity)?;
-            Ok(ty)
-        }
+        Some(entity) => entity_type(alloc, tables, entity),
         None => Ok(type_with(Base::Void, None)),
     }
 }
@@ -175,8 +160,7 @@ fn is_there(alloc: Global, tables: &Tables, place: &Place) -> Result<bool, Alloc
         ≡ is_some (place_env tables.now place.now.item place.now.member place.now.steps.items)) }
 {
     let mut names = Names::new(alloc, tables, no_around());
-    let there = enter_place(&mut names, place)?;
-    Ok(there)
+    enter_place(&mut names, place)
 }
 
 /// Whether a program has this place.

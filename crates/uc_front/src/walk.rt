@@ -145,10 +145,7 @@ fn enter_head(
             base,
             declarators,
             ..
-        } => {
-            let there = enter_behind(names, base, declarators, number, steps)?;
-            Ok(there)
-        }
+        } => enter_behind(names, base, declarators, number, steps),
         ForForm::Evaluate { .. } => Ok(is_alone(number, steps)),
     }
 }
@@ -164,10 +161,7 @@ pub(crate) fn follow_body(
         ≡ reached there names.new) }
 {
     match steps.split_first() {
-        Some((step, rest)) => {
-            let there = enter_body(names, body, *step, rest)?;
-            Ok(there)
-        }
+        Some((step, rest)) => enter_body(names, body, *step, rest),
         None => Ok(true),
     }
 }
@@ -183,10 +177,7 @@ fn enter_body(
         (body_node names.old (stmts_of body.now) step) steps.now ≡ reached there names.new) }
 {
     match step {
-        Step::At { number } => {
-            let there = enter_nth(names, body, number, steps)?;
-            Ok(there)
-        }
+        Step::At { number } => enter_nth(names, body, number, steps),
         Step::Head { .. } => Ok(false),
         Step::Body => Ok(false),
         Step::Other => Ok(false),
@@ -224,10 +215,7 @@ fn follow_stmt(names: &mut Names, s: &Stmt, steps: &[Step]) -> Result<bool, Allo
         ≡ reached there names.new) }
 {
     match steps.split_first() {
-        Some((step, rest)) => {
-            let there = enter_stmt(names, s, *step, rest)?;
-            Ok(there)
-        }
+        Some((step, rest)) => enter_stmt(names, s, *step, rest),
         None => Ok(true),
     }
 }
@@ -238,46 +226,18 @@ fn enter_stmt(names: &mut Names, s: &Stmt, step: Step, steps: &[Step]) -> Result
         ≡ reached there names.new) }
 {
     match &s.form {
-        StmtForm::Block { body } => {
-            let there = enter_block(names, body, step, steps)?;
-            Ok(there)
-        }
+        StmtForm::Block { body } => enter_block(names, body, step, steps),
         StmtForm::Declare { base, declarators } => {
-            let there = enter_declaration(names, base, declarators, step, steps)?;
-            Ok(there)
+            enter_declaration(names, base, declarators, step, steps)
         }
-        StmtForm::If { chosen, other, .. } => {
-            let there = enter_if(names, chosen, other, step, steps)?;
-            Ok(there)
-        }
-        StmtForm::While { body, .. } => {
-            let there = enter_loop(names, body, step, steps)?;
-            Ok(there)
-        }
-        StmtForm::Do { body, .. } => {
-            let there = enter_loop(names, body, step, steps)?;
-            Ok(there)
-        }
-        StmtForm::For { start, body, .. } => {
-            let there = enter_for(names, start, body, step, steps)?;
-            Ok(there)
-        }
-        StmtForm::Try { body, handlers, .. } => {
-            let there = enter_try(names, body, handlers, step, steps)?;
-            Ok(there)
-        }
-        StmtForm::Enable { body, .. } => {
-            let there = enter_masked(names, body, step, steps)?;
-            Ok(there)
-        }
-        StmtForm::Disable { body, .. } => {
-            let there = enter_masked(names, body, step, steps)?;
-            Ok(there)
-        }
-        StmtForm::Accept { clauses, other } => {
-            let there = enter_accept(names, clauses, other, step, steps)?;
-            Ok(there)
-        }
+        StmtForm::If { chosen, other, .. } => enter_if(names, chosen, other, step, steps),
+        StmtForm::While { body, .. } => enter_loop(names, body, step, steps),
+        StmtForm::Do { body, .. } => enter_loop(names, body, step, steps),
+        StmtForm::For { start, body, .. } => enter_for(names, start, body, step, steps),
+        StmtForm::Try { body, handlers, .. } => enter_try(names, body, handlers, step, steps),
+        StmtForm::Enable { body, .. } => enter_masked(names, body, step, steps),
+        StmtForm::Disable { body, .. } => enter_masked(names, body, step, steps),
+        StmtForm::Accept { clauses, other } => enter_accept(names, clauses, other, step, steps),
         StmtForm::Empty => Ok(false),
         StmtForm::Evaluate { .. } => Ok(false),
         StmtForm::Break => Ok(false),
@@ -312,8 +272,7 @@ fn enter_block(
         Step::Head { .. } => Ok(false),
         Step::Body => {
             open_block(names);
-            let there = follow_body(names, body, steps)?;
-            Ok(there)
+            follow_body(names, body, steps)
         }
         Step::Other => Ok(false),
         Step::Handler { .. } => Ok(false),
@@ -333,10 +292,7 @@ fn enter_declaration(
         ≡ reached there names.new) }
 {
     match step {
-        Step::At { number } => {
-            let there = enter_behind(names, base, declarators, number, steps)?;
-            Ok(there)
-        }
+        Step::At { number } => enter_behind(names, base, declarators, number, steps),
         Step::Head { .. } => Ok(false),
         Step::Body => Ok(false),
         Step::Other => Ok(false),
@@ -360,14 +316,8 @@ fn enter_if(
     match step {
         Step::At { .. } => Ok(false),
         Step::Head { .. } => Ok(false),
-        Step::Body => {
-            let there = enter_inner(names, chosen, steps)?;
-            Ok(there)
-        }
-        Step::Other => {
-            let there = enter_maybe(names, other, steps)?;
-            Ok(there)
-        }
+        Step::Body => enter_inner(names, chosen, steps),
+        Step::Other => enter_maybe(names, other, steps),
         Step::Handler { .. } => Ok(false),
         Step::Clause { .. } => Ok(false),
     }
@@ -388,8 +338,7 @@ fn enter_loop(
         Step::Head { .. } => Ok(false),
         Step::Body => {
             names.set_around(in_loop(names.around()));
-            let there = enter_inner(names, body, steps)?;
-            Ok(there)
+            enter_inner(names, body, steps)
         }
         Step::Other => Ok(false),
         Step::Handler { .. } => Ok(false),
@@ -411,15 +360,11 @@ fn enter_for(
     names.open();
     match step {
         Step::At { .. } => Ok(false),
-        Step::Head { number } => {
-            let there = enter_head(names, start, number, steps)?;
-            Ok(there)
-        }
+        Step::Head { number } => enter_head(names, start, number, steps),
         Step::Body => {
             declare_start(names, start)?;
             names.set_around(with_joins(true, in_loop(names.around())));
-            let there = follow_stmt(names, body, steps)?;
-            Ok(there)
+            follow_stmt(names, body, steps)
         }
         Step::Other => Ok(false),
         Step::Handler { .. } => Ok(false),
@@ -444,14 +389,10 @@ fn enter_try(
         Step::Head { .. } => Ok(false),
         Step::Body => {
             names.open();
-            let there = follow_body(names, body, steps)?;
-            Ok(there)
+            follow_body(names, body, steps)
         }
         Step::Other => Ok(false),
-        Step::Handler { number } => {
-            let there = enter_handlers(names, handlers, number, steps)?;
-            Ok(there)
-        }
+        Step::Handler { number } => enter_handlers(names, handlers, number, steps),
         Step::Clause { .. } => Ok(false),
     }
 }
@@ -469,10 +410,7 @@ fn enter_masked(
     match step {
         Step::At { .. } => Ok(false),
         Step::Head { .. } => Ok(false),
-        Step::Body => {
-            let there = enter_inner(names, body, steps)?;
-            Ok(there)
-        }
+        Step::Body => enter_inner(names, body, steps),
         Step::Other => Ok(false),
         Step::Handler { .. } => Ok(false),
         Step::Clause { .. } => Ok(false),
@@ -495,15 +433,9 @@ fn enter_accept(
         Step::At { .. } => Ok(false),
         Step::Head { .. } => Ok(false),
         Step::Body => Ok(false),
-        Step::Other => {
-            let there = enter_maybe(names, other, steps)?;
-            Ok(there)
-        }
+        Step::Other => enter_maybe(names, other, steps),
         Step::Handler { .. } => Ok(false),
-        Step::Clause { number } => {
-            let there = enter_clauses(names, clauses, number, steps)?;
-            Ok(there)
-        }
+        Step::Clause { number } => enter_clauses(names, clauses, number, steps),
     }
 }
 
@@ -514,8 +446,7 @@ fn enter_inner(names: &mut Names, s: &Stmt, steps: &[Step]) -> Result<bool, Allo
         ≡ reached there names.new) }
 {
     names.open();
-    let there = follow_stmt(names, s, steps)?;
-    Ok(there)
+    follow_stmt(names, s, steps)
 }
 
 #[cycle(follow)]
@@ -524,10 +455,7 @@ fn enter_maybe(names: &mut Names, s: &Option<Box<Stmt>>, steps: &[Step]) -> Resu
         ≡ reached there names.new) }
 {
     match s {
-        Some(s) => {
-            let there = enter_inner(names, s, steps)?;
-            Ok(there)
-        }
+        Some(s) => enter_inner(names, s, steps),
         None => Ok(false),
     }
 }
@@ -560,8 +488,7 @@ fn enter_handler(names: &mut Names, handler: &Handler, steps: &[Step]) -> Result
     names.set_around(in_handler(names.around()));
     names.open();
     names.add_caught(&handler.event, &handler.param)?;
-    let there = follow_body(names, &handler.body, steps)?;
-    Ok(there)
+    follow_body(names, &handler.body, steps)
 }
 
 #[cycle(follow)]
@@ -589,6 +516,5 @@ fn enter_clause(names: &mut Names, clause: &Clause, steps: &[Step]) -> Result<bo
     ensures { IfOk result (λ there. env_along (accepted_node names.old clause.now) steps.now
         ≡ reached there names.new) }
 {
-    let there = enter_inner(names, &clause.body, steps)?;
-    Ok(there)
+    enter_inner(names, &clause.body, steps)
 }

@@ -21,7 +21,7 @@ use Rattle.uc_homed_ends.specs.BoundHomes.{OfMutex, OpensMutex, NoVariable, Drop
 
 -- cells
 
-count_number : (z : ℤ) (x : Value) → IsCount x → IsCount (stored (Number z) x)
+pub count_number : (z : ℤ) (x : Value) → IsCount x → IsCount (stored (Number z) x)
 count_number z (Number n) h = tt
 count_number z (Place o p) h = absurd h
 count_number z (Running e) h = absurd h
@@ -43,11 +43,11 @@ cell_taken P f (x ∷ vs) ws zero (suc k) l h = h
 cell_taken P f (x ∷ vs) ws (suc j) (suc k) l h = cell_taken P f vs ws j k (omega arith) h
 
 -- a frame more, for those that have theirs already
-newer_at : (P : List Value → Type 0) (x : List Value) (xs : List (List Value)) (f : ℕ) → f < length xs → P (frame_at f xs) → P (frame_at f (x ∷ xs))
+pub newer_at : (P : List Value → Type 0) (x : List Value) (xs : List (List Value)) (f : ℕ) → f < length xs → P (frame_at f xs) → P (frame_at f (x ∷ xs))
 newer_at P x xs f l h = tested (λ o. P (list_in o)) (nat_eq f (length xs)) (Some x) (at_depth xs f) (λ e. let q : f ≡ length xs = eqb-true f (length xs) e in let n : ⊥ = omega (arith, q, l) in absurd n) (λ e. h)
 
 -- a frame less, for those that do not use it
-older_at : (P : List Value → Type 0) (fs : List (List Value)) (f : ℕ) → f < length (others fs) → P (frame_at f fs) → P (frame_at f (others fs))
+pub older_at : (P : List Value → Type 0) (fs : List (List Value)) (f : ℕ) → f < length (others fs) → P (frame_at f fs) → P (frame_at f (others fs))
 older_at P [] f l h = h
 older_at P (x ∷ xs) f l h = by (nat_eq f (length xs)) refl h
   where
@@ -78,7 +78,7 @@ count_cleared [] j (suc k) (suc n) h = h
 count_cleared (x ∷ vs) zero (suc k) n h = h
 count_cleared (x ∷ vs) (suc j) (suc k) n h = count_cleared vs j k n h
 
-home_stored : (few : Few) (v x q : Value) → IsHome few x q → IsHome few (stored v x) q
+pub home_stored : (few : Few) (v x q : Value) → IsHome few x q → IsHome few (stored v x) q
 home_stored few v x q h = record { number = h.number; object = ap (λ (y : Value). stored v y) h.object; home = h.home }
 
 home_nought : (few : Few) (q : Value) → IsHome few nought q → ⊥

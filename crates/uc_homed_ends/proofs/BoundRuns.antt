@@ -77,7 +77,7 @@ module _ (P : State → Type 0) where
   rides_meet (rides.ticks {s} {t} e r) f = (f s rooms.stays, rides_meet r (λ v l. f v (rooms.ticks e l)))
   rides_meet (rides.asks {s} {t} e) f = f s rooms.stays
 
-  leads_meet : {source : Source} {s u : State} (l : Leads source s u) → ((v : State) → Leads source s v → P v) → LeadsMeet P source s u l
+  pub leads_meet : {source : Source} {s u : State} (l : Leads source s u) → ((v : State) → Leads source s v → P v) → LeadsMeet P source s u l
   leads_meet rooms.stays f = tt
   leads_meet (rooms.goes {s} {u} e l) f = (f s rooms.stays, leads_meet l (λ v k. f v (rooms.goes e k)))
   leads_meet (rooms.ticks {s} {u} e l) f = (f s rooms.stays, leads_meet l (λ v k. f v (rooms.ticks e k)))
@@ -87,7 +87,7 @@ module _ (P : State → Type 0) where
   may_meet (no_room p t s le) f = tt
   may_meet (acts q t n s asked d) f = rides_meet d.rides (λ v l. f t v (record { given = d.given; processor = q; runs = d.runs; told = d.told; leads = l }))
 
-  run_meets : {source : Source} {input : List ℕ} {opts : Options} → ((j : Journal) (w : World) (r : Runs source input opts j w) → RunFits source input opts j w r → is_over j ≡ false → (t : ℕ) (s : State) → Comes source j w t s → P s) → {j : Journal} {w : World} (r : Runs source input opts j w) → RunFits source input opts j w r → RunMeets P source input opts j w r
+  pub run_meets : {source : Source} {input : List ℕ} {opts : Options} → ((j : Journal) (w : World) (r : Runs source input opts j w) → RunFits source input opts j w r → is_over j ≡ false → (t : ℕ) (s : State) → Comes source j w t s → P s) → {j : Journal} {w : World} (r : Runs source input opts j w) → RunFits source input opts j w r → RunMeets P source input opts j w r
   run_meets f begun fits = tt
   run_meets f (more {j} {w} r on m) fits = (run_meets f r fits.0, may_meet m (λ t s c. f j w r fits.0 on t s c))
 
@@ -100,7 +100,7 @@ module _ (P Q R : State → Type 0) (f : (s : State) → P s → Q s → R s) wh
   ride_zip (rides.ticks {s} e r) h g = (f s h.0 g.0, ride_zip r h.1 g.1)
   ride_zip (rides.asks {s} e) h g = f s h g
 
-  leads_zip : {source : Source} {s u : State} (l : Leads source s u) → LeadsMeet P source s u l → LeadsMeet Q source s u l → LeadsMeet R source s u l
+  pub leads_zip : {source : Source} {s u : State} (l : Leads source s u) → LeadsMeet P source s u l → LeadsMeet Q source s u l → LeadsMeet R source s u l
   leads_zip rooms.stays h g = tt
   leads_zip (rooms.goes {s} e l) h g = (f s h.0 g.0, leads_zip l h.1 g.1)
   leads_zip (rooms.ticks {s} e l) h g = (f s h.0 g.0, leads_zip l h.1 g.1)
@@ -110,7 +110,7 @@ module _ (P Q R : State → Type 0) (f : (s : State) → P s → Q s → R s) wh
   may_zip (no_room p t s le) h g = tt
   may_zip (acts q t n s asked d) h g = ride_zip d.rides h g
 
-  run_zip : {source : Source} {input : List ℕ} {opts : Options} {j : Journal} {w : World} (r : Runs source input opts j w) → RunMeets P source input opts j w r → RunMeets Q source input opts j w r → RunMeets R source input opts j w r
+  pub run_zip : {source : Source} {input : List ℕ} {opts : Options} {j : Journal} {w : World} (r : Runs source input opts j w) → RunMeets P source input opts j w r → RunMeets Q source input opts j w r → RunMeets R source input opts j w r
   run_zip begun h g = tt
   run_zip (more r on m) h g = (run_zip r h.0 g.0, may_zip m h.1 g.1)
 
@@ -124,15 +124,15 @@ slot_address k l =
 
 -- before a statement that makes an object its variable holds a number
 
-abbrev is_then : List Todo → Bool
+abbrev pub is_then : List Todo → Bool
 is_then (piece.Rest (src.Then a ss) ∷ todo) = true
 is_then todo = false
 
-abbrev first_of : List Todo → Stmt
+abbrev pub first_of : List Todo → Stmt
 first_of (piece.Rest (src.Then a ss) ∷ todo) = a
 first_of todo = src.Skip 0
 
-not_stage : (g : Stage) (k l : ℕ) (ss : Stmts) (todo : List Todo) (s : State) (few : ℕ → Bool) → StageHoldsBy few g k ss s → is_then (stage_todo g k l ss todo) ≡ false
+pub not_stage : (g : Stage) (k l : ℕ) (ss : Stmts) (todo : List Todo) (s : State) (few : ℕ → Bool) → StageHoldsBy few g k ss s → is_then (stage_todo g k l ss todo) ≡ false
 not_stage opening.Does k l ss todo s few h = refl
 not_stage opening.Binds k l ss todo s few h = refl
 not_stage opening.Places k l ss todo s few h = refl
@@ -174,7 +174,7 @@ not_bound (fill.Processor i) y = refl
 not_bound (fill.Object c r true) y = refl
 not_bound (fill.Object c r false) y = refl
 
-not_filling : (g : fill.Stage) (x : Array) → is_then (fill_todo g x) ≡ false
+pub not_filling : (g : fill.Stage) (x : Array) → is_then (fill_todo g x) ≡ false
 not_filling fill.Does x = refl
 not_filling fill.Counts x = refl
 not_filling fill.Turns x = refl

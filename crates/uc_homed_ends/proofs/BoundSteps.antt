@@ -45,20 +45,20 @@ here s = frame_at s.run.frame s.env.frames
 
 -- a handler that is found uses the frame of one of these activations, and its statements may stand behind any other
 
-abbrev HandlerBegins : Option Handler → Type 0
+abbrev pub HandlerBegins : Option Handler → Type 0
 HandlerBegins None = Unit {0}
 HandlerBegins (Some x) = Begins x.body
 
-handler_begins : (kind : Bool) (e : Event) (hs : Handlers) → HandlersBegin hs → HandlerBegins (raising.handler_for kind e hs)
+pub handler_begins : (kind : Bool) (e : Event) (hs : Handlers) → HandlersBegin hs → HandlerBegins (raising.handler_for kind e hs)
 handler_begins kind e src.NoHandlers h = tt
 handler_begins kind e (src.MoreHandlers resumes event cell line body rest) h =
     either HandlerBegins (raising.same_kind kind resumes && raising.takes event e) (Some (record { cell = cell; line = line; body = body })) (raising.handler_for kind e rest) h.0 (handler_begins kind e rest h.1)
 
-abbrev HitBegins : Option Hit → Type 0
+abbrev pub HitBegins : Option Hit → Type 0
 HitBegins None = Unit {0}
 HitBegins (Some y) = Begins y.handler.body
 
-hit_or : (o : Option Handler) (n : ℕ) (other : Option Hit) → HandlerBegins o → HitBegins other → HitBegins (raising.hit_or o n other)
+pub hit_or : (o : Option Handler) (n : ℕ) (other : Option Hit) → HandlerBegins o → HitBegins other → HitBegins (raising.hit_or o n other)
 hit_or None n other h k = k
 hit_or (Some y) n other h k = h
 
@@ -182,7 +182,7 @@ abbrev pub FoundTo : ℕ → Option Found → Type 0
 FoundTo n None = Unit {0}
 FoundTo n (Some f) = (f.frame ≤ n) × Begins f.handler.body
 
-found_or : (n : ℕ) (h : Option Hit) (a : Active) (cs : List Active) (other : Option Found) → a.frame ≤ n → HitBegins h → FoundTo n other → FoundTo n (raising.found_or h a cs other)
+pub found_or : (n : ℕ) (h : Option Hit) (a : Active) (cs : List Active) (other : Option Found) → a.frame ≤ n → HitBegins h → FoundTo n other → FoundTo n (raising.found_or h a cs other)
 found_or n None a cs other l b k = k
 found_or n (Some h) a cs other l b k = (l, b)
 

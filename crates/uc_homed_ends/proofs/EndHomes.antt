@@ -142,7 +142,7 @@ no_part Z s st k r written todo e =
     x.1.0
 
 module _ (t : Table) (owns : Owns) (few : Few) (Z : ℕ → ℕ → Type 0) where
-  abbrev HomedHere : State → Type 0
+  abbrev pub HomedHere : State → Type 0
   HomedHere s = Homed t owns few Z s
 
   abbrev AtHomeOf : State → ℕ → Type 0
@@ -168,34 +168,40 @@ module _ (t : Table) (owns : Owns) (few : Few) (Z : ℕ → ℕ → Type 0) wher
       subst (λ (v : Env). IsHome few (loaded (Place (Frame v.exec s.run.frame) (Slot k ∷ [])) v) (Place (Frame v.exec s.run.frame) (Slot k ∷ []))) (sym e) (subst (λ (d : ℕ). IsHome few (loaded (Place (Frame u.env.exec d) (Slot k ∷ [])) u.env) (Place (Frame u.env.exec d) (Slot k ∷ []))) (sym f) h)
 
   -- whoever reads before an end is on the way from a clean-up, at the end of it
-  record Reading (s : State) : Type 0 where
-    site : EndSite
-    routine : ℕ
-    written : Bool
-    class : ℕ
-    found : Found ways.Reads site s
-    this : (t.routine routine).this ≡ Some class
-    whole : (t.routine routine).whole ≡ true
-    mutex : t.mutex class ≡ true
-    start : State
-    leaves : Leaves site routine written start.run.control
-    held : HomedHere start
-    env : s.env ≡ start.env
-    frame : s.run.frame ≡ start.run.frame
+  pub record Reading (s : State) : Type 0 where
+    pub site : EndSite
+    pub routine : ℕ
+    pub written : Bool
+    pub class : ℕ
+    pub behind : List Todo
+    pub control : s.run.control ≡ LoadNow ∷ ways.entering routine written behind
+    pub found : Found ways.Reads site s
+    pub this : (t.routine routine).this ≡ Some class
+    pub whole : (t.routine routine).whole ≡ true
+    pub mutex : t.mutex class ≡ true
+    pub params : [] ≡ (t.routine routine).params
+    pub start : State
+    pub leaves : Leaves site routine written start.run.control
+    pub held : HomedHere start
+    pub env : s.env ≡ start.env
+    pub frame : s.run.frame ≡ start.run.frame
 
   reading_at : (s : State) (todo : List Todo) → s.run.control ≡ LoadNow ∷ todo → (w : Way t HomedHere s) → Reading s
   reading_at s todo c w = by w.stage w.site w.control w.found w.leaves
     where
-      ends : (x : EndSite) → Found ways.Reads x s → Leaves x w.routine w.written w.start.run.control → Reading s
-      ends x f l = record {
+      ends : (x : EndSite) → s.run.control ≡ LoadNow ∷ ways.entering w.routine w.written w.todo → Found ways.Reads x s → Leaves x w.routine w.written w.start.run.control → Reading s
+      ends x e f l = record {
         site = x;
         routine = w.routine;
         written = w.written;
         class = w.class;
+        behind = w.todo;
+        control = e;
         found = f;
         this = w.this;
         whole = w.whole;
         mutex = w.mutex;
+        params = w.params;
         start = w.start;
         leaves = l;
         held = w.held;
@@ -213,7 +219,7 @@ module _ (t : Table) (owns : Owns) (few : Few) (Z : ℕ → ℕ → Type 0) wher
       by Counts (AtElement n p) e f l = let q : LoadNow ∷ todo ≡ todo_at Counts (AtElement n p) w.routine w.written w.todo = sym c ∙ e in absurd (cc)
       by Picks (AtSpot p) e f l = absurd f
       by Picks (AtElement n p) e f l = let q : LoadNow ∷ todo ≡ todo_at Picks (AtElement n p) w.routine w.written w.todo = sym c ∙ e in absurd (cc)
-      by ways.Reads x e f l = ends x f l
+      by ways.Reads x e f l = ends x e f l
 
   no_load : (s : State) (todo : List Todo) → s.run.control ≡ LoadNow ∷ todo → Enters t nothing_told s → ⊥
   no_load s todo c e = by e.control
@@ -222,7 +228,7 @@ module _ (t : Table) (owns : Owns) (few : Few) (Z : ℕ → ℕ → Type 0) wher
       by (inl q) = let f : LoadNow ∷ todo ≡ piece.EnterNow DESTRUCTOR e.routine ∷ e.todo = sym c ∙ q in cc
       by (inr q) = let f : LoadNow ∷ todo ≡ piece.TickNow ∷ (piece.EnterNow DESTRUCTOR e.routine ∷ e.todo) = sym c ∙ q in cc
 
-  reading_of : (s : State) (todo : List Todo) → s.run.control ≡ LoadNow ∷ todo → IsEnding todo → (FreeActive t s.run ⊎ Enters t nothing_told s) ⊎ Way t HomedHere s → Reading s
+  pub reading_of : (s : State) (todo : List Todo) → s.run.control ≡ LoadNow ∷ todo → IsEnding todo → (FreeActive t s.run ⊎ Enters t nothing_told s) ⊎ Way t HomedHere s → Reading s
   reading_of s todo c e (inl (inl h)) = absurd (no_ending todo (subst (FreeList t) c h).0 e)
   reading_of s todo c e (inl (inr h)) = absurd (no_load s todo c h)
   reading_of s todo c e (inr w) = reading_at s todo c w
@@ -279,13 +285,13 @@ module _ (p : Program) (owns : Owns) (few : Few) (homes : ℕ → Value) (many :
 -- from what holds at each state of a run
 
 module _ (P Q : State → Type 0) (with_it : (s : State) → P s → Q s) where
-  ride_with : {source : Source} {s u : State} {q k : ℕ} {a : Asked} (d : Rides source s q u k a) → RideMeets P source s q u k a d → RideMeets Q source s q u k a d
+  pub ride_with : {source : Source} {s u : State} {q k : ℕ} {a : Asked} (d : Rides source s q u k a) → RideMeets P source s q u k a d → RideMeets Q source s q u k a d
   ride_with rides.slices m = tt
   ride_with (rides.goes_on {s} e d) m = (with_it s m.0, ride_with d m.1)
   ride_with (rides.ticks {s} e d) m = (with_it s m.0, ride_with d m.1)
   ride_with (rides.asks {s} e) m = with_it s m
 
-  run_with : {source : Source} {input : List ℕ} {opts : Options} {j : Journal} {w : World} (r : Runs source input opts j w) → RunMeets P source input opts j w r → RunMeets Q source input opts j w r
+  pub run_with : {source : Source} {input : List ℕ} {opts : Options} {j : Journal} {w : World} (r : Runs source input opts j w) → RunMeets P source input opts j w r → RunMeets Q source input opts j w r
   run_with begun m = tt
   run_with (more r on (gives q n s le)) m = (run_with r m.0, tt)
   run_with (more r on (no_room q n s le)) m = (run_with r m.0, tt)

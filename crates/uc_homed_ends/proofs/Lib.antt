@@ -9,6 +9,15 @@ pub mod BoundSteps
 pub mod BoundWalk
 pub mod BoundWorlds
 pub mod BoundRuns
+pub mod ArrayCells
+pub mod ArrayKeeping
+pub mod ArraySteps
+pub mod ArrayWalk
+pub mod ArrayWorlds
+pub mod ArrayLists
+pub mod ArrayRuns
+pub mod Elements
 pub mod Wholes
 pub mod Ended
+pub mod HomesLeft
 pub mod Found

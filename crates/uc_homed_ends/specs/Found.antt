@@ -1,5 +1,4 @@
--- Of homes nothing is left to find for marks that are put but what objects and arrays hold as their scopes open, and what fields and elements hold as
--- they end.
+-- Of homes nothing is left to find for marks that are put but what fields and elements hold as they end.
 use Rattle.std.specs.Prelude.{◌≡◌, ℕ, false, List, []}
 use Rattle.uc_tree.specs.Programs.{Program}
 use Rattle.uc_entry.specs.declared.entry.Options.{Options}
@@ -13,33 +12,27 @@ use Rattle.uc_meaning.specs.Runs.{World, Runs, AsksIn, drawn}
 use Rattle.uc_resolve.specs.Resolve.{source_of}
 use Rattle.uc_rules.specs.Breaks.{breaks_of}
 use Rattle.uc_sound.specs.SoundFormed.{IsFormed}
-use Rattle.uc_sound.specs.Tables.{table_of}
 use Rattle.uc_state_laws.specs.Fitting.{RunFits}
 use Rattle.uc_state_laws.specs.Limits.{IsWithinLimits}
 use Rattle.uc_state_laws.specs.Opens.{RideMeets, RunMeets}
 use Rattle.uc_life_laws.specs.Things.{Few}
 use Rattle.uc_life_laws.specs.Homes.{home_of}
-use Rattle.uc_life_laws.specs.HomedStates.{Owns}
-use Rattle.uc_putting_laws.specs.PuttingLaws.{setting_of, Fair}
-use Rattle.uc_homed_ends.specs.HomedEnds.{Rest}
-use Rattle.uc_homed_ends.specs.BoundLaws.{OpensWhole}
+use Rattle.uc_putting_laws.specs.PuttingLaws.{setting_of}
+use Rattle.uc_homed_ends.specs.HomesLeft.{Homes, FairKnown}
 
 -- with the homes that a run tells in the end: in each run of a program that breaks no rule and is within its limits, as long as all that was asked fits, and
 -- in what a task asks next, whether that fits or not
 pub record LawFound : Type 0 where
-  pub runs : (p : Program) → IsFormed p → breaks_of p ≡ [] → IsWithinLimits p → (owns : Owns) (few : Few) →
+  pub runs : (p : Program) → IsFormed p → breaks_of p ≡ [] → IsWithinLimits p → (few : Few) →
       (input : List ℕ) (opts : Options) → InRange opts → (j : Journal) (w : World) →
       (r : Runs (source_of p) input opts j w) → RunFits (source_of p) input opts j w r →
       ((o : ℕ) → few.home o ≡ home_of (source_of p) input opts j w r o) →
-      RunMeets (OpensWhole (table_of p) owns few) (source_of p) input opts j w r →
-      RunMeets (Rest (setting_of p few)) (source_of p) input opts j w r →
-      RunMeets (Fair (setting_of p few)) (source_of p) input opts j w r
-  pub rides : (p : Program) → IsFormed p → breaks_of p ≡ [] → IsWithinLimits p → (owns : Owns) (few : Few) →
+      RunMeets (Homes (setting_of p few)) (source_of p) input opts j w r →
+      RunMeets (FairKnown (setting_of p few)) (source_of p) input opts j w r
+  pub rides : (p : Program) → IsFormed p → breaks_of p ≡ [] → IsWithinLimits p → (few : Few) →
       (input : List ℕ) (opts : Options) → InRange opts → (j : Journal) (w : World) →
       (r : Runs (source_of p) input opts j w) → RunFits (source_of p) input opts j w r →
       ((o : ℕ) → few.home o ≡ home_of (source_of p) input opts j w r o) →
-      RunMeets (OpensWhole (table_of p) owns few) (source_of p) input opts j w r →
       is_over j ≡ false → (q t n : ℕ) (s : State) (asked : Asked) (d : AsksIn (source_of p) opts j w q t n s asked) →
-      RideMeets (OpensWhole (table_of p) owns few) (source_of p) (answered (source_of p) d.given (drawn j w t)) (left opts j t) s n asked d.rides →
-      RideMeets (Rest (setting_of p few)) (source_of p) (answered (source_of p) d.given (drawn j w t)) (left opts j t) s n asked d.rides →
-      RideMeets (Fair (setting_of p few)) (source_of p) (answered (source_of p) d.given (drawn j w t)) (left opts j t) s n asked d.rides
+      RideMeets (Homes (setting_of p few)) (source_of p) (answered (source_of p) d.given (drawn j w t)) (left opts j t) s n asked d.rides →
+      RideMeets (FairKnown (setting_of p few)) (source_of p) (answered (source_of p) d.given (drawn j w t)) (left opts j t) s n asked d.rides

@@ -5,5 +5,9 @@ pub mod EndLaws
 pub mod HomedEnds
 pub mod BoundHomes
 pub mod BoundLaws
+pub mod ArrayHomes
+pub mod ArrayLaws
 pub mod Ended
+pub mod Elements
+pub mod HomesLeft
 pub mod Found

@@ -1,5 +1,6 @@
 // The laws: each is a function whose contract is the law.
 
+ghost use Rattle.uc_homed_ends.specs.ArrayLaws.{LawArrays, LawArraySteps};
 ghost use Rattle.uc_homed_ends.specs.BoundLaws.{LawBoundSteps, LawOpens, LawSet};
 ghost use Rattle.uc_homed_ends.specs.Ended.{LawEnded};
 ghost use Rattle.uc_homed_ends.specs.EndLaws.{LawCode, LawWays};
@@ -47,13 +48,28 @@ pub fn law_opens()
     ensures { LawOpens }
 {}
 
+/// An element of an array of mutex objects that is a variable holds a number, or the object that is at home
+/// there, up to the scope of the array: of a task as it begins, and each step that finds what it is to find,
+/// and each answer, keep that.
+pub fn law_array_steps()
+    ensures { LawArraySteps }
+{}
+
+/// So in each run of a program of the grammar that breaks no rule and is within its limits, as long as all
+/// that was asked fits, each element is at home in the array where the scope of that opens, by the homes
+/// that the run tells in the end.
+pub fn law_arrays()
+    ensures { LawArrays }
+{}
+
 /// What is entered to be destroyed is not gone, where it was not as it was loaded for that.
 pub fn law_ended()
     ensures { LawEnded }
 {}
 
-/// So of homes nothing is left to find for marks that are put but what objects and arrays hold as their
-/// scopes open, and what fields and elements hold as they end: in each such run, and in what is asked next.
+/// So where all is known nothing of homes is left to find for marks that are put but that arrays hold what
+/// is at home there as their scopes open, and that objects which fields and elements hold are at home there
+/// as they end: in each such run, and in what is asked next.
 pub fn law_found()
     ensures { LawFound }
 {}

@@ -43,6 +43,7 @@ use Rattle.uc_putting_laws.proofs.OwnPlaces.{law_own_places}
 use Rattle.uc_rooted_runs.specs.Binds.{IsOwnPlace, BindsOwnBy, BindsOwn}
 use Rattle.uc_rooted_runs.specs.Mains.{IsNoMain, AreNoMains, CallsNoMainBy, CallsNoMain, FindsBy, FindsAll}
 use Rattle.uc_lasting_programs.specs.Finding.{LawFinding}
+use Rattle.uc_lasting_programs.proofs.Owing.{run_owed}
 
 -- routines that are named are there
 
@@ -191,4 +192,5 @@ law_finding = record {
       };
   runs_bind = λ p formed ok few input opts range j w r fits fair.
       run_map (OwnPlaces few (source_of p)) (BindsOwn (source_of p)) (state_binds few (source_of p)) r (law_own_places.runs p formed ok few input opts range j w r fits fair);
+  owed = λ p formed ok input opts range j w r fits alone. run_owed p formed ok input opts range r fits alone;
 }

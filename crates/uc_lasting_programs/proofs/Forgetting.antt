@@ -13,4 +13,4 @@ pub law_forgets_programs : LawForgetsPrograms
 law_forgets_programs p formed ok few places zero input opts range j w r fits on alone below first met nowhere x =
     let found = law_finding.runs p formed ok input opts range j w r fits alone in
     let calls = law_calls_runs.runs p formed ok few places input opts range j w r fits below first met x.fair in
-    law_forgets_this (table_of p) few (source_of p) input opts j w r range fits on places zero (law_finding.runs_bind p formed ok few input opts range j w r fits x.fair) found.calls found.finds (run_leaves p formed ok input opts range r fits alone) (run_spares p formed ok few input opts range r fits alone x.fair x.reads) (law_runs.runs p formed ok few input opts range j w r fits x.fair) calls.0 nowhere x.let_go
+    law_forgets_this (table_of p) few (source_of p) input opts j w r range fits on places zero (law_finding.runs_bind p formed ok few input opts range j w r fits x.fair) found.calls found.finds (run_leaves p formed ok input opts range r fits alone) (run_spares p formed ok few input opts range r fits alone x.fair x.reads) (law_runs.runs p formed ok few input opts range j w r fits x.fair) calls.0 calls.2 nowhere (law_finding.owed p formed ok input opts range j w r fits alone)

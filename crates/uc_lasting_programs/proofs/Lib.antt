@@ -1,7 +1,9 @@
 pub mod Asking
+pub mod Owing
 pub mod Finding
 pub mod Wholes
 pub mod CallsStates
+pub mod LettingStates
 pub mod CallsRuns
 pub mod Sparing
 pub mod Forgetting
@@ -11,5 +13,5 @@ pub mod Telling
 pub mod Numbers
 pub mod Meeting
 pub mod Remaining
-pub mod Seating
+pub mod Owning
 pub mod LastingPrograms

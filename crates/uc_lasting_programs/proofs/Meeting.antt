@@ -30,7 +30,6 @@ use Rattle.uc_state_laws.specs.Opens.{RideMeets, RunMeets, LeadsMeet}
 use Rattle.uc_typing.specs.Typing.{Ty, Table}
 use Rattle.uc_life_laws.specs.Things.{Few}
 use Rattle.uc_life_laws.specs.LifeStates.{LifeState}
-use Rattle.uc_life_laws.specs.Knowing.{KnowsState}
 use Rattle.uc_life_laws.specs.KnownAnswers.{MainPasses}
 use Rattle.uc_life_laws.specs.KnownRuns.{PassesBelow, Meets, AllIsKnown}
 use Rattle.uc_life_laws.specs.Endings.{RawsPass, MeetsOutside}
@@ -40,6 +39,7 @@ use Rattle.uc_life_laws.proofs.Endings as endings
 use Rattle.uc_life_laws.proofs.Endings.{goes_on, ticks_on, goes_met, ticks_met}
 use Rattle.uc_life_laws.proofs.Lasting.{law_lasting}
 use Rattle.uc_request_laws.specs.Lasting.{TellsMade}
+use Rattle.uc_homed_ends.specs.HomesLeft.{KnowsReads}
 use Rattle.uc_lasting_programs.specs.Meeting.{RunHoldsAt}
 use Rattle.uc_lasting_programs.specs.Telling.{few_of}
 use Rattle.uc_lasting_programs.proofs.Numbers.{passes, meets}
@@ -141,20 +141,20 @@ module _ (p : Program) (formed : IsFormed p) (ok : breaks_of p ≡ []) (numbers 
             lives = (so.lives, ride_lives j w r f.0 on e g so q n k s asked d h.1);
           }
 
-    -- all is known then in each state
+    -- all is known then in each state, so each step finds what it reads
 
     module _ (j : Journal) (w : World) (r : Runs source input opts j w) (f : RunFits source input opts j w r) (on : is_over j ≡ false) (below : PassesBelow few opts j) (met : RunMeets (Meets t few) source input opts j w r) where
       all_known : AllIsKnown t few source j w
       all_known = law_known_runs p formed ok few input opts range j w r f on below main met
 
-      pub ride_known : (q n k : ℕ) (s : State) (asked : Asked) (d : AsksIn source opts j w q n k s asked) → RideMeets (Meets t few) source (answered source d.given (drawn j w n)) (left opts j n) s k asked d.rides → RideMeets (KnowsState t few []) source (answered source d.given (drawn j w n)) (left opts j n) s k asked d.rides
-      ride_known q n k s asked d h =
-          ride_turned (Meets t few) (KnowsState t few []) source (answered source d.given (drawn j w n)) (λ v l m h. all_known.comes n v (record { given = d.given; processor = q; runs = d.runs; told = d.told; leads = l }) m) rooms.stays tt d.rides h
+      pub ride_reads : (q n k : ℕ) (s : State) (asked : Asked) (d : AsksIn source opts j w q n k s asked) → RideMeets (Meets t few) source (answered source d.given (drawn j w n)) (left opts j n) s k asked d.rides → RideMeets (KnowsReads t few) source (answered source d.given (drawn j w n)) (left opts j n) s k asked d.rides
+      ride_reads q n k s asked d h =
+          ride_turned (Meets t few) (KnowsReads t few) source (answered source d.given (drawn j w n)) (λ v l m h. (h (all_known.scopes n v (record { given = d.given; processor = q; runs = d.runs; told = d.told; leads = l }) m) (all_known.comes n v (record { given = d.given; processor = q; runs = d.runs; told = d.told; leads = l }) m)).1) rooms.stays tt d.rides h
 
-    pub run_known : {j : Journal} {w : World} (r : Runs source input opts j w) → RunFits source input opts j w r → PassesBelow few opts j → RunMeets (Meets t few) source input opts j w r → RunMeets (KnowsState t few []) source input opts j w r
-    run_known begun f below h = tt
-    run_known (more {j} {w} {a} r on (gives q n s le)) f below h = (run_known r f.0 (earlier few opts j a below) h.0, tt)
-    run_known (more {j} {w} {a} r on (no_room q n s le)) f below h = (run_known r f.0 (earlier few opts j a below) h.0, tt)
-    run_known (more {j} {w} {a} r on (acts q n k s asked d)) f below h =
+    pub run_reads : {j : Journal} {w : World} (r : Runs source input opts j w) → RunFits source input opts j w r → PassesBelow few opts j → RunMeets (Meets t few) source input opts j w r → RunMeets (KnowsReads t few) source input opts j w r
+    run_reads begun f below h = tt
+    run_reads (more {j} {w} {a} r on (gives q n s le)) f below h = (run_reads r f.0 (earlier few opts j a below) h.0, tt)
+    run_reads (more {j} {w} {a} r on (no_room q n s le)) f below h = (run_reads r f.0 (earlier few opts j a below) h.0, tt)
+    run_reads (more {j} {w} {a} r on (acts q n k s asked d)) f below h =
         let e = earlier few opts j a below in
-        (run_known r f.0 e h.0, ride_known j w r f.0 on e h.0 q n k s asked d h.1)
+        (run_reads r f.0 e h.0, ride_reads j w r f.0 on e h.0 q n k s asked d h.1)

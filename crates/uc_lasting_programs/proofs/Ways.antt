@@ -1,6 +1,6 @@
 -- State by state what is let go of is nowhere in the world, and what executions have of others stands upwards where an event is raised, since no step
 -- forgets the running execution.
-use Rattle.std.proofs.Common.{◌≡◌, ℕ, ◌⊎◌, inl, inr, Bool, false, List, [], ◌∷◌, ◌++◌, refl, sym, ap, ◌∙◌, subst}
+use Rattle.std.proofs.Common.{◌≡◌, ℕ, ◌⊎◌, inl, inr, Bool, true, false, List, [], ◌∷◌, ◌++◌, refl, sym, ap, ◌∙◌, subst}
 use Rattle.std.specs.Prelude.{pos, slice_get}
 use Rattle.uc_tree.specs.Programs.{Program}
 use Rattle.uc_tree.specs.Source.{Source}
@@ -41,6 +41,7 @@ use Rattle.uc_life_laws.specs.Things.{Few, Base, Things}
 use Rattle.uc_life_laws.specs.KnownAnswers.{MainPasses}
 use Rattle.uc_life_laws.specs.KnownRuns.{PassesBelow, Meets, AllIsKnown}
 use Rattle.uc_life_laws.specs.Marks.{Puts}
+use Rattle.uc_life_laws.specs.Knowing.{main_of}
 use Rattle.uc_life_laws.specs.Belonging.{Belongs}
 use Rattle.uc_life_laws.specs.Rooted.{IsPlace, Lives}
 use Rattle.uc_life_laws.proofs.KnownWorlds.{earlier, law_known_runs}
@@ -71,6 +72,10 @@ use Rattle.uc_making_laws.specs.BeforeRides.{RaisesUpwards}
 use Rattle.uc_making_laws.specs.ForgetsThis.{GoesBy, RunGoes, IsLeftNowhere}
 use Rattle.uc_making_laws.proofs.BeforeRides.{law_before_rides}
 use Rattle.uc_lasting_programs.specs.Asking.{LetsGoAt}
+use Rattle.uc_life_laws.specs.Homes.{home_of}
+use Rattle.uc_rooted_runs.specs.Births.{MakesLater, RunSpawnsLater}
+use Rattle.uc_making_laws.specs.Upheld.{MadeLaterTo, way_makers}
+use Rattle.uc_making_laws.proofs.Upheld.{law_upheld}
 use Rattle.uc_lasting_programs.specs.Ways.{IsKeptTo, RunKeepsTo, LawWays}
 use Rattle.uc_lasting_programs.proofs.CallsRuns.{IsKnownThere, ride_calls, law_calls_runs}
 use Rattle.uc_lasting_programs.proofs.Asking.{law_asked_at}
@@ -78,7 +83,7 @@ use Rattle.uc_lasting_programs.proofs.Behind.{behind}
 use Rattle.uc_lasting_programs.proofs.Finding.{ride_map, ride_found, law_finding}
 use Rattle.uc_lasting_programs.proofs.Sparing.{run_spares, ride_spares}
 
-module _ (p : Program) (formed : IsFormed p) (ok : breaks_of p ≡ []) (few : Few) (own : Exec → Value → Ty → Bool) (yet : Exec → List Active → Value → Ty → Bool) (places : (n : Exec) (w : Value) (b : Ty) → Base few n w b → IsPlace w) (zero : (n : Exec) → Belongs few n (few.home 0) → ⊥) where
+module _ (p : Program) (formed : IsFormed p) (ok : breaks_of p ≡ []) (few : Few) (own : Exec → Value → Ty → Bool) (yet : Exec → List Active → Value → Ty → Bool) (places : (n : Exec) (w : Value) (b : Ty) → Base few n w b → IsPlace w) (zero : (n : Exec) → Belongs few n (few.home 0) → ⊥) (mine : (z : Value) (b : Ty) → Base few (main_of 0) z b → own (main_of 0) z b ≡ true) where
   abbrev source : Source
   source = source_of p
 
@@ -126,7 +131,7 @@ module _ (p : Program) (formed : IsFormed p) (ok : breaks_of p ≡ []) (few : Fe
 
   module _ (input : List ℕ) (opts : Options) (range : InRange opts) (first : MainPasses (table_of p) few ((table_of p).routine (source_of p).main).this 0) where
     -- behind a run in which nobody else has at hand what is let go of
-    told : (j : Journal) (w : World) (r : Runs (source_of p) input opts j w) → RunFits (source_of p) input opts j w r → is_over j ≡ false → PassesBelow few opts j → RunMeets (Meets (table_of p) few) (source_of p) input opts j w r → RunMeets (Fair (setting_of p few)) (source_of p) input opts j w r → RunMeets (ReadsOthers few) (source_of p) input opts j w r → RunMeets (StepApart (table_of p) few (source_of p)) (source_of p) input opts j w r → (q u n : ℕ) (s : State) (asked : Asked) (d : AsksIn (source_of p) opts j w q u n s asked) → RideMeets (Meets (table_of p) few) (source_of p) (answered (source_of p) d.given (drawn j w u)) (left opts j u) s n asked d.rides → RideMeets (Fair (setting_of p few)) (source_of p) (answered (source_of p) d.given (drawn j w u)) (left opts j u) s n asked d.rides → RideMeets (ReadsOthers few) (source_of p) (answered (source_of p) d.given (drawn j w u)) (left opts j u) s n asked d.rides → (k : IsKeptTo (table_of p) few own yet (source_of p) (special_of p) input opts j w r q u n s asked d) → RideMeets (Told j w u (Upwards j w u k.births.makers)) (source_of p) (answered (source_of p) d.given (drawn j w u)) (left opts j u) s n asked d.rides
+    told : (j : Journal) (w : World) (r : Runs (source_of p) input opts j w) → RunFits (source_of p) input opts j w r → is_over j ≡ false → PassesBelow few opts j → RunMeets (Meets (table_of p) few) (source_of p) input opts j w r → RunMeets (Fair (setting_of p few)) (source_of p) input opts j w r → RunMeets (ReadsOthers few) (source_of p) input opts j w r → RunMeets (StepApart (table_of p) few (source_of p)) (source_of p) input opts j w r → (q u n : ℕ) (s : State) (asked : Asked) (d : AsksIn (source_of p) opts j w q u n s asked) → RideMeets (Meets (table_of p) few) (source_of p) (answered (source_of p) d.given (drawn j w u)) (left opts j u) s n asked d.rides → RideMeets (Fair (setting_of p few)) (source_of p) (answered (source_of p) d.given (drawn j w u)) (left opts j u) s n asked d.rides → RideMeets (ReadsOthers few) (source_of p) (answered (source_of p) d.given (drawn j w u)) (left opts j u) s n asked d.rides → (k : IsKeptTo (table_of p) few own yet (source_of p) input opts j w r q u n s asked d) → RideMeets (Told j w u (Upwards j w u (way_makers (source_of p) input opts r d))) (source_of p) (answered (source_of p) d.given (drawn j w u)) (left opts j u) s n asked d.rides
     told j w r fits on below met fair reads apart q u n s asked d meets fairs names k =
         let lone : RunAlone (source_of p) input opts j w r = law_apart_runs.runs p formed ok few input opts range j w r fits below first met apart in
         let rests = run_rests (source_of p) input opts range r fits on in
@@ -141,14 +146,23 @@ module _ (p : Program) (formed : IsFormed p) (ok : breaks_of p ≡ []) (few : Fe
         let frames : KeepsFrames p j w = law_frame_runs p ok input opts j w r in
         let begins = put.start p ok few (laid_out p formed ok) main code input opts range rests on (world.0 on) frames q u d.given d.runs d.told in
         let stands = ride_put d.rides fairs begins in
-        let before = law_before_rides (table_of p) few own yet (source_of p) input opts j w r range fits on zero (run_leaves p formed ok input opts range r fits lone) (run_spares p formed ok few input opts range r fits lone fair reads) (law_finding.runs_bind p formed ok few input opts range j w r fits fair) found.calls found.finds (law_runs.runs p formed ok few input opts range j w r fits fair) (law_calls_runs.runs p formed ok few places input opts range j w r fits below first met fair).0 q u n s asked d (ride_map (put.Stands p (setting_of p few)) (BindsOwn (source_of p)) (λ v x. law_finding.binds few (source_of p) v (law_own_places.states (setting_of p few) v x.put)) d.rides stands) (ride_map (λ v. FindsAll (source_of p) v × CallsNoMain (source_of p) v) (CallsNoMain (source_of p)) (λ v x. x.1) d.rides finds) (ride_map (λ v. FindsAll (source_of p) v × CallsNoMain (source_of p) v) (FindsAll (source_of p)) (λ v x. x.0) d.rides finds) (ride_map (put.Stands p (setting_of p few)) (Puts (table_of p) few) (λ v x. law_puts (setting_of p few) v x.put) d.rides stands) (ride_calls p formed ok few places d.rides meets fairs there begins) k.births k.asked k.homes (law_kept_parts.runs (source_of p) (special_of p) k.births.makers k.homes k.asked input opts j w r (law_parts_runs.runs p formed ok k.homes input opts j w r k.taken) k.births.made k.births.spawned k.kept) (law_kept_parts.ride (source_of p) (special_of p) k.births.makers k.homes k.asked (run_made (source_of p) input opts r) d.rides (law_parts_runs.rides p formed ok k.homes input opts j w r k.taken q u n s asked d k.taken_now) k.births.rides k.keeps) k.rooted in
-        ride_told j w u (Upwards j w u k.births.makers) d.rides before (ride_spares p formed ok few input opts range r fits lone fair reads on q u n s asked d fairs names) (ride_known d.rides meets there)
+        let homes : ℕ → Value = home_of (source_of p) input opts j w r in
+        let source : Source = source_of p in
+        let birth = law_upheld.births source input opts j w r range fits on q u n s asked d in
+        let births : MadeLaterTo source input opts j w r q u n s asked d = record {
+          makers = way_makers source input opts r d;
+          made = subst (λ m. RunMeets (MakesLater source m) source input opts j w r) birth.1 birth.0.made;
+          spawned = subst (λ m. RunSpawnsLater m source input opts j w r) birth.1 birth.0.spawned;
+          rides = subst (λ m. RideMeets (MakesLater source m) source (answered source d.given (drawn j w u)) (left opts j u) s n asked d.rides) birth.1 birth.0.rides;
+        } in
+        let before = law_before_rides (table_of p) few own yet (source_of p) input opts j w r range fits on zero mine (run_leaves p formed ok input opts range r fits lone) (run_spares p formed ok few input opts range r fits lone fair reads) (law_finding.runs_bind p formed ok few input opts range j w r fits fair) found.calls found.finds (law_runs.runs p formed ok few input opts range j w r fits fair) (law_calls_runs.runs p formed ok few places input opts range j w r fits below first met fair).0 q u n s asked d (ride_map (put.Stands p (setting_of p few)) (BindsOwn (source_of p)) (λ v x. law_finding.binds few (source_of p) v (law_own_places.states (setting_of p few) v x.put)) d.rides stands) (ride_map (λ v. FindsAll (source_of p) v × CallsNoMain (source_of p) v) (CallsNoMain (source_of p)) (λ v x. x.1) d.rides finds) (ride_map (λ v. FindsAll (source_of p) v × CallsNoMain (source_of p) v) (FindsAll (source_of p)) (λ v x. x.0) d.rides finds) (ride_map (put.Stands p (setting_of p few)) (Puts (table_of p) few) (λ v x. law_puts (setting_of p few) v x.put) d.rides stands) (ride_calls p formed ok few places d.rides meets fairs there begins) births k.asked homes (law_kept_parts.runs (source_of p) (special_of p) births.makers homes k.asked input opts j w r (law_parts_runs.runs p formed ok homes input opts range j w r fits (λ o. refl)) births.made births.spawned k.kept) (law_kept_parts.ride (source_of p) (special_of p) births.makers homes k.asked (run_made (source_of p) input opts r) d.rides (law_parts_runs.rides p formed ok homes input opts range j w r fits (λ o. refl) on q u n s asked d) births.rides k.keeps) k.rooted in
+        ride_told j w u (Upwards j w u (way_makers (source_of p) input opts r d)) d.rides before (ride_spares p formed ok few input opts range r fits lone fair reads on q u n s asked d fairs names) (ride_known d.rides meets there)
 
-    along : (j : Journal) (w : World) (r : Runs (source_of p) input opts j w) → RunFits (source_of p) input opts j w r → is_over j ≡ false → PassesBelow few opts j → RunMeets (Meets (table_of p) few) (source_of p) input opts j w r → RunMeets (Fair (setting_of p few)) (source_of p) input opts j w r → RunMeets (ReadsOthers few) (source_of p) input opts j w r → RunMeets (StepApart (table_of p) few (source_of p)) (source_of p) input opts j w r → (q u n : ℕ) (s : State) (asked : Asked) (d : AsksIn (source_of p) opts j w q u n s asked) → RideMeets (Meets (table_of p) few) (source_of p) (answered (source_of p) d.given (drawn j w u)) (left opts j u) s n asked d.rides → RideMeets (Fair (setting_of p few)) (source_of p) (answered (source_of p) d.given (drawn j w u)) (left opts j u) s n asked d.rides → RideMeets (ReadsOthers few) (source_of p) (answered (source_of p) d.given (drawn j w u)) (left opts j u) s n asked d.rides → (k : IsKeptTo (table_of p) few own yet (source_of p) (special_of p) input opts j w r q u n s asked d) → RideMeets (StepApart (table_of p) few (source_of p)) (source_of p) (answered (source_of p) d.given (drawn j w u)) (left opts j u) s n asked d.rides × RideMeets (Upwards j w u k.births.makers) (source_of p) (answered (source_of p) d.given (drawn j w u)) (left opts j u) s n asked d.rides
+    along : (j : Journal) (w : World) (r : Runs (source_of p) input opts j w) → RunFits (source_of p) input opts j w r → is_over j ≡ false → PassesBelow few opts j → RunMeets (Meets (table_of p) few) (source_of p) input opts j w r → RunMeets (Fair (setting_of p few)) (source_of p) input opts j w r → RunMeets (ReadsOthers few) (source_of p) input opts j w r → RunMeets (StepApart (table_of p) few (source_of p)) (source_of p) input opts j w r → (q u n : ℕ) (s : State) (asked : Asked) (d : AsksIn (source_of p) opts j w q u n s asked) → RideMeets (Meets (table_of p) few) (source_of p) (answered (source_of p) d.given (drawn j w u)) (left opts j u) s n asked d.rides → RideMeets (Fair (setting_of p few)) (source_of p) (answered (source_of p) d.given (drawn j w u)) (left opts j u) s n asked d.rides → RideMeets (ReadsOthers few) (source_of p) (answered (source_of p) d.given (drawn j w u)) (left opts j u) s n asked d.rides → (k : IsKeptTo (table_of p) few own yet (source_of p) input opts j w r q u n s asked d) → RideMeets (StepApart (table_of p) few (source_of p)) (source_of p) (answered (source_of p) d.given (drawn j w u)) (left opts j u) s n asked d.rides × RideMeets (Upwards j w u (way_makers (source_of p) input opts r d)) (source_of p) (answered (source_of p) d.given (drawn j w u)) (left opts j u) s n asked d.rides
     along j w r fits on below met fair reads apart q u n s asked d meets fairs names k =
         let all = told j w r fits on below met fair reads apart q u n s asked d meets fairs names k in (
-          ride_map (Told j w u (Upwards j w u k.births.makers)) (StepApart (table_of p) few (source_of p)) (step j w u (Upwards j w u k.births.makers)) d.rides all,
-          ride_map (Told j w u (Upwards j w u k.births.makers)) (Upwards j w u k.births.makers) (λ v h. h.upwards) d.rides all,
+          ride_map (Told j w u (Upwards j w u (way_makers (source_of p) input opts r d))) (StepApart (table_of p) few (source_of p)) (step j w u (Upwards j w u (way_makers (source_of p) input opts r d))) d.rides all,
+          ride_map (Told j w u (Upwards j w u (way_makers (source_of p) input opts r d))) (Upwards j w u (way_makers (source_of p) input opts r d)) (λ v h. h.upwards) d.rides all,
         )
 
     -- behind an act by which an object goes
@@ -182,18 +196,18 @@ module _ (p : Program) (formed : IsFormed p) (ok : breaks_of p ≡ []) (few : Fe
     last_at P (ticks e r) h = last_at P r h.1
     last_at P (asks {s} e) h = inr (s, h, e)
 
-    goes_by : (j : Journal) (w : World) (r : Runs (source_of p) input opts j w) → RunFits (source_of p) input opts j w r → is_over j ≡ false → PassesBelow few opts j → RunMeets (Meets (table_of p) few) (source_of p) input opts j w r → RunMeets (Fair (setting_of p few)) (source_of p) input opts j w r → RunMeets (ReadsOthers few) (source_of p) input opts j w r → RunMeets (StepApart (table_of p) few (source_of p)) (source_of p) input opts j w r → (q u n : ℕ) (s : State) (asked : Asked) (d : AsksIn (source_of p) opts j w q u n s asked) → RideMeets (Meets (table_of p) few) (source_of p) (answered (source_of p) d.given (drawn j w u)) (left opts j u) s n asked d.rides → RideMeets (Fair (setting_of p few)) (source_of p) (answered (source_of p) d.given (drawn j w u)) (left opts j u) s n asked d.rides → RideMeets (ReadsOthers few) (source_of p) (answered (source_of p) d.given (drawn j w u)) (left opts j u) s n asked d.rides → IsKeptTo (table_of p) few own yet (source_of p) (special_of p) input opts j w r q u n s asked d → is_over (j ++ act opts (source_of p).sites input j q u n asked) ≡ false → (x : Request) → asked.request ≡ x → GoesBy (IsLeftNowhere (table_of p) few) j (act opts (source_of p).sites input j q u n asked) (world_after (source_of p) (act opts (source_of p).sites input j q u n asked) w u s) u x
+    goes_by : (j : Journal) (w : World) (r : Runs (source_of p) input opts j w) → RunFits (source_of p) input opts j w r → is_over j ≡ false → PassesBelow few opts j → RunMeets (Meets (table_of p) few) (source_of p) input opts j w r → RunMeets (Fair (setting_of p few)) (source_of p) input opts j w r → RunMeets (ReadsOthers few) (source_of p) input opts j w r → RunMeets (StepApart (table_of p) few (source_of p)) (source_of p) input opts j w r → (q u n : ℕ) (s : State) (asked : Asked) (d : AsksIn (source_of p) opts j w q u n s asked) → RideMeets (Meets (table_of p) few) (source_of p) (answered (source_of p) d.given (drawn j w u)) (left opts j u) s n asked d.rides → RideMeets (Fair (setting_of p few)) (source_of p) (answered (source_of p) d.given (drawn j w u)) (left opts j u) s n asked d.rides → RideMeets (ReadsOthers few) (source_of p) (answered (source_of p) d.given (drawn j w u)) (left opts j u) s n asked d.rides → IsKeptTo (table_of p) few own yet (source_of p) input opts j w r q u n s asked d → is_over (j ++ act opts (source_of p).sites input j q u n asked) ≡ false → (x : Request) → asked.request ≡ x → GoesBy (IsLeftNowhere (table_of p) few) j (act opts (source_of p).sites input j q u n asked) (world_after (source_of p) (act opts (source_of p).sites input j q u n asked) w u s) u x
     goes_by j w r fits on below met fair reads apart q u n s asked d meets fairs names k going (ask.Gone o) e =
-        by (last_at (TellsAll j w r fits on q u n s asked d going (Upwards j w u k.births.makers)) d.rides (told j w r fits on below met fair reads apart q u n s asked d meets fairs names k))
+        by (last_at (TellsAll j w r fits on q u n s asked d going (Upwards j w u (way_makers (source_of p) input opts r d))) d.rides (told j w r fits on below met fair reads apart q u n s asked d meets fairs names k))
       where
-        by : (asked.request ≡ ask.Slice) ⊎ ((v : State) × TellsAll j w r fits on q u n s asked d going (Upwards j w u k.births.makers) v × (quiet (source_of p) v ≡ Asks asked.request s)) → IsLeftNowhere (table_of p) few j (act opts (source_of p).sites input j q u n asked) (world_after (source_of p) (act opts (source_of p).sites input j q u n asked) w u s) u o
+        by : (asked.request ≡ ask.Slice) ⊎ ((v : State) × TellsAll j w r fits on q u n s asked d going (Upwards j w u (way_makers (source_of p) input opts r d)) v × (quiet (source_of p) v ≡ Asks asked.request s)) → IsLeftNowhere (table_of p) few j (act opts (source_of p).sites input j q u n asked) (world_after (source_of p) (act opts (source_of p).sites input j q u n asked) w u s) u o
         by (inl f) = let z : ask.Gone o ≡ ask.Slice = sym e ∙ f in absurd (cc)
         by (inr (v, h, f)) =
             let lets : LetsGoAt o v s = law_asked_at (source_of p) v (ask.Gone o) s (f ∙ ap (λ (x : Request). Asks x s) e) in
-            left_nowhere j w r fits on q u n s asked d going (Upwards j w u k.births.makers) v o e h lets
+            left_nowhere j w r fits on q u n s asked d going (Upwards j w u (way_makers (source_of p) input opts r d)) v o e h lets
     goes_by j w r fits on below met fair reads apart q u n s asked d meets fairs names k going x e = tt
 
-    run_apart : (j : Journal) (w : World) (r : Runs (source_of p) input opts j w) → RunFits (source_of p) input opts j w r → is_over j ≡ false → PassesBelow few opts j → RunMeets (Meets (table_of p) few) (source_of p) input opts j w r → RunMeets (Fair (setting_of p few)) (source_of p) input opts j w r → RunMeets (ReadsOthers few) (source_of p) input opts j w r → RunKeepsTo (table_of p) few own yet (source_of p) (special_of p) input opts r → RunMeets (StepApart (table_of p) few (source_of p)) (source_of p) input opts j w r × RunGoes (IsLeftNowhere (table_of p) few) (source_of p) input opts r
+    run_apart : (j : Journal) (w : World) (r : Runs (source_of p) input opts j w) → RunFits (source_of p) input opts j w r → is_over j ≡ false → PassesBelow few opts j → RunMeets (Meets (table_of p) few) (source_of p) input opts j w r → RunMeets (Fair (setting_of p few)) (source_of p) input opts j w r → RunMeets (ReadsOthers few) (source_of p) input opts j w r → RunKeepsTo (table_of p) few own yet (source_of p) input opts r → RunMeets (StepApart (table_of p) few (source_of p)) (source_of p) input opts j w r × RunGoes (IsLeftNowhere (table_of p) few) (source_of p) input opts r
     run_apart _ _ begun fits on below met fair reads k = (tt, tt)
     run_apart _ _ (more {j} {w} {a} r o (gives q u s le)) fits on below met fair reads k =
         let h = run_apart j w r fits.0 o (earlier few opts j a below) met.0 fair.0 reads.0 k.0 in ((h.0, tt), (h.1, tt))
@@ -208,8 +222,8 @@ module _ (p : Program) (formed : IsFormed p) (ok : breaks_of p ≡ []) (few : Fe
 
 pub law_ways : LawWays
 law_ways = record {
-  runs = λ p formed ok few own yet places zero input opts range j w r fits on below first met fair reads k.
-      run_apart p formed ok few own yet places zero input opts range first j w r fits on below met fair reads k;
-  rides = λ p formed ok few own yet places zero input opts range j w r fits on below first met fair reads k q u n s asked d meets fairs names h.
-      along p formed ok few own yet places zero input opts range first j w r fits on below met fair reads (run_apart p formed ok few own yet places zero input opts range first j w r fits on below met fair reads k).0 q u n s asked d meets fairs names h;
+  runs = λ p formed ok few own yet places zero mine input opts range j w r fits on below first met fair reads k.
+      run_apart p formed ok few own yet places zero mine input opts range first j w r fits on below met fair reads k;
+  rides = λ p formed ok few own yet places zero mine input opts range j w r fits on below first met fair reads k q u n s asked d meets fairs names h.
+      along p formed ok few own yet places zero mine input opts range first j w r fits on below met fair reads (run_apart p formed ok few own yet places zero mine input opts range first j w r fits on below met fair reads k).0 q u n s asked d meets fairs names h;
 }

@@ -22,6 +22,7 @@ use Rattle.uc_putting_laws.specs.PuttingLaws.{setting_of, Fair}
 use Rattle.uc_putting_laws.specs.OwnPlaces.{OwnPlaces}
 use Rattle.uc_rooted_runs.specs.Binds.{BindsOwn}
 use Rattle.uc_rooted_runs.specs.Mains.{CallsNoMain, FindsAll}
+use Rattle.uc_making_laws.specs.ForgetsThis.{RunGoes, IsOwedNothing}
 
 -- at each state of a run
 pub record IsFound (p : Program) (input : List ℕ) (opts : Options) (j : Journal) (w : World) (r : Runs (source_of p) input opts j w) : Type 0 where
@@ -31,7 +32,8 @@ pub record IsFound (p : Program) (input : List ℕ) (opts : Options) (j : Journa
 -- in a state in which whoever waits, signals or accepts in an object is inside it, the routines that are named are there, and unwindings have reasons;
 -- and where mains are parts that nobody calls, none is called. What is bound at a place of the execution's own is in no frame of another one. So it is
 -- in each run of a program that breaks no rule, as long as all that was asked so far fits and nothing else is owed to what is let go of; and what is
--- bound, as far as each step finds what is left to find where objects are bound and marks are put
+-- bound, as far as each step finds what is left to find where objects are bound and marks are put. Behind each act by which an object goes no activation of
+-- who acts that waits is to let go of it
 pub record LawFinding : Type 0 where
   pub finds : (part : ℕ → Part) (source : Source) (mine : ℕ) (s : State) → StandsState part source mine s →
       FindsAll source s
@@ -48,3 +50,8 @@ pub record LawFinding : Type 0 where
       RunFits (source_of p) input opts j w r →
       RunMeets (Fair (setting_of p few)) (source_of p) input opts j w r →
       RunMeets (BindsOwn (source_of p)) (source_of p) input opts j w r
+  pub owed : (p : Program) → IsFormed p → breaks_of p ≡ [] → (input : List ℕ) (opts : Options) → InRange opts →
+      (j : Journal) (w : World) (r : Runs (source_of p) input opts j w) →
+      RunFits (source_of p) input opts j w r →
+      RunAlone (source_of p) input opts j w r →
+      RunGoes IsOwedNothing (source_of p) input opts r

@@ -23,14 +23,13 @@ use Rattle.uc_life_laws.specs.Rooted.{IsPlace}
 use Rattle.uc_letting_laws.specs.AloneRuns.{RunAlone}
 use Rattle.uc_running_laws.specs.OtherNames.{ReadsOthers}
 use Rattle.uc_putting_laws.specs.PuttingLaws.{setting_of, Fair}
-use Rattle.uc_making_laws.specs.ForgetsThis.{RunGoes, IsLeftNowhere, IsLetGo}
+use Rattle.uc_making_laws.specs.ForgetsThis.{RunGoes, IsLeftNowhere}
 
--- what is left of it: no step reads the name of the running execution in what is not its own; each step finds what it is to find where objects are
--- bound and destroyed, and where resumptions are raised; and behind each act by which an object goes the task that acts builds and destroys it no more
+-- what is left of it: no step reads the name of the running execution in what is not its own; and each step finds what it is to find where objects are
+-- bound and destroyed, and where resumptions are raised
 pub record IsLeftOf (p : Program) (few : Few) (input : List ℕ) (opts : Options) (j : Journal) (w : World) (r : Runs (source_of p) input opts j w) : Type 0 where
   pub reads : RunMeets (ReadsOthers few) (source_of p) input opts j w r
   pub fair : RunMeets (Fair (setting_of p few)) (source_of p) input opts j w r
-  pub let_go : RunGoes (IsLetGo (table_of p) few) (source_of p) input opts r
 
 -- then nobody has at hand what has gone, in each run in which all that was asked so far fits and nothing else is owed to what tasks let go of, where
 -- executions have places alone of others, object 0 is at home in nobody's own, each step finds what it is to find where all is known, and behind each such act nobody has at hand that in which

@@ -6,5 +6,4 @@ pub mod Ways
 pub mod Telling
 pub mod Meeting
 pub mod Remaining
-pub mod Seating
 pub mod LastingPrograms

@@ -22,8 +22,8 @@ pub fn law_finding()
     ensures { LawFinding }
 {}
 
-/// In runs of programs that break no rule what is called, made and spawned is had, as long as steps find what
-/// they are to find.
+/// In runs of programs that break no rule, and on the way to what is asked next, what is called, made and spawned
+/// is had, as long as steps find what they are to find.
 pub fn law_calls_runs()
     ensures { LawCallsRuns }
 {}

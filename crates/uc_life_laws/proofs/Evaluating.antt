@@ -2,6 +2,7 @@
 use Rattle.std.proofs.Common.{◌≡◌, ℕ, ◌≤◌, List, [], ◌∷◌, ◌⊎◌, inl, inr, Some, Bool, true, false, refl, sym, ap, subst, arith}
 use Rattle.std.specs.Prelude.{if◌then◌else◌, slice_index_or}
 use Rattle.uc_tree.specs.Source.{Shape, Character, Truth, Expr, ObjectExpr, Literal, Variable, Element, Get, Load, Negated, Not, AsCharacter, AsTruth, Operate, And, Or, Set, Assign, First, Update, StepBehind, Fail, Call, OfObject, This, OwnField, GetOwn, FieldOf, Counted, CallOn, CallLive, CallUnwritten, EnterOn, EndOn, Bind, MakeOn, NewCluster, NewProcessor, EndCluster, EndProcessor, ConditionAt, Wait, Signal, SignalBlock, IsEmpty, FrontOf, Source}
+use Rattle.uc_machine.specs.declared.exec.Exec.{Exec}
 use Rattle.uc_machine.specs.Executions.{at_depth, list_in, others, frames_of, frames_in, parked_at}
 use Rattle.uc_machine.specs.Quiet.{Value, Number, Place, Object, Slot, FieldAt, State, Todo, at, loaded, further, address, variable_at, nought, LAST_ADDRESS, eval_step, object_step}
 use Rattle.uc_machine.specs.Pieces as pc
@@ -12,7 +13,9 @@ use Rattle.uc_typing.specs.States.{IsObjectBy, Is, IsBase, Sound}
 use Rattle.uc_typing.proofs.Control.{converted_ok}
 use Rattle.uc_life_laws.specs.Things.{Few, IsTracked, itself, LiesIn, Variables, Known, lies, IsFew}
 use Rattle.uc_life_laws.specs.LifeStates.{LifeState}
-use Rattle.uc_life_laws.specs.Knowing.{AtHand, KnownAll, KnownParams, KnownFrames, KnownThis, KnowsWaits, KnowsEnv, KnowsState, KnowsStep, Here, ReadsKnown, FindsObject, FindsExpr}
+use Rattle.uc_life_laws.specs.Knowing.{AtHand, KnownAll, KnownParams, KnownFrames, KnownThis, KnowsWaits, ClaimsEnv, StepBy, Here, ReadsKnown, FindsObject, FindsExpr}
+use Rattle.uc_life_laws.specs.Kinds.{IsKept, FollowsOn}
+use Rattle.uc_life_laws.proofs.Parked.{Ex}
 use Rattle.uc_life_laws.proofs.Knowns as known
 use Rattle.uc_life_laws.proofs.Knowns.{known_more, older_hand, frames_at, held}
 use Rattle.uc_life_laws.proofs.Reading as reading
@@ -24,12 +27,12 @@ cell_min : (k : ℕ) → k ≤ LAST_ADDRESS → address (Slot k ∷ []) ≡ k
 cell_min k l = omega (arith, l)
 
 -- what a clean-up takes out of scope at a variable is no binding of what is being built
-module _ (t : Table) (few : Few) (source : Source) (sound : Sound t source) (s : State) (st : LifeState t few s) (sigs : List Sig) (g : Sig) (base sc : List Name) (frames : KnownFrames t few s.env.exec sigs s.env.frames (s.run ∷ s.callers)) (frame : at_depth sigs s.run.frame ≡ Some g) (this : KnownThis t few s.env.exec (AtHand t few s.env.exec (others sigs) s.callers) g g.this s.run.this) (callers : KnowsWaits t few s.env.exec (others sigs) s.callers) (env : KnowsEnv t few s.env) (ends : IsBase t g s.run.handles base s.run.frame s.callers) where
-  go : (inner : List Name) (own : List Ty) (todo : List Todo) (vs : List Value) → Ok t g base inner todo own → KnownAll t few s.env.exec (With t few s sigs todo) own vs → KnowsState t few [] (at todo vs s)
-  go = going.go t few s sigs g base frames frame this callers env ends
+module _ (t : Table) (few : Few) (Q : Exec → List Sig → Ex → Type 0) (kept : IsKept Q) (source : Source) (sound : Sound t source) (s : State) (st : LifeState t few s) (sigs : List Sig) (g : Sig) (base sc : List Name) (frames : KnownFrames t few s.env.exec sigs s.env.frames (s.run ∷ s.callers)) (frame : at_depth sigs s.run.frame ≡ Some g) (this : KnownThis t few s.env.exec (AtHand t few s.env.exec (others sigs) s.callers) g g.this s.run.this) (callers : KnowsWaits t few s.env.exec (others sigs) s.callers) (env : ClaimsEnv t few Q s.env) (ends : IsBase t g s.run.handles base s.run.frame s.callers) where
+  go : (inner : List Name) (own : List Ty) (todo : List Todo) (vs : List Value) → Ok t g base inner todo own → KnownAll t few s.env.exec (With t few s sigs todo) own vs → FollowsOn Q t few source s sigs [] (at todo vs s)
+  go = going.go t few Q kept source s sigs g base frames frame this callers env ends
 
-  asks : (inner : List Name) (own : List Ty) (todo : List Todo) (vs : List Value) → Ok t g base inner todo (Num ∷ own) → KnownAll t few s.env.exec (With t few s sigs todo) own vs → KnowsState t few (Num ∷ []) (at todo vs s)
-  asks = going.asks t few s sigs g base frames frame this callers env ends
+  asks : (inner : List Name) (own : List Ty) (todo : List Todo) (vs : List Value) → Ok t g base inner todo (Num ∷ own) → KnownAll t few s.env.exec (With t few s sigs todo) own vs → FollowsOn Q t few source s sigs (Num ∷ []) (at todo vs s)
+  asks = going.asks t few Q kept source s sigs g base frames frame this callers env ends
 
   -- the object at hand
   this_is : (c : ℕ) → g.this ≡ Some c → Known t few s.env.exec (AtHand t few s.env.exec (others sigs) s.callers) (object_ty g.whole c) s.run.this
@@ -134,7 +137,7 @@ module _ (t : Table) (few : Few) (source : Source) (sound : Sound t source) (s :
   none_onto : (ps own : List Ty) → [] ≡ ps → own ≡ onto ps own
   none_onto ps own e = ap (λ l. onto l own) e
 
-  object : (o : ObjectExpr) (a : Ty) (todo : List Todo) (own : List Ty) → s.run.control ≡ pc.Eval (OfObject o) ∷ todo → FindsObject t few sigs g sc s o a → ObjectGives t g sc o a → Ok t g base sc todo (a ∷ own) → KnownAll t few s.env.exec (With t few s sigs todo) own s.run.operands → KnowsStep t few source (object_step o todo s)
+  object : (o : ObjectExpr) (a : Ty) (todo : List Todo) (own : List Ty) → s.run.control ≡ pc.Eval (OfObject o) ∷ todo → FindsObject t few sigs g sc s o a → ObjectGives t g sc o a → Ok t g base sc todo (a ∷ own) → KnownAll t few s.env.exec (With t few s sigs todo) own s.run.operands → StepBy t few (FollowsOn Q t few source s sigs) (ClaimsEnv t few Q) source (object_step o todo s)
   object This a todo own q l f o h =
       go sc (a ∷ own) todo _ o (subst (λ a. Known t few s.env.exec (With t few s sigs todo) a s.run.this) (sym f.2) (this_made todo f.0 f.1 (l f.0 f.1).0), h)
   object (OwnField k i) a todo own q l f o h = go sc (a ∷ own) todo _ o (found f.4, h)
@@ -188,7 +191,7 @@ module _ (t : Table) (few : Few) (source : Source) (sound : Sound t source) (s :
   converted Truth todo own h = h
   converted k todo own h = h
 
-  pub eval : (e : Expr) (a : Ty) (todo : List Todo) (own : List Ty) → s.run.control ≡ pc.Eval e ∷ todo → FindsExpr t few sigs g sc s e a → Yields t g sc e a → Ok t g base sc todo (a ∷ own) → KnownAll t few s.env.exec (With t few s sigs todo) own s.run.operands → KnowsStep t few source (eval_step e todo s)
+  pub eval : (e : Expr) (a : Ty) (todo : List Todo) (own : List Ty) → s.run.control ≡ pc.Eval e ∷ todo → FindsExpr t few sigs g sc s e a → Yields t g sc e a → Ok t g base sc todo (a ∷ own) → KnownAll t few s.env.exec (With t few s sigs todo) own s.run.operands → StepBy t few (FollowsOn Q t few source s sigs) (ClaimsEnv t few Q) source (eval_step e todo s)
   eval (Literal n) a todo own q l f o h = go sc (Num ∷ own) todo _ (num todo own a f o) (tt, h)
   eval (Variable k) a todo own q l f o h = go sc (a ∷ own) todo _ o (slot_known todo a k (a ∷ own) o f.1 f.0, h)
   eval (Element n k e i) a todo own q l f o h = go sc own _ _ (Row n a, f.1, (Num, f.2, (refl, f.0, o, f.3))) h

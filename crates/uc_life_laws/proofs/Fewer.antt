@@ -1,5 +1,5 @@
 -- With fewer numbers all stays known, where nobody has at hand what had the others.
-use Rattle.std.proofs.Common.{◌≡◌, ℕ, ◌⊎◌, inl, inr, ⊎_elim, Bool, true, false, List, [], ◌∷◌, Option, Some, None, refl, ℤ}
+use Rattle.std.proofs.Common.{◌≡◌, ℕ, ◌⊎◌, inl, inr, ⊎_elim, Bool, true, false, List, [], ◌∷◌, Option, Some, None, refl, sym, subst, ℤ}
 use Rattle.uc_machine.specs.declared.exec.Exec.{Exec}
 use Rattle.uc_machine.specs.declared.exec.Home.{Home}
 use Rattle.uc_machine.specs.declared.exec.Home.TheVariants as home
@@ -9,13 +9,15 @@ use Rattle.uc_machine.specs.declared.exec.Stage.TheVariants.{Fresh, Started, End
 use Rattle.uc_machine.specs.Executions.{Execution, others}
 use Rattle.uc_machine.specs.Pieces as piece
 use Rattle.uc_machine.specs.Pieces.{Slot, Value, Number, Place, Running, Object, Nothing, Todo, Sort, Active, State, Env, Members}
-use Rattle.uc_typing.specs.Typing.{Ty, Num, Cell, Obj, Raw, Row, Clu, Pro, Sig, Table, object_ty}
-use Rattle.uc_typing.specs.Pieces.{AreNumbers}
+use Rattle.uc_tree.specs.Source.{Way, ToBreak, ToContinue, ToReturn, ToEnd}
+use Rattle.uc_typing.specs.Typing.{Ty, Num, Cell, Obj, Raw, Row, Clu, Pro, Name, Sig, Table, object_ty}
+use Rattle.uc_typing.specs.Pieces.{IsNone, onto, Exits, Ok}
 use Rattle.uc_typing.specs.States.{IsAt, IsObjectBy}
 use Rattle.uc_life_laws.specs.Things.{Few, AtVariable, AtField, IsFor, Nowhere, Marks, InTodo, Outer, Around, Stands, lies, inside, Held, LiesIn, IsFew, IsKnown, Known}
 use Rattle.uc_life_laws.specs.LifeStates.{SlotBy, ParkedBy, HandBy, MembersBy, EnvBy, Outwards, MarkHolds, AllHold, LifeStack, LifeEx, LifeState}
 use Rattle.uc_life_laws.specs.Knowing.{AtHand, KnownAll, KnownParams, KnownThis, KnownFrames, Knows, KnowsWaits, KnowsEx, KnowsBy, KnowsSlot, KnowsState}
 use Rattle.uc_life_laws.proofs.Knowns.{Less, held_more, older_hand, around_outer}
+use Rattle.uc_life_laws.specs.Silent.{AllSilent}
 use Rattle.uc_life_laws.specs.Fewer.{with_numbers, KeepsOthers, Lasts, ScopesLast, HandLasts, ExLasts, RunLasts, TaskLasts, LawFewer, AllNumbers, FramesNumbers, FreshLasts}
 
 -- two facts of each execution that does not run
@@ -38,6 +40,51 @@ module _ (P Q R : Exec → Execution (List Todo) Value → Type 0) (both : (n : 
 
   pub both_env : (e : Env) → EnvBy P e → EnvBy Q e → EnvBy R e
   both_env e p q = record { house = both_parked (home.Task e.own) e.house.parked p.house q.house; hand = both_hand e.hand p.hand q.hand }
+
+-- an activation that only comes to its end may have operands of any types
+
+abbrev as_numbers : List Ty → List Ty
+as_numbers [] = []
+as_numbers (a ∷ tys) = Num ∷ as_numbers tys
+
+onto_none : (given own : List Ty) → IsNone (onto given own) → own ≡ []
+onto_none [] [] h = refl
+onto_none [] (a ∷ own) h = absurd h
+onto_none (g ∷ gs) own h = let e : g ∷ own ≡ [] = onto_none gs (g ∷ own) h in absurd (cc)
+
+onto_one : (given own : List Ty) → onto given own ≡ Num ∷ [] → (own ≡ []) ⊎ (own ≡ Num ∷ [])
+onto_one [] own e = inr e
+onto_one (g ∷ gs) own e = by (onto_one gs (g ∷ own) e)
+  where
+    by : (g ∷ own ≡ []) ⊎ (g ∷ own ≡ Num ∷ []) → (own ≡ []) ⊎ (own ≡ Num ∷ [])
+    by (inl f) = absurd (cc)
+    by (inr f) = inl (cc)
+
+none_same : (own : List Ty) → own ≡ [] → as_numbers own ≡ own
+none_same own e = subst (λ l. as_numbers l ≡ l) (sym e) refl
+
+one_same : (own : List Ty) → (own ≡ []) ⊎ (own ≡ Num ∷ []) → as_numbers own ≡ own
+one_same own (inl e) = none_same own e
+one_same own (inr e) = subst (λ l. as_numbers l ≡ l) (sym e) refl
+
+exit_same : (t : Table) (g : Sig) (w : Way) (given own : List Ty) → Exits t g w (onto given own) → as_numbers own ≡ own
+exit_same t g ToReturn given own h = one_same own (onto_one given own h.0)
+exit_same t g ToBreak given own h = none_same own (onto_none given own h)
+exit_same t g ToContinue given own h = none_same own (onto_none given own h)
+exit_same t g ToEnd given own h = none_same own (onto_none given own h)
+
+renumber : (t : Table) (g : Sig) (base sc : List Name) (todo : List Todo) → AllSilent todo → (given own : List Ty) → Ok t g base sc todo (onto given own) → Ok t g base sc todo (onto given (as_numbers own))
+renumber t g base sc [] s given own h = h
+renumber t g base sc (piece.Within line ∷ todo) s given own h =
+    subst (λ l. Ok t g base sc (piece.Within line ∷ todo) (onto given l)) (sym (none_same own (onto_none given own h.0))) h
+renumber t g base sc (piece.Exit w ∷ todo) s given own h =
+    (subst (λ l. Exits t g w (onto given l)) (sym (exit_same t g w given own h.0)) h.0, h.1)
+renumber t g base sc (piece.NoReturnNow ∷ todo) s given own h = renumber t g base sc todo s given own h
+renumber t g base sc (piece.Unwind ∷ todo) s given own h = h
+renumber t g base sc (piece.ChildNow r ∷ todo) s given own h = (h.0, h.1, renumber t g base sc todo s given own h.2)
+renumber t g base sc (piece.Finish ∷ todo) s given own h = h
+renumber t g base sc (piece.FinishCoroutine ∷ todo) s given own h = h
+renumber t g base sc (p ∷ todo) s given own h = absurd s
 
 module _ (t : Table) (few : Few) (numbers : Ty → ℕ → Bool) where
   abbrev less : Few
@@ -104,17 +151,12 @@ module _ (t : Table) (few : Few) (numbers : Ty → ℕ → Bool) where
       all_fewer lasts (a ∷ tys) [] h = absurd h
       all_fewer lasts (a ∷ tys) (v ∷ vs) h = (known_fewer lasts a v h.0, all_fewer lasts tys vs h.1)
 
-      numbers_fewer : (tys : List Ty) (vs : List Value) → AreNumbers tys → KnownAll t few n K tys vs → KnownAll t less n K tys vs
-      numbers_fewer [] [] a h = tt
-      numbers_fewer [] (v ∷ vs) a h = absurd h
-      numbers_fewer (Num ∷ tys) [] a h = absurd h
-      numbers_fewer (Num ∷ tys) (v ∷ vs) a h = (tt, numbers_fewer tys vs a h.1)
-      numbers_fewer (Cell b ∷ tys) vs a h = absurd a
-      numbers_fewer (Obj c ∷ tys) vs a h = absurd a
-      numbers_fewer (Raw c ∷ tys) vs a h = absurd a
-      numbers_fewer (Row m b ∷ tys) vs a h = absurd a
-      numbers_fewer (Clu ∷ tys) vs a h = absurd a
-      numbers_fewer (Pro ∷ tys) vs a h = absurd a
+      -- of numbers nothing is told
+      numbered : (tys : List Ty) (vs : List Value) → KnownAll t few n K tys vs → KnownAll t less n K (as_numbers tys) vs
+      numbered [] [] h = tt
+      numbered [] (v ∷ vs) h = absurd h
+      numbered (a ∷ tys) [] h = absurd h
+      numbered (a ∷ tys) (v ∷ vs) h = (tt, numbered tys vs h.1)
 
       params_fewer : Lasts t few numbers K → (tys : List Ty) (vs : List Value) → KnownParams t few n K tys vs → KnownParams t less n K tys vs
       params_fewer lasts [] vs h = tt
@@ -145,22 +187,29 @@ module _ (t : Table) (few : Few) (numbers : Ty → ℕ → Bool) where
     top_frames [] (f ∷ fs) c cs l h = absurd h
     top_frames (g ∷ gs) [] c cs l h = absurd h
 
-    pub active_fewer : (gs : List Sig) (given : List Ty) (cs : List Active) (c : Active) (k : Knows t few n gs given cs c) → Lasts t few numbers (AtHand t few n (others gs) cs) → Lasts t few numbers (AtHand t few n gs (c ∷ cs)) ⊎ AreNumbers k.own → Knows t less n gs given cs c
-    active_fewer gs given cs c k l o = record {
+    pub active_fewer : (gs : List Sig) (given : List Ty) (cs : List Active) (c : Active) (k : Knows t few n gs given cs c) → Lasts t few numbers (AtHand t few n (others gs) cs) → Lasts t few numbers (AtHand t few n gs (c ∷ cs)) ⊎ AllSilent c.control → Knows t less n gs given cs c
+    active_fewer gs given cs c k l (inl x) = record {
       sig = k.sig;
       own = k.own;
       scope = k.scope;
       base = k.base;
       frame = k.frame;
-      values = by o;
+      values = all_fewer (AtHand t few n gs (c ∷ cs)) x k.own c.operands k.values;
       this = this_fewer (AtHand t few n (others gs) cs) l k.sig k.sig.this c.this k.this;
       ok = k.ok;
       ends = k.ends;
     }
-      where
-        by : Lasts t few numbers (AtHand t few n gs (c ∷ cs)) ⊎ AreNumbers k.own → KnownAll t less n (AtHand t few n gs (c ∷ cs)) k.own c.operands
-        by (inl x) = all_fewer (AtHand t few n gs (c ∷ cs)) x k.own c.operands k.values
-        by (inr x) = numbers_fewer (AtHand t few n gs (c ∷ cs)) k.own c.operands x k.values
+    active_fewer gs given cs c k l (inr x) = record {
+      sig = k.sig;
+      own = as_numbers k.own;
+      scope = k.scope;
+      base = k.base;
+      frame = k.frame;
+      values = numbered (AtHand t few n gs (c ∷ cs)) k.own c.operands k.values;
+      this = this_fewer (AtHand t few n (others gs) cs) l k.sig k.sig.this c.this k.this;
+      ok = renumber t k.sig k.base k.scope c.control x given k.own k.ok;
+      ends = k.ends;
+    }
 
     waits_fewer : (gs : List Sig) (cs : List Active) → Lasts t few numbers (AtHand t few n gs cs) → KnowsWaits t few n gs cs → KnowsWaits t less n gs cs
     waits_fewer gs [] l h = tt
@@ -173,6 +222,7 @@ module _ (t : Table) (few : Few) (numbers : Ty → ℕ → Bool) where
       frames = frames_fewer k.sigs x.frames (x.run ∷ x.callers) l k.frames;
       run = active_fewer k.sigs [] x.callers x.run k.run (older k.sigs x.run x.callers l) (inl l);
       callers = waits_fewer (others k.sigs) x.callers (older k.sigs x.run x.callers l) k.callers;
+      claim = tt;
     }
 
     -- an execution that has not begun
@@ -245,6 +295,7 @@ module _ (t : Table) (few : Few) (numbers : Ty → ℕ → Bool) where
         ends = k.run.ends;
       };
       callers = no_waits (others k.sigs) x.callers l.callers;
+      claim = tt;
     }
 
     by_fewer : (g : Stage) (x : Execution (List Todo) Value) → KnowsBy t few n g x → HandLasts t few numbers g n x → KnowsBy t less n g x

@@ -14,11 +14,12 @@ use Rattle.uc_typing.specs.Pieces.{Ok}
 use Rattle.uc_typing.specs.States.{Is, IsObject, IsThis, Values, Bound, Framed, Active_is, Waits, Rests, RestsBy, MaybeRests, Parked, Inhand, Typed, ReadsVariable, ReadsPlace, Sound}
 use Rattle.uc_life_laws.specs.Things.{Few, itself, Variables, Known}
 use Rattle.uc_life_laws.specs.LifeStates.{SlotBy, ParkedBy, HandBy, LifeState}
-use Rattle.uc_life_laws.specs.Knowing.{AtHand, KnownAll, KnownParams, KnownFrames, KnownThis, Knows, KnowsWaits, KnowsEx, KnowsBy, KnowsSlot, KnowsState, Here, FindsExpr, Finds}
+use Rattle.uc_life_laws.specs.Knowing.{Anything, AtHand, KnownAll, KnownParams, KnownFrames, KnownThis, Knows, KnowsWaits, KnowsEx, KnowsBy, KnowsSlot, KnowsState, Here, FindsExpr, Finds}
 use Rattle.uc_life_laws.specs.Following.{LawFollowing}
 use Rattle.uc_life_laws.proofs.Parked.{Ex}
 use Rattle.uc_life_laws.proofs.Knowns.{known_is, newest}
 use Rattle.uc_life_laws.proofs.Reading as reading
+use Rattle.uc_life_laws.proofs.Parking.{anything_kept}
 use Rattle.uc_life_laws.proofs.Going.{With}
 use Rattle.uc_life_laws.proofs.Evaluating as evaluating
 
@@ -128,10 +129,10 @@ module _ (t : Table) (few : Few) where
         let same : y.0 ≡ c = cc in
         let same_ty : b ≡ a = cell_same b a (y.3 ∙ (ap (λ d. t.fields d i) same ∙ sym e)) in
         let placed : IsPlaced t (t.fields y.0 i) = subst (IsPlaced t) y.3 tt in
-        let to = evaluating.to t few source sound s st x.sigs x.run.sig x.run.base x.run.scope x.frames x.run.frame x.run.this x.callers x.env x.run.ends (pc.Eval (OfObject (GetOwn k i)) ∷ todo) q in
-        let from = evaluating.from t few source sound s st x.sigs x.run.sig x.run.base x.run.scope x.frames x.run.frame x.run.this x.callers x.env x.run.ends (pc.Eval (OfObject (GetOwn k i)) ∷ todo) q in
-        let place = subst (λ d. Known t few s.env.exec (With t few s x.sigs todo) d (further (FieldAt k i) s.run.this)) (sym y.3) (evaluating.own_field t few source sound s st x.sigs x.run.sig x.run.base x.run.scope x.frames x.run.frame x.run.this x.callers x.env x.run.ends todo y.0 k i y.1 y.2 placed) in
-        subst (λ d. Is t d (loaded (further (FieldAt k i) s.run.this) s.env)) same_ty (known_is t few s.env.exec (With t few s x.sigs todo) b (loaded (further (FieldAt k i) s.run.this) s.env) (evaluating.read_at t few source sound s st x.sigs x.run.sig x.run.base x.run.scope x.frames x.run.frame x.run.this x.callers x.env x.run.ends todo to from b (further (FieldAt k i) s.run.this) place (f b y)))
+        let to = evaluating.to t few Anything anything_kept source sound s st x.sigs x.run.sig x.run.base x.run.scope x.frames x.run.frame x.run.this x.callers x.env x.run.ends (pc.Eval (OfObject (GetOwn k i)) ∷ todo) q in
+        let from = evaluating.from t few Anything anything_kept source sound s st x.sigs x.run.sig x.run.base x.run.scope x.frames x.run.frame x.run.this x.callers x.env x.run.ends (pc.Eval (OfObject (GetOwn k i)) ∷ todo) q in
+        let place = subst (λ d. Known t few s.env.exec (With t few s x.sigs todo) d (further (FieldAt k i) s.run.this)) (sym y.3) (evaluating.own_field t few Anything anything_kept source sound s st x.sigs x.run.sig x.run.base x.run.scope x.frames x.run.frame x.run.this x.callers x.env x.run.ends todo y.0 k i y.1 y.2 placed) in
+        subst (λ d. Is t d (loaded (further (FieldAt k i) s.run.this) s.env)) same_ty (known_is t few s.env.exec (With t few s x.sigs todo) b (loaded (further (FieldAt k i) s.run.this) s.env) (evaluating.read_at t few Anything anything_kept source sound s st x.sigs x.run.sig x.run.base x.run.scope x.frames x.run.frame x.run.this x.callers x.env x.run.ends todo to from b (further (FieldAt k i) s.run.this) place (f b y)))
 
     of_own : (e : Expr) (todo : List Todo) (own : List Ty) → s.run.control ≡ pc.Eval e ∷ todo → ((a : Ty) → Yields t x.run.sig x.run.scope e a → FindsExpr t few x.sigs x.run.sig x.run.scope s e a) → (b : Ty) → Yields t x.run.sig x.run.scope e b → ReadsPlace t x.run.sig s (pc.Eval e ∷ todo) own
     of_own (OfObject (GetOwn k i)) todo own q f b y = λ r c a n e. of_field k i todo q f b y c a n e

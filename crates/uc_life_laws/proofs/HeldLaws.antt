@@ -38,6 +38,7 @@ module _ (source : Source) (w : Seat) (ps : List Placed) (n : Exec) where
 
     in_list : (e : ℕ) (R : Type 0) (todo : List Todo) → (R → Ends ps (stacked older)) → HeldIn source w ps n f this e older R todo → Ends ps (placed f this todo (stacked older))
     in_list e R [] g h = g h
+    in_list e R (piece.CountNow m ∷ (piece.FillNow k b d ∷ todo)) g h = in_list e R todo g h
     in_list e R (p ∷ todo) g h =
         more_put ps (piece.sort p) f this (placed f this todo (stacked older)) (by_mark e (piece.sort p) todo (HeldIn source w ps n f this e older R todo) (in_list e R todo g) h)
 

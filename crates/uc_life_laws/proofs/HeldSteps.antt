@@ -62,6 +62,7 @@ module _ (source : Source) (seats : Seating) (up : Exec → Bool) (H : Exec → 
 
     pub further_in : (x : Exec) (todo : List Todo) → rest x → In x todo
     further_in x [] h = h
+    further_in x (piece.CountNow k ∷ (piece.FillNow i b d ∷ todo)) h = further_in x todo h
     further_in x (p ∷ todo) h = more_by x (piece.sort p) todo (In x todo) (further_in x todo h)
 
     -- nothing behind the end of a main holds any
@@ -268,7 +269,7 @@ module _ (source : Source) (seats : Seating) (up : Exec → Bool) (H : Exec → 
     stmt (src.Block line body) todo h = go _ _ h
     stmt (src.Whole line body) todo h = go _ _ h
     stmt (src.Evaluate line e) todo h = go _ _ (h)
-    stmt (src.Fill line m b d) todo h = go _ _ (λ x u p q. inr (h x u p q))
+    stmt (src.Fill line m b d) todo h = go _ _ h
     stmt (src.Return line None) todo h = go _ _ h
     stmt (src.Return line (Some e)) todo h = go _ _ h
     stmt (src.OfEvents a) todo h = event_step a todo h

@@ -72,6 +72,7 @@ module _ (source : Source) (seats : Seating) (up : Exec → Bool) (s : State) wh
 
   recount : (x : Exec) (e : ℕ) (todo : List Todo) → Uncounted x todo → HeldIn source (seats.seat x) (seats.before x) s.env.exec s.run.frame s.run.this e s.callers (Held source (seats.seat x) (seats.before x) s.env.exec s.callers) todo
   recount x e [] h = h
+  recount x e (piece.CountNow m ∷ (piece.FillNow k b d ∷ todo)) h = recount x e todo h
   recount x e (p ∷ todo) h = recount_by x e (piece.sort p) todo (Uncounted x todo) _ (recount x e todo) h
 
   -- a mark holds, or what is behind it
@@ -86,6 +87,10 @@ module _ (source : Source) (seats : Seating) (up : Exec → Bool) (s : State) wh
   split x (piece.IsGuard y) todo R h = inr h
   split x piece.IsFinish todo R h = inr h
   split x piece.IsFinishCoroutine todo R h = inr h
+
+  split_in : (x : Exec) (p : Todo) (todo : List Todo) → Behind x (p ∷ todo) → HoldsNow source seats up s x (piece.sort p) todo ⊎ Behind x todo
+  split_in x (piece.CountNow m) (piece.FillNow k b d ∷ todo) h = inr (inr h)
+  split_in x p todo h = split x (piece.sort p) todo (Behind x todo) h
 
   -- a mark that counts holds, or another one
   count_by : (x : Exec) (k : Sort) (todo : List Todo) (R C U : Type 0) → (R → C ⊎ U) → HeldBy source (seats.seat x) (seats.before x) s.env.exec s.run.frame s.run.this s.run.elements k todo s.callers R → OfCounted source seats up s x k todo C ⊎ UncountedBy x k todo U
@@ -106,6 +111,7 @@ module _ (source : Source) (seats : Seating) (up : Exec → Bool) (s : State) wh
 
   counted : (x : Exec) (todo : List Todo) → Behind x todo → HoldsCounted source seats up s x todo ⊎ Uncounted x todo
   counted x [] h = inr h
+  counted x (piece.CountNow m ∷ (piece.FillNow k b d ∷ todo)) h = counted x todo h
   counted x (p ∷ todo) h = count_by x (piece.sort p) todo (Behind x todo) (HoldsCounted source seats up s x todo) (Uncounted x todo) (counted x todo) h
 
   -- what a step takes away leads on, or what it keeps holds
@@ -115,17 +121,19 @@ module _ (source : Source) (seats : Seating) (up : Exec → Bool) (s : State) wh
   parted (piece.Part c ∷ todo) o x w h = ⊎_elim (λ k. inl (o x w k)) (λ r. inr r) h
   parted (piece.FillNow m b d ∷ todo) o x w h = ⊎_elim (λ k. inl (o x w k)) (λ r. inr r) h
   parted (piece.Sweep d ∷ todo) o x w h = ⊎_elim (λ k. inl (o.0 x w k)) (λ r. ⊎_elim (λ k. inl (o.1 x w k)) (λ u. inr u) (counted x todo r)) h
+  parted (piece.CountNow m ∷ (piece.FillNow k b d ∷ todo)) o x w h = ⊎_elim (λ y. inl (o x w y)) (λ u. inr u) (counted x todo h)
   parted (piece.CountNow m ∷ todo) o x w h = ⊎_elim (λ k. inl (o x w k)) (λ u. inr u) (counted x todo h)
   parted (piece.MoreNow ∷ todo) o x w h = ⊎_elim (λ k. inl (o x w k)) (λ u. inr u) (counted x todo h)
   parted (piece.Unwind ∷ []) o x w h = inr h
-  parted (piece.Unwind ∷ (p ∷ todo)) o x w h = ⊎_elim (λ k. inl (o x w k)) (λ r. inr r) (split x (piece.sort p) todo (Behind x todo) h)
+  parted (piece.Unwind ∷ (p ∷ todo)) o x w h = ⊎_elim (λ k. inl (o x w k)) (λ r. inr r) (split_in x p todo h)
   parted (piece.Exit way ∷ []) o x w h = inr h
-  parted (piece.Exit way ∷ (p ∷ todo)) o x w h = ⊎_elim (λ k. inl (o x w k)) (λ r. inr r) (split x (piece.sort p) todo (Behind x todo) h)
+  parted (piece.Exit way ∷ (p ∷ todo)) o x w h = ⊎_elim (λ k. inl (o x w k)) (λ r. inr r) (split_in x p todo h)
   parted (p ∷ todo) o x w h = inr h
 
   -- behind the end of a main that is left
-  no_main : (x : Exec) (k : Sort) (todo : List Todo) (R : Type 0) → (NoMain k → ⊥) → HeldBy source (seats.seat x) (seats.before x) s.env.exec s.run.frame s.run.this s.run.elements k todo s.callers R → R
-  no_main x piece.IsFinishCoroutine todo R f h = h
+  no_main : (x : Exec) (k : Sort) (todo : List Todo) (R : Type 0) → (NoMain k → ⊥) → HoldsNow source seats up s x k todo ⊎ R → R
+  no_main x piece.IsFinishCoroutine todo R f (inl h) = absurd h
+  no_main x piece.IsFinishCoroutine todo R f (inr h) = h
   no_main x k todo R f h = absurd (f tt)
 
   module _ (st : HeldState source seats up s) where
@@ -177,10 +185,10 @@ module _ (source : Source) (seats : Seating) (up : Exec → Bool) (s : State) wh
     acts (piece.ElementNow m k) todo e o h = steps.element source seats up H s st.env old k _ todo _ _ h
     acts piece.NegateNow todo e o h = steps.outcome source seats up H s st.env old _ todo _ h
     acts (piece.OperateNow op) todo e o h = steps.outcome source seats up H s st.env old _ todo _ h
-    acts piece.StoreNow todo e o h = steps.go_in source seats up H s st.env old _ _ _ (kept.written_keeps source seats up _ _ s.env st.env) h
-    acts piece.KeepNow todo e o h = steps.go_in source seats up H s st.env old _ _ _ (kept.written_keeps source seats up _ _ s.env st.env) h
+    acts piece.StoreNow todo e o h = steps.go_in source seats up H s st.env old _ _ _ (kept.written_keeps source seats up (top (piece.below s.run.operands)) (piece.Number (number (top s.run.operands))) s.env st.env) h
+    acts piece.KeepNow todo e o h = steps.go_in source seats up H s st.env old _ _ _ (kept.written_keeps source seats up (top (piece.below s.run.operands)) (piece.Number (number (top s.run.operands))) s.env st.env) h
     acts (piece.SetNow k) todo e o h = steps.go_in source seats up H s st.env old _ _ _ (kept.written_keeps source seats up (piece.variable_at k s) (piece.Number (number (top s.run.operands))) s.env st.env) h
-    acts piece.BindNow todo e o h = steps.go_in source seats up H s st.env old _ _ _ (kept.written_keeps source seats up _ _ s.env st.env) h
+    acts piece.BindNow todo e o h = steps.go_in source seats up H s st.env old _ _ _ (kept.written_keeps source seats up (top (piece.below s.run.operands)) (top s.run.operands) s.env st.env) h
     acts (piece.Arguments src.NoExprs) todo e o h = go _ _ h
     acts (piece.Arguments (src.MoreExprs a es)) todo e o h = go _ _ h
     acts (piece.CallNow r) todo e o h = steps.call source seats up H s st.env old (slice_get source.routines r) todo h
@@ -213,7 +221,7 @@ module _ (source : Source) (seats : Seating) (up : Exec → Bool) (s : State) wh
     acts (piece.Clean c) todo e o h = go _ _ (steps.cleans source seats up H s.env.exec s.run.frame s.run.this s.run.elements s.callers (λ x. Held source (seats.seat x) (seats.before x) s.env.exec s.callers) c todo h)
     acts (piece.Sweep a) todo e o h = swept s.run.elements a todo h
     acts piece.Unwind [] e o h = steps.leaves source seats up H s st.env old s.callers h
-    acts piece.Unwind (p ∷ ps) e o h = steps.unwinds source seats up H s st.env old p ps (λ f. at_full _ _ (λ x u q. no_main x (piece.sort p) ps (Behind x ps) f (full (piece.Unwind ∷ (p ∷ ps)) e f x u q))) h
+    acts piece.Unwind (p ∷ ps) e o h = steps.unwinds source seats up H s st.env old p ps (λ f. at_full _ _ (λ x u q. no_main x (piece.sort p) ps (Behind x ps) f (split_in x p ps (full (piece.Unwind ∷ (p ∷ ps)) e f x u q)))) h
     acts piece.ThrowNow todo e o h = steps.throws source seats up H s st.env old (raising.event_in s.run.operands) todo h
     acts piece.RaiseNow todo e o h = steps.raises source seats up H s st.env old (raising.event_in s.run.operands) todo h
     acts (piece.SetUpNow r) todo e o h = steps.set_up source seats up H s st.env old (slice_get source.routines r) todo o h
@@ -241,7 +249,7 @@ module _ (source : Source) (seats : Seating) (up : Exec → Bool) (s : State) wh
     acts (piece.AcceptNow site m) todo e o h = steps.accept_by source seats up H s st.env old (monitors.mask_of (take_operands piece.Nothing m s.run.operands [])) (monitors.this_object s) site todo (drop m s.run.operands) h
     acts piece.FailedNow todo e o h = steps.failed source seats up H s st.env old _ todo _ h
     acts (piece.ChooseNow cs) todo e o h = go _ _ (steps.branch source seats up H s.env.exec s.run.frame s.run.this s.run.elements s.callers (λ x. Held source (seats.seat x) (seats.before x) s.env.exec s.callers) _ cs todo h)
-    acts piece.RaiseAtNow todo e o h = steps.raise_at source seats up H s st.env old _ _ todo _ h
+    acts piece.RaiseAtNow todo e o h = steps.raise_at source seats up H s st.env old (top s.run.operands) (raising.event_in (piece.below s.run.operands)) todo (drop 4 s.run.operands) h
     acts (piece.EnableNow events cell) todo e o h = steps.enables source seats up H s st.env old _ cell todo h
     acts (piece.DisableNow events cell) todo e o h = steps.enables source seats up H s st.env old _ cell todo h
     acts (piece.RestoreNow cell) todo e o h = steps.go_in source seats up H s st.env old _ _ _ (steps.same source seats up H s st.env old refl refl refl refl) h

@@ -53,8 +53,9 @@ use Rattle.uc_life_laws.specs.KnownRuns.{PassesBelow, Meets}
 use Rattle.uc_life_laws.proofs.Laying.{laid_out}
 use Rattle.uc_life_laws.proofs.LifeWorlds.{stack_told}
 use Rattle.uc_life_laws.proofs.NewNumbers.{objects_grow, clusters_grow, processors_grow}
-use Rattle.uc_life_laws.proofs.KnownWorlds as worlds
-use Rattle.uc_life_laws.proofs.KnownWorlds.{PassesNow, KnownWorld, There, knows_to}
+use Rattle.uc_life_laws.proofs.WorldsBy as by
+use Rattle.uc_life_laws.proofs.WorldsBy.{PassesNow}
+use Rattle.uc_life_laws.proofs.KnownWorlds.{keeps_known}
 use Rattle.uc_life_laws.specs.Fewer.{KeepsOthers, Lasts, HandLasts, ExLasts, RunLasts, TaskLasts}
 use Rattle.uc_life_laws.specs.Lasting.{lasting_numbers, lasting, WorldLasts, ForgetsAt, MayForget, RunForgets, RunMeetsAt, LawLasting, LawRaised}
 use Rattle.uc_life_laws.proofs.Fewer.{held_same, both_members, env_fewer, state_fewer, slot_fewer, life_fewer, life_ex_fewer}
@@ -164,7 +165,7 @@ module _ (t : Table) (few : Few) (j : Journal) (a : List Entry) where
     told_fewer q o h = tt
 
     module _ (sound : Sound t source) (main : IsTask t source.main) (Z : ℕ → ℕ → Type 0) (laid : IsLaidOut Z t) (in_rooms : SourceIn Z source) where
-      world_fewer : (x : World) → WorldLasts t few j a x → KnownWorld t (lasting few j) source sound main Z laid in_rooms (j ++ a) x → KnownWorld t (lasting few (j ++ a)) source sound main Z laid in_rooms (j ++ a) x
+      world_fewer : (x : World) → WorldLasts t few j a x → by.KnownWorld t (lasting few j) source Z laid in_rooms (KnowsState t (lasting few j)) (KnowsSlot t (lasting few j)) (Meets t (lasting few j)) (keeps_known t (lasting few j) source sound main) (j ++ a) x → by.KnownWorld t (lasting few (j ++ a)) source Z laid in_rooms (KnowsState t (lasting few (j ++ a))) (KnowsSlot t (lasting few (j ++ a))) (Meets t (lasting few (j ++ a))) (keeps_known t (lasting few (j ++ a)) source sound main) (j ++ a) x
       world_fewer x l h = record {
         tasks = λ n ended.
             let k = h.tasks n ended in
@@ -237,11 +238,11 @@ module _ (t : Table) (few : Few) (source : Source) (sound : Sound t source) (mai
   may_forget {j} {w} (acts p n k s asked d) still h =
       forgets asked.request j (act opts source.sites input j p n k asked) _ (λ e o. none_taken j p n k asked still e o) h
 
-  pub run_lasting : {j : Journal} {w : World} (r : Runs source input opts j w) → RunFits source input opts j w r → RunMeetsAt (λ i s. Meets t (lasting few i) s) source input opts j w r → RunForgets t few source input opts j w r → is_over j ≡ false → PassesBelow few opts j → MainPasses t few (t.routine source.main).this 0 → KnownWorld t (lasting few j) source sound main Z laid in_rooms j w
+  pub run_lasting : {j : Journal} {w : World} (r : Runs source input opts j w) → RunFits source input opts j w r → RunMeetsAt (λ i s. Meets t (lasting few i) s) source input opts j w r → RunForgets t few source input opts j w r → is_over j ≡ false → PassesBelow few opts j → MainPasses t few (t.routine source.main).this 0 → by.KnownWorld t (lasting few j) source Z laid in_rooms (KnowsState t (lasting few j)) (KnowsSlot t (lasting few j)) (Meets t (lasting few j)) (keeps_known t (lasting few j) source sound main) j w
   run_lasting begun f g l still below first =
-      worlds.begin_known t (lasting few (begin opts ∷ [])) source sound main Z laid in_rooms opts (first_lasting t few opts (t.routine source.main).this first)
+      by.begin_known t (lasting few (begin opts ∷ [])) source Z laid in_rooms (KnowsState t (lasting few (begin opts ∷ []))) (KnowsSlot t (lasting few (begin opts ∷ []))) (Meets t (lasting few (begin opts ∷ []))) (keeps_known t (lasting few (begin opts ∷ [])) source sound main) opts (first_lasting t few opts (t.routine source.main).this first)
   run_lasting (more {j} {w} {a} {w' = x} r on m) f g l still below first =
-      world_fewer t few j a source sound main Z laid in_rooms x (may_forget m still l.1) (worlds.may_known t (lasting few j) source sound main Z laid in_rooms input opts range (run_rests source input opts range r f.0 on).kernel on (stacked.world_rests Z source in_rooms input opts r) (run_lasting r f.0 g.0 l.0 on (earlier few opts j a below) first) m f.1 g.1 still (now few opts j a below))
+      world_fewer t few j a source sound main Z laid in_rooms x (may_forget m still l.1) (by.may_known t (lasting few j) source Z laid in_rooms (KnowsState t (lasting few j)) (KnowsSlot t (lasting few j)) (Meets t (lasting few j)) (keeps_known t (lasting few j) source sound main) input opts range (run_rests source input opts range r f.0 on).kernel on (stacked.world_rests Z source in_rooms input opts r) (run_lasting r f.0 g.0 l.0 on (earlier few opts j a below) first) m f.1 g.1 still (now few opts j a below))
 
 pub law_lasting : LawLasting
 law_lasting p formed accepted few input opts range j w r fits on below first meets forgets = record {
@@ -249,7 +250,7 @@ law_lasting p formed accepted few input opts range j w r fits on below first mee
   homes = h.homes;
   comes = λ n s c l. (there n s c l).known;
   scopes = λ n s c l. (there n s c l).life;
-  names = λ n s c l m q u e. (subst (KnowsStep t (lasting few j) source) e (knows_to t (lasting few j) source sound main Z laid known s m (there n s c l))).0;
+  names = λ n s c l m q u e. (subst (KnowsStep t (lasting few j) source) e (by.knows_to t (lasting few j) source Z laid known (KnowsState t (lasting few j)) (KnowsSlot t (lasting few j)) (Meets t (lasting few j)) (keeps_known t (lasting few j) source sound main) s m (there n s c l))).0;
 }
   where
     t : Table
@@ -273,12 +274,12 @@ law_lasting p formed accepted few input opts range j w r fits on below first mee
     known : SourceIn Z source
     known = law_accepted p accepted
 
-    h : KnownWorld t (lasting few j) source sound main Z laid known j w
+    h : by.KnownWorld t (lasting few j) source Z laid known (KnowsState t (lasting few j)) (KnowsSlot t (lasting few j)) (Meets t (lasting few j)) (keeps_known t (lasting few j) source sound main) j w
     h = run_lasting t few source sound main Z laid known input opts range r fits meets forgets on below first
 
-    there : (n : ℕ) (s : State) (c : Comes source j w n s) → LeadsMeet (Meets t (lasting few j)) source (answered source c.given (drawn j w n)) s c.leads → There t (lasting few j) source sound main Z laid known s
+    there : (n : ℕ) (s : State) (c : Comes source j w n s) → LeadsMeet (Meets t (lasting few j)) source (answered source c.given (drawn j w n)) s c.leads → by.There t (lasting few j) source Z laid known (KnowsState t (lasting few j)) (KnowsSlot t (lasting few j)) (Meets t (lasting few j)) (keeps_known t (lasting few j) source sound main) s
     there n s c l =
-        worlds.led t (lasting few j) source sound main Z laid known c.leads l (stack_told t (lasting few j) Z laid source known c.given j w n (stacked.world_rests Z source known input opts r)) (worlds.starts t (lasting few j) source sound main Z laid known input opts range (run_rests source input opts range r fits on).kernel on h c.processor n c.given c.runs c.told)
+        by.led t (lasting few j) source Z laid known (KnowsState t (lasting few j)) (KnowsSlot t (lasting few j)) (Meets t (lasting few j)) (keeps_known t (lasting few j) source sound main) c.leads l (stack_told t (lasting few j) Z laid source known c.given j w n (stacked.world_rests Z source known input opts r)) (by.starts t (lasting few j) source Z laid known (KnowsState t (lasting few j)) (KnowsSlot t (lasting few j)) (Meets t (lasting few j)) (keeps_known t (lasting few j) source sound main) input opts range (run_rests source input opts range r fits on).kernel on h c.processor n c.given c.runs c.told)
 
 pub law_raised : LawRaised
 law_raised p formed accepted few input opts range j w r fits on below first meets forgets n s c l m o e y z u q =

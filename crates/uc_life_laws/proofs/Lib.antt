@@ -20,6 +20,8 @@ pub mod Calls
 pub mod Evaluating
 pub mod Following
 pub mod Acting
+pub mod KindsLemmas
+pub mod MakingsLemmas
 pub mod Opened
 pub mod Scopes
 pub mod Clearing
@@ -27,7 +29,9 @@ pub mod Laying
 pub mod LifeWorlds
 pub mod Spawning
 pub mod NewNumbers
+pub mod WorldsBy
 pub mod KnownWorlds
+pub mod MakingsRuns
 pub mod NamedAsks
 pub mod OpenedRuns
 pub mod Endings
@@ -51,6 +55,7 @@ pub mod HeldWalk
 pub mod Outermost
 pub mod HeldLaws
 pub mod WaysCalls
+pub mod WaysEnds
 pub mod Ways
 pub mod Completing
 pub mod NextNumbers

@@ -13,9 +13,9 @@ use Rattle.uc_machine.specs.Pieces.{Value, Todo, Sort, Active, State, Step, at}
 use Rattle.uc_life_laws.specs.Placed.{placed, stacked, Ends}
 use Rattle.uc_life_laws.specs.Destroying.{CleansUp, EndsBelow, EndsElement}
 use Rattle.uc_life_laws.specs.Held.{Seating, IsOuter, HeldBy, HeldIn, Held, Onwards, Soon, SoonHere, IsOwn, LeadsSoon, HoldsNow, Takes, OfCounted, HoldsCounted, TakesAt}
-use Rattle.uc_life_laws.specs.Ways.{calls_plainly, ForgetsBy, UnwindsBy, ExitsBy, LeavesAt, LawWays}
+use Rattle.uc_life_laws.specs.Ways.{ReadsLast, ForgetsBy, UnwindsBy, ExitsBy, LeavesAt, LawWays}
 use Rattle.uc_life_laws.proofs.HeldLaws.{outer_ends}
-use Rattle.uc_life_laws.proofs.WaysCalls as calls
+use Rattle.uc_life_laws.proofs.WaysEnds as ends
 
 module _ (source : Source) (seats : Seating) (up : Exec → Bool) (s : State) where
   module _ (x : Exec) where
@@ -32,20 +32,13 @@ module _ (source : Source) (seats : Seating) (up : Exec → Bool) (s : State) wh
     outside : (k : Sort) (todo : List Todo) → IsOuter source (seats.seat x) (seats.before x) s.env.exec s.run.frame s.run.this k todo s.callers → Outer todo
     outside k todo h = outer_ends source (seats.seat x) (seats.before x) s.env.exec s.run.frame s.run.this s.callers k todo h
 
-    no_both : (b : Bool) → b ≡ true → b ≡ false → ⊥
-    no_both b t f = absurd (cc)
-
     -- what is done at a clean-up, with these operands, before the rest
-    cleaned : IsOwn source seats up s x → (k : Sort) (c : CleanUp) (todo rest : List Todo) (vs : List Value) → quiet.quiet source s ≡ piece.Goes (at (piece.clean_todo c rest) vs s) → CleansUp source (seats.seat x) s.env.exec s.run.frame s.run.this c → Outer rest → ForgetsBy source seats up k c todo s → HoldsNow source seats up s x k todo → LeadsSoon source seats up s x
-    cleaned own k (src.Destroys e) todo rest vs q h o g now = by (calls_plainly e) refl
-      where
-        by : (b : Bool) → calls_plainly e ≡ b → LeadsSoon source seats up s x
-        by true i = subst Leads (sym q) (refl, (0, calls.ends_at source (seats.seat x) (seats.before x) s.env.exec s.run s.callers (piece.DropNow ∷ rest) o e vs (no_both (calls_plainly e) i) h))
-        by false i = g i x own now
-    cleaned own k (src.DestroysAll m e) todo rest vs q h o g now = subst Leads (sym q) (refl, (0, (1, (tt, o, λ v p. (p, inl (h, o))))))
-    cleaned own k src.Forgets todo rest vs q h o g now = absurd (g x own h)
-    cleaned own k src.Ends todo rest vs q h o g now = absurd (g x own h)
-    cleaned own k c todo rest vs q h o g now = absurd h
+    cleaned : IsOwn source seats up s x → (c : CleanUp) (rest : List Todo) (vs : List Value) → quiet.quiet source s ≡ piece.Goes (at (piece.clean_todo c rest) vs s) → CleansUp source (seats.seat x) s.env.exec s.run.frame s.run.this c → Outer rest → ForgetsBy source seats up c s → LeadsSoon source seats up s x
+    cleaned own (src.Destroys e) rest vs q h o g = subst Leads (sym q) (refl, ends.ends_at source seats up x s (piece.DropNow ∷ rest) o e vs h (g x own))
+    cleaned own (src.DestroysAll m e) rest vs q h o g = subst Leads (sym q) (refl, (0, (1, (tt, o, λ v p. (p, inl (h, o))))))
+    cleaned own src.Forgets rest vs q h o g = absurd (g x own h)
+    cleaned own src.Ends rest vs q h o g = absurd (g x own h)
+    cleaned own c rest vs q h o g = absurd h
 
     -- behind an event
     scoped : (c : CleanUp) (b : Bool) (todo : List Todo) → CleansUp source (seats.seat x) s.env.exec s.run.frame s.run.this c → raising.scope_left c b todo s ≡ piece.Goes (at (piece.clean_todo c (piece.Unwind ∷ todo)) [] s)
@@ -55,11 +48,11 @@ module _ (source : Source) (seats : Seating) (up : Exec → Bool) (s : State) wh
     scoped src.Ends b todo h = refl
     scoped c b todo h = absurd h
 
-    unwound : IsOwn source seats up s x → (p : Todo) (todo : List Todo) → s.run.control ≡ piece.Unwind ∷ (p ∷ todo) → (k : Sort) → piece.sort p ≡ k → UnwindsBy source seats up k todo s → HoldsNow source seats up s x k todo → LeadsSoon source seats up s x
+    unwound : IsOwn source seats up s x → (p : Todo) (todo : List Todo) → s.run.control ≡ piece.Unwind ∷ (p ∷ todo) → (k : Sort) → piece.sort p ≡ k → UnwindsBy source seats up k s → HoldsNow source seats up s x k todo → LeadsSoon source seats up s x
     unwound own p todo e (piece.IsClean c) i g h =
-        cleaned own (piece.IsClean c) c todo (piece.Unwind ∷ todo) [] (ap (λ l. quiet.act_todo source l s) e ∙ (ap (λ k. raising.unwind_past k todo s) i ∙ scoped c _ todo h.0)) h.0 h.1 g h
+        cleaned own c (piece.Unwind ∷ todo) [] (ap (λ l. quiet.act_todo source l s) e ∙ (ap (λ k. raising.unwind_past k todo s) i ∙ scoped c _ todo h.0)) h.0 h.1 g
     unwound own p todo e (piece.IsPart c) i g h =
-        cleaned own (piece.IsPart c) c todo (piece.Unwind ∷ todo) [] (ap (λ l. quiet.act_todo source l s) e ∙ ap (λ k. raising.unwind_past k todo s) i) h.0 (outside (piece.IsPart c) todo h.1) g h
+        cleaned own c (piece.Unwind ∷ todo) [] (ap (λ l. quiet.act_todo source l s) e ∙ ap (λ k. raising.unwind_past k todo s) i) h.0 (outside (piece.IsPart c) todo h.1) g
     unwound own p todo e (piece.IsFill m b d) i g h =
         subst Leads (sym (ap (λ l. quiet.act_todo source l s) e ∙ ap (λ k. raising.unwind_past k todo s) i)) (refl, (0, (0, inl (h.0, outside (piece.IsFill m b d) todo h.1))))
     unwound own p todo e (piece.IsSweep d) i g h =
@@ -84,19 +77,19 @@ module _ (source : Source) (seats : Seating) (up : Exec → Bool) (s : State) wh
         by false i = g i x own h
 
     -- the last one that stands is destroyed
-    swept : (d : Expr) (todo : List Todo) → s.run.control ≡ piece.Sweep d ∷ todo → (calls_plainly d ≡ false → ⊥) → HoldsNow source seats up s x (piece.IsSweep d) todo → LeadsSoon source seats up s x
-    swept d todo e plain h = subst (λ l. Leads (quiet.act_todo source l s)) (sym e) (by s.run.elements refl h.0)
+    swept : (d : Expr) (todo : List Todo) → s.run.control ≡ piece.Sweep d ∷ todo → ReadsLast source seats up x d s → HoldsNow source seats up s x (piece.IsSweep d) todo → LeadsSoon source seats up s x
+    swept d todo e g h = subst (λ l. Leads (quiet.act_todo source l s)) (sym e) (by s.run.elements refl h.0)
       where
-        last : (m j : ℕ) → j < suc m → m ≤ j → EndsElement source (seats.seat x) s.env.exec s.run.frame s.run.this j d → Now (record s.run { elements = m; control = piece.Eval d ∷ (piece.DropNow ∷ (piece.Sweep d ∷ todo)) })
-        last m j l g k =
-            let same : j ≡ m = omega (arith, l, g) in
-            calls.ends_element source (seats.seat x) (seats.before x) s.env.exec (record s.run { elements = m }) s.callers (piece.DropNow ∷ (piece.Sweep d ∷ todo)) h.1 d s.run.operands plain (subst (λ i. EndsElement source (seats.seat x) s.env.exec s.run.frame s.run.this i d) same k)
+        last : (m j : ℕ) → s.run.elements ≡ suc m → j < suc m → m ≤ j → EndsElement source (seats.seat x) s.env.exec s.run.frame s.run.this j d → SoonHere source (seats.seat x) (seats.before x) s.env.exec (at (piece.Eval d ∷ (piece.DropNow ∷ (piece.Sweep d ∷ todo))) s.run.operands (quiet.with_elements m s))
+        last m j i l f k =
+            let same : j ≡ m = omega (arith, l, f) in
+            ends.ends_element source seats up x s (piece.DropNow ∷ (piece.Sweep d ∷ todo)) h.1 d m i (subst (λ i. EndsElement source (seats.seat x) s.env.exec s.run.frame s.run.this i d) same k) g
 
         by : (m : ℕ) → s.run.elements ≡ m → EndsBelow source (seats.seat x) s.env.exec s.run.frame s.run.this s.run.elements d → Leads (quiet.sweep_step m d todo s)
         by zero i k = let l : k.0 < s.run.elements = k.1 in absurd (omega (arith, l, i))
         by (suc m) i k =
             let l : k.0 < suc m = subst (λ c. k.0 < c) i k.1 in
-            (refl, (0, ⊎_elim (λ j. (0, inl ((k.0, j, k.2), h.1))) (λ j. last m k.0 l j k.2) (cases_lt k.0 m)))
+            (refl, ⊎_elim (λ j. (0, (0, inl ((k.0, j, k.2), h.1)))) (λ j. last m k.0 i l j k.2) (cases_lt k.0 m))
 
     -- one more stands
     more_by : (e : ℕ) → ((j : ℕ) → j < s.run.elements → j < e) → (k : Sort) (todo : List Todo) (R T : Type 0) → (R → T) → OfCounted source seats up s x k todo R → HeldBy source (seats.seat x) (seats.before x) s.env.exec s.run.frame s.run.this e k todo s.callers T
@@ -115,19 +108,16 @@ module _ (source : Source) (seats : Seating) (up : Exec → Bool) (s : State) wh
 
     more_in : (e : ℕ) → ((j : ℕ) → j < s.run.elements → j < e) → (todo : List Todo) → HoldsCounted source seats up s x todo → HeldIn source (seats.seat x) (seats.before x) s.env.exec s.run.frame s.run.this e s.callers (Held source (seats.seat x) (seats.before x) s.env.exec s.callers) todo
     more_in e f [] h = absurd h
+    more_in e f (piece.CountNow m ∷ (piece.FillNow k b d ∷ todo)) h = more_in e f todo h
     more_in e f (p ∷ todo) h = more_by e f (piece.sort p) todo (HoldsCounted source seats up s x todo) _ (more_in e f todo) h
 
   still_less : (e : ℕ) → e < MOST_ELEMENTS → (j : ℕ) → j < e → j < min (e + 1) MOST_ELEMENTS
   still_less e l j k = omega (arith, l, k)
 
   taken : (l : List Todo) → s.run.control ≡ l → LeavesAt source seats up l s → TakesAt source seats up l s
-  taken (piece.Clean c ∷ todo) e g = λ x own h. cleaned x own (piece.IsClean c) c todo todo s.run.operands (ap (λ l. quiet.act_todo source l s) e) h.0 h.1 g h
+  taken (piece.Clean c ∷ todo) e g = λ x own h. cleaned x own c todo s.run.operands (ap (λ l. quiet.act_todo source l s) e) h.0 h.1 g
   taken (piece.FillNow m b d ∷ todo) e g = λ x own h. filled x m b d todo e own g h
-  taken (piece.Sweep d ∷ todo) e g = (λ x own h. sweeps x own h (calls_plainly d) refl, g.1)
-    where
-      sweeps : (x : Exec) → IsOwn source seats up s x → HoldsNow source seats up s x (piece.IsSweep d) todo → (b : Bool) → calls_plainly d ≡ b → LeadsSoon source seats up s x
-      sweeps x own h true i = swept x d todo e (no_both x (calls_plainly d) i) h
-      sweeps x own h false i = g.0 i x own h
+  taken (piece.Sweep d ∷ todo) e g = (λ x own h. swept x d todo e (g.0 x own) h, g.1)
   taken (piece.MoreNow ∷ todo) e g = λ x own h. subst (λ l. Leads x (quiet.act_todo source l s)) (sym e) (refl, (0, (0, more_in x (min (s.run.elements + 1) MOST_ELEMENTS) (still_less s.run.elements g) todo h)))
   taken (piece.Unwind ∷ (p ∷ todo)) e g = λ x own h. unwound x own p todo e (piece.sort p) refl g h
   taken (piece.Exit way ∷ (p ∷ todo)) e g = λ x own h. exited x way p todo e own (piece.sort p) refl g h

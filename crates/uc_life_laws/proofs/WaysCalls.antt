@@ -13,13 +13,12 @@ use Rattle.uc_machine.specs.Quiet as quiet
 use Rattle.uc_machine.specs.Pieces as piece
 use Rattle.uc_machine.specs.Pieces.{Slot, FieldAt, At, Value, Number, Place, Todo, Active, State, Env, Step, Goes, top, further, index_in}
 use Rattle.uc_life_laws.specs.Placed.{Placed, placed, stacked, Ends, behind}
-use Rattle.uc_life_laws.specs.Destroying.{IsScoped, calling_at, Destroying, Seat, IsLast, itself, field, element, mutex, AtPlace, EndsAt, AtElement, EndsElement, CleansUp}
-use Rattle.uc_life_laws.specs.Ways.{calls_plainly}
+use Rattle.uc_life_laws.specs.Destroying.{IsScoped, calling_at, Destroying, Seat, IsLast, itself, field, element, mutex, mutexes, AtPlace, EndsAt, AtElement, EndsElement, CleansUp}
 use Rattle.uc_life_laws.specs.Held.{Onwards, SoonIn, Soon}
 
 module _ (source : Source) (w : Seat) (ps : List Placed) (n : Exec) where
   -- how many scopes open up to this one
-  abbrev depth : (c : CleanUp) (ss : Stmts) → IsScoped c ss → ℕ
+  abbrev pub depth : (c : CleanUp) (ss : Stmts) → IsScoped c ss → ℕ
   depth c (src.Scoped d rest) (inl e) = 1
   depth c (src.Scoped d rest) (inr h) = suc (depth c rest h)
   depth c ss h = absurd h
@@ -52,11 +51,12 @@ module _ (source : Source) (w : Seat) (ps : List Placed) (n : Exec) where
   last_cleans src.Ends l f = refl
   last_cleans c l f = absurd l
 
-  starts : {r : ℕ} {v : Value} → Destroying source w r v → Start r v
+  pub starts : {r : ℕ} {v : Value} → Destroying source w r v → Start r v
   starts (itself x e p c l h) = record { routine = x; known = e; params = p; clean = c; scoped = h; cleans = last_cleans c l }
   starts {r} {v} (mutex {d = d} x e p h i m b s q k) = record { routine = x; known = e; params = p; clean = src.Destroys (src.OfObject (src.EndOn d b (src.Load (src.OfObject (src.OwnField h i))))); scoped = s; cleans = λ f. (m, q, k) }
   starts {r} {v} (field {d = d} x e p h i b s k) = record { routine = x; known = e; params = p; clean = src.Destroys (calling_at b d (src.OfObject (src.OwnField h i))); scoped = s; cleans = λ f. at_written b d f v h i k }
   starts {r} {v} (element {d = d} x e p h i m j z b l s k) = record { routine = x; known = e; params = p; clean = src.DestroysAll m (calling_at b d (src.Element m z (src.OfObject (src.OwnField h i)) (src.OfObject src.Counted))); scoped = s; cleans = λ f. (j, l, each_written b d f v h i m j z l k) }
+  starts {r} {v} (mutexes {d = d} x e p h i m j o z b l s q k) = record { routine = x; known = e; params = p; clean = src.DestroysAll m (src.OfObject (src.EndOn d b (src.Load (src.Element m z (src.OfObject (src.OwnField h i)) (src.OfObject src.Counted))))); scoped = s; cleans = λ f. (j, l, (l, (o, q, k))) }
 
   no_marks : (p : Purpose) (line f : ℕ) (v : Value) (qs : List Placed) → Ends ps qs → Ends ps (placed f v (quiet.behind_body p line) qs)
   no_marks src.TaskMain line f v qs h = h
@@ -80,14 +80,14 @@ module _ (source : Source) (w : Seat) (ps : List Placed) (n : Exec) where
           (q, subst (λ m. SoonIn source w ps n (depth h.clean h.routine.body h.scoped) (exec.begun (quiet.routine_todo h.routine) (top (drop m (v ∷ vs))) (length e.frames) piece.Nothing counts) (record b { control = todo; operands = piece.below (drop h.routine.params (v ∷ vs)) } ∷ cs)) (sym h.params) (opens h.clean h.routine.body h.scoped (exec.begun (quiet.routine_todo h.routine) v (length e.frames) piece.Nothing counts) (record b { control = todo; operands = piece.below (drop h.routine.params (v ∷ vs)) } ∷ cs) (quiet.behind_body h.routine.purpose h.routine.line) (h.cleans (length e.frames)) (no_marks h.routine.purpose h.routine.line (length e.frames) v _ o)))
 
       -- it is called, one that somebody wrote or another
-      called : SoonIn source w ps n (suc (depth h.clean h.routine.body h.scoped)) (With (piece.CallOnNow r ∷ todo) (v ∷ vs)) cs
+      pub called : SoonIn source w ps n (suc (depth h.clean h.routine.body h.scoped)) (With (piece.CallOnNow r ∷ todo) (v ∷ vs)) cs
       called = (tt, o, λ e q. subst (λ x. Onwards source w ps n (λ u. SoonIn source w ps n (depth h.clean h.routine.body h.scoped) u.run u.callers) (SoonIn source w ps n (depth h.clean h.routine.body h.scoped)) (quiet.call_on_step x todo (record { run = With (piece.CallOnNow r ∷ todo) (v ∷ vs); callers = cs; env = e }))) (sym h.known) (by e q (nat_lt e.links.calls CALLS)))
         where
           by : (e : Env) → e.exec ≡ n → (c : Bool) → Onwards source w ps n (λ u. SoonIn source w ps n (depth h.clean h.routine.body h.scoped) u.run u.callers) (SoonIn source w ps n (depth h.clean h.routine.body h.scoped)) (if c then quiet.begun_step h.routine (top (drop h.routine.params (v ∷ vs))) true todo (piece.below (drop h.routine.params (v ∷ vs))) (record { run = With (piece.CallOnNow r ∷ todo) (v ∷ vs); callers = cs; env = e }) else piece.fault Depth todo (v ∷ vs) (record { run = With (piece.CallOnNow r ∷ todo) (v ∷ vs); callers = cs; env = e }))
           by e q true = begins true e q
           by e q false = tt
 
-      unwritten : SoonIn source w ps n (suc (depth h.clean h.routine.body h.scoped)) (With (piece.CallUnwrittenNow r ∷ todo) (v ∷ vs)) cs
+      pub unwritten : SoonIn source w ps n (suc (depth h.clean h.routine.body h.scoped)) (With (piece.CallUnwrittenNow r ∷ todo) (v ∷ vs)) cs
       unwritten = (tt, o, λ e q. subst (λ x. Onwards source w ps n (λ u. SoonIn source w ps n (depth h.clean h.routine.body h.scoped) u.run u.callers) (SoonIn source w ps n (depth h.clean h.routine.body h.scoped)) (quiet.call_unwritten_step x todo (record { run = With (piece.CallUnwrittenNow r ∷ todo) (v ∷ vs); callers = cs; env = e }))) (sym h.known) (begins false e q))
 
     -- a variable or a field of the object at hand is found
@@ -134,15 +134,15 @@ module _ (source : Source) (w : Seat) (ps : List Placed) (n : Exec) where
     find_place : (p : Expr) (v : Value) (vs : List Value) → IsAt p v → (rest : List Todo) → Ends ps (placed b.frame b.this rest (stacked cs)) → (k : ℕ) → SoonIn source w ps n k (With rest (v ∷ vs)) cs → Soon source w ps n (With (piece.Eval p ∷ rest) vs) cs
     find_place p v vs i rest l k g = (suc k, found rest l vs p v k i g)
 
-    pub ends_at : (e : Expr) (vs : List Value) → (calls_plainly e ≡ false → ⊥) → EndsAt source w n b.frame b.this e → Soon source w ps n (With (piece.Eval e ∷ todo) vs) cs
-    ends_at (src.OfObject (src.CallOn d p src.NoExprs)) vs f h =
+    pub ends_call : (d : ℕ) (p : Expr) (vs : List Value) → AtPlace source w n b.frame b.this (Destroying source w d) p → Soon source w ps n (With (piece.Eval (src.OfObject (src.CallOn d p src.NoExprs)) ∷ todo) vs) cs
+    ends_call d p vs h =
         let x = at_place (Destroying source w d) p h in
         by_call d p vs x.0 x.2 (find_place p x.0 vs x.1)
-    ends_at (src.OfObject (src.CallUnwritten d p)) vs f h =
+
+    pub ends_unwritten : (d : ℕ) (p : Expr) (vs : List Value) → AtPlace source w n b.frame b.this (Destroying source w d) p → Soon source w ps n (With (piece.Eval (src.OfObject (src.CallUnwritten d p)) ∷ todo) vs) cs
+    ends_unwritten d p vs h =
         let x = at_place (Destroying source w d) p h in
         by_unwritten d p vs x.0 x.2 (find_place p x.0 vs x.1)
-    ends_at (src.OfObject (src.EndOn d b e)) vs f h = absurd (f refl)
-    ends_at e vs f h = absurd h
 
     -- so is one at the element that is counted
     find_element : (m : ℕ) (z : Shape) (p : Expr) (v : Value) (vs : List Value) → IsAt p v → (rest : List Todo) → Ends ps (placed b.frame b.this rest (stacked cs)) → (k : ℕ) → SoonIn source w ps n k (With rest (further (At z b.elements) v ∷ vs)) cs → Soon source w ps n (With (piece.Eval (src.Element m z p (src.OfObject src.Counted)) ∷ rest) vs) cs
@@ -155,8 +155,8 @@ module _ (source : Source) (w : Seat) (ps : List Placed) (n : Exec) where
         g (further (At z b.elements) x.0) x.2 (find_element m z p x.0 vs x.1)
     by_element d p P h vs g = absurd h
 
-    pub ends_element : (e : Expr) (vs : List Value) → (calls_plainly e ≡ false → ⊥) → EndsElement source w n b.frame b.this b.elements e → Soon source w ps n (With (piece.Eval e ∷ todo) vs) cs
-    ends_element (src.OfObject (src.CallOn d p src.NoExprs)) vs f h = by_element d p (λ p. src.OfObject (src.CallOn d p src.NoExprs)) h vs (λ v k g. by_call d p vs v k g)
-    ends_element (src.OfObject (src.CallUnwritten d p)) vs f h = by_element d p (λ p. src.OfObject (src.CallUnwritten d p)) h vs (λ v k g. by_unwritten d p vs v k g)
-    ends_element (src.OfObject (src.EndOn d b e)) vs f h = absurd (f refl)
-    ends_element e vs f h = absurd h
+    pub element_call : (d : ℕ) (p : Expr) (vs : List Value) → AtElement source w n b.frame b.this (Destroying source w d) b.elements p → Soon source w ps n (With (piece.Eval (src.OfObject (src.CallOn d p src.NoExprs)) ∷ todo) vs) cs
+    element_call d p vs h = by_element d p (λ p. src.OfObject (src.CallOn d p src.NoExprs)) h vs (λ v k g. by_call d p vs v k g)
+
+    pub element_unwritten : (d : ℕ) (p : Expr) (vs : List Value) → AtElement source w n b.frame b.this (Destroying source w d) b.elements p → Soon source w ps n (With (piece.Eval (src.OfObject (src.CallUnwritten d p)) ∷ todo) vs) cs
+    element_unwritten d p vs h = by_element d p (λ p. src.OfObject (src.CallUnwritten d p)) h vs (λ v k g. by_unwritten d p vs v k g)

@@ -28,7 +28,7 @@ pub record Seat : Type 0 where
 
 module _ (source : Source) (w : Seat) where
   -- the routine of this number, called at this value, opens the scope in which the execution of that coroutine is forgotten at last, or that task is taken
-  -- out, or one in which such a destructor is called at a field, at an element of one, or at the mutex object that is at home at a field
+  -- out, or one in which such a destructor is called at a field, at an element of one, or at the mutex object that is at home at one of these
   pub data Destroying : ℕ → Value → Type 0 where
     itself : {r : ℕ} (x : Routine) → slice_get source.routines r ≡ Some x → x.params ≡ 0 →
         (c : CleanUp) → IsLast c → IsScoped c x.body → Destroying r w.place
@@ -42,6 +42,10 @@ module _ (source : Source) (w : Seat) where
     mutex : {r d : ℕ} {v : Value} (x : Routine) → slice_get source.routines r ≡ Some x → x.params ≡ 0 →
         (h : Shape) (i o : ℕ) (written : Bool) → IsScoped (Destroys (OfObject (EndOn d written (Load (OfObject (OwnField h i)))))) x.body →
         w.home o ≡ further (FieldAt h i) v → Destroying d (Object o) → Destroying r v
+    mutexes : {r d : ℕ} {v : Value} (x : Routine) → slice_get source.routines r ≡ Some x → x.params ≡ 0 →
+        (h : Shape) (i n j o : ℕ) (k : Shape) (written : Bool) → j < n →
+        IsScoped (DestroysAll n (OfObject (EndOn d written (Load (Element n k (OfObject (OwnField h i)) (OfObject Counted)))))) x.body →
+        w.home o ≡ further (At k j) (further (FieldAt h i) v) → Destroying d (Object o) → Destroying r v
 
   -- at the mutex object that is at home at a place
   abbrev pub DestroyingAt : ℕ → Value → Type 0

@@ -6,9 +6,9 @@ use Rattle.uc_machine.specs.declared.exec.Stage.TheVariants.{Fresh, Started, End
 use Rattle.uc_machine.specs.Executions.{Execution, others}
 use Rattle.uc_machine.specs.Pieces.{Value, Number, Object, Todo, Active, State}
 use Rattle.uc_typing.specs.Typing.{Ty, Obj, Raw, Clu, Pro, Table}
-use Rattle.uc_typing.specs.Pieces.{AreNumbers}
 use Rattle.uc_life_laws.specs.Things.{Few, Around, Variables, Held}
 use Rattle.uc_life_laws.specs.LifeStates.{EnvBy, LifeState}
+use Rattle.uc_life_laws.specs.Silent.{AllSilent}
 use Rattle.uc_life_laws.specs.Knowing.{AtHand, KnowsEx, KnowsState}
 
 -- the same homes and bases with other numbers
@@ -60,10 +60,10 @@ module _ (t : Table) (few : Few) (numbers : Ty → ℕ → Bool) where
     pub scopes : ScopesLast n (x.run ∷ x.callers)
     pub hand : HandLasts x.links.stage n x
 
-  -- of the running execution, all that its waiting activations have at hand, and all that it has where it has operands that are no numbers
+  -- of the running execution, all that its waiting activations have at hand, and all that it has where the newest one does more than to come to its end
   pub record RunLasts (given : List Ty) (s : State) (x : KnowsState t few given s) : Type 0 where
     pub waiting : Lasts (AtHand t few s.env.exec (others x.sigs) s.callers)
-    pub operands : Lasts (AtHand t few s.env.exec x.sigs (s.run ∷ s.callers)) ⊎ AreNumbers x.run.own
+    pub operands : Lasts (AtHand t few s.env.exec x.sigs (s.run ∷ s.callers)) ⊎ AllSilent s.run.control
 
   -- of a task
   pub record TaskLasts (s : State) : Type 0 where

@@ -66,8 +66,10 @@ module _ (source : Source) (w : Seat) (ps : List Placed) (n : Exec) where
   HeldBy f this e (piece.IsSweep d) todo older rest = Holds f this e (piece.IsSweep d) todo older ⊎ rest
   HeldBy f this e k todo older rest = rest
 
+  -- so it is of one in a to-do list; elements that are about to be built are none yet, whatever is counted
   abbrev pub HeldIn : ℕ → Value → ℕ → List Active → Type 0 → List Todo → Type 0
   HeldIn f this e older rest [] = rest
+  HeldIn f this e older rest (piece.CountNow m ∷ (piece.FillNow k b d ∷ todo)) = HeldIn f this e older rest todo
   HeldIn f this e older rest (p ∷ todo) = HeldBy f this e (sort p) todo older (HeldIn f this e older rest todo)
 
   abbrev pub Held : List Active → Type 0
@@ -158,6 +160,7 @@ module _ (source : Source) (seats : Seating) (up : Exec → Bool) where
 
     abbrev pub HoldsCounted : Exec → List Todo → Type 0
     HoldsCounted x [] = ⊥
+    HoldsCounted x (piece.CountNow m ∷ (piece.FillNow k b d ∷ todo)) = HoldsCounted x todo
     HoldsCounted x (p ∷ todo) = OfCounted x (sort p) todo (HoldsCounted x todo)
 
     abbrev pub Recounts : List Todo → Type 0
@@ -170,6 +173,7 @@ module _ (source : Source) (seats : Seating) (up : Exec → Bool) where
   TakesAt (piece.Part c ∷ todo) s = Takes s (piece.IsPart c) todo
   TakesAt (piece.FillNow m b d ∷ todo) s = Takes s (piece.IsFill m b d) todo
   TakesAt (piece.Sweep d ∷ todo) s = Takes s (piece.IsSweep d) todo × Recounts s todo
+  TakesAt (piece.CountNow m ∷ (piece.FillNow k b d ∷ todo)) s = Recounts s todo
   TakesAt (piece.CountNow m ∷ todo) s = Recounts s todo
   TakesAt (piece.MoreNow ∷ todo) s = Recounts s todo
   TakesAt (piece.Unwind ∷ (p ∷ todo)) s = Takes s (sort p) todo

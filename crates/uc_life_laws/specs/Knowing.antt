@@ -79,17 +79,52 @@ module _ (t : Table) (few : Few) (n : Exec) where
   KnowsWaits gs [] = Unit {0}
   KnowsWaits gs (c ∷ cs) = Knows gs (Num ∷ []) cs c × KnowsWaits (others gs) cs
 
-  -- an execution that does not run, where it may be activated
-  pub record KnowsEx (x : Execution (List Todo) Value) : Type 0 where
-    pub sigs : List Sig
-    pub frames : KnownFrames sigs x.frames (x.run ∷ x.callers)
-    pub run : Knows sigs [] x.callers x.run
-    pub callers : KnowsWaits (others sigs) x.callers
+-- Of each execution that does not run something may be claimed, by the kinds of its frames. Nothing is claimed here:
+abbrev pub Anything : Exec → List Sig → Execution (List Todo) Value → Type 0
+Anything n gs x = Unit {0}
 
-  abbrev pub KnowsBy : Stage → Execution (List Todo) Value → Type 0
-  KnowsBy Fresh x = KnowsEx x
-  KnowsBy Started x = KnowsEx x
-  KnowsBy Ended x = Unit {0}
+module _ (t : Table) (few : Few) (Q : Exec → List Sig → Execution (List Todo) Value → Type 0) where
+  -- an execution that does not run, where it may be activated; of which that is claimed by the same kinds
+  pub record ClaimsEx (n : Exec) (x : Execution (List Todo) Value) : Type 0 where
+    pub sigs : List Sig
+    pub frames : KnownFrames t few n sigs x.frames (x.run ∷ x.callers)
+    pub run : Knows t few n sigs [] x.callers x.run
+    pub callers : KnowsWaits t few n (others sigs) x.callers
+    pub claim : Q n sigs x
+
+  abbrev pub ClaimsBy : Exec → Stage → Execution (List Todo) Value → Type 0
+  ClaimsBy n Fresh x = ClaimsEx n x
+  ClaimsBy n Started x = ClaimsEx n x
+  ClaimsBy n Ended x = Unit {0}
+
+  abbrev pub ClaimsSlot : Exec → Execution (List Todo) Value → Type 0
+  ClaimsSlot n x = ClaimsBy n x.links.stage x
+
+  abbrev pub ClaimsEnv : Env → Type 0
+  ClaimsEnv e = EnvBy ClaimsSlot e
+
+  -- a state that is to be given these operands
+  pub record ClaimsState (given : List Ty) (s : State) : Type 0 where
+    pub sigs : List Sig
+    pub frames : KnownFrames t few s.env.exec sigs s.env.frames (s.run ∷ s.callers)
+    pub run : Knows t few s.env.exec sigs given s.callers s.run
+    pub callers : KnowsWaits t few s.env.exec (others sigs) s.callers
+    pub env : ClaimsEnv s.env
+
+abbrev pub KnowsEx : Table → Few → Exec → Execution (List Todo) Value → Type 0
+KnowsEx t few = ClaimsEx t few Anything
+
+abbrev pub KnowsBy : Table → Few → Exec → Stage → Execution (List Todo) Value → Type 0
+KnowsBy t few = ClaimsBy t few Anything
+
+abbrev pub KnowsSlot : Table → Few → Exec → Execution (List Todo) Value → Type 0
+KnowsSlot t few = ClaimsSlot t few Anything
+
+abbrev pub KnowsEnv : Table → Few → Env → Type 0
+KnowsEnv t few = ClaimsEnv t few Anything
+
+abbrev pub KnowsState : Table → Few → List Ty → State → Type 0
+KnowsState t few = ClaimsState t few Anything
 
 -- the execution with which a task begins
 abbrev pub main_of : ℕ → Exec
@@ -101,38 +136,6 @@ HasObject t few None o = Unit {0}
 HasObject t few (Some c) o = Held t few (Base few (main_of o)) (Obj c) (Object o)
 
 module _ (t : Table) (few : Few) where
-  abbrev pub KnowsSlot : Exec → Execution (List Todo) Value → Type 0
-  KnowsSlot n x = KnowsBy t few n x.links.stage x
-
-  abbrev pub KnowsEnv : Env → Type 0
-  KnowsEnv e = EnvBy KnowsSlot e
-
-  -- a state that is to be given these operands
-  pub record KnowsState (given : List Ty) (s : State) : Type 0 where
-    pub sigs : List Sig
-    pub frames : KnownFrames t few s.env.exec sigs s.env.frames (s.run ∷ s.callers)
-    pub run : Knows t few s.env.exec sigs given s.callers s.run
-    pub callers : KnowsWaits t few s.env.exec (others sigs) s.callers
-    pub env : KnowsEnv s.env
-
-  -- one that has asked is to be given what the answer tells; what is behind an end others go on with, and behind a fault nobody
-  abbrev pub KnowsAsked : Source → Request → State → Type 0
-  KnowsAsked source (ask.Make m) s = (c : ℕ) × (t.number c ≡ m) × (t.mutex c ≡ true) ×
-      KnowsState (Raw c ∷ []) s
-  KnowsAsked source (ask.Spawn o) s = IsTask t (child_main source s.run.control) ×
-      HasObject t few (t.routine (child_main source s.run.control)).this o × KnowsState [] s
-  KnowsAsked source (ask.Accept o site mask) s = KnowsState (Num ∷ (Num ∷ [])) s
-  KnowsAsked source (ask.Empty o m) s = KnowsState (Num ∷ []) s
-  KnowsAsked source (ask.Front o m) s = KnowsState (Num ∷ []) s
-  KnowsAsked source (ask.Poll mask) s = KnowsState (Num ∷ (Num ∷ (Num ∷ []))) s
-  KnowsAsked source (ask.Read form) s = KnowsState (Num ∷ []) s
-  KnowsAsked source ask.Fail s = KnowsState (Num ∷ []) s
-  KnowsAsked source ask.Cluster s = KnowsState (Clu ∷ []) s
-  KnowsAsked source (ask.Processor c) s = KnowsState (Pro ∷ []) s
-  KnowsAsked source ask.End s = KnowsEnv s.env
-  KnowsAsked source (ask.Fault m) s = Unit {0}
-  KnowsAsked source r s = KnowsState [] s
-
   -- what a request names has such a number: the object of a call, which may be one to destroy it, that at which an event is raised, a cluster and
   -- a processor
   abbrev pub Names : Request → Type 0
@@ -144,10 +147,34 @@ module _ (t : Table) (few : Few) where
   Names (ask.Migrate c) = few.numbers Clu c ≡ true
   Names r = Unit {0}
 
-  abbrev pub KnowsStep : Source → Step → Type 0
-  KnowsStep source (Goes s) = KnowsState [] s
-  KnowsStep source (Ticks s) = KnowsState [] s
-  KnowsStep source (Asks r s) = Names r × KnowsAsked source r s
+module _ (t : Table) (few : Few) (S : List Ty → State → Type 0) (E : Env → Type 0) (source : Source) where
+  -- one that has asked is to be given what the answer tells, as S says; what is behind an end others go on with, as E says, and behind a fault nobody
+  abbrev pub AskedBy : Request → State → Type 0
+  AskedBy (ask.Make m) s = (c : ℕ) × (t.number c ≡ m) × (t.mutex c ≡ true) × S (Raw c ∷ []) s
+  AskedBy (ask.Spawn o) s = IsTask t (child_main source s.run.control) ×
+      HasObject t few (t.routine (child_main source s.run.control)).this o × S [] s
+  AskedBy (ask.Accept o site mask) s = S (Num ∷ (Num ∷ [])) s
+  AskedBy (ask.Empty o m) s = S (Num ∷ []) s
+  AskedBy (ask.Front o m) s = S (Num ∷ []) s
+  AskedBy (ask.Poll mask) s = S (Num ∷ (Num ∷ (Num ∷ []))) s
+  AskedBy (ask.Read form) s = S (Num ∷ []) s
+  AskedBy ask.Fail s = S (Num ∷ []) s
+  AskedBy ask.Cluster s = S (Clu ∷ []) s
+  AskedBy (ask.Processor c) s = S (Pro ∷ []) s
+  AskedBy ask.End s = E s.env
+  AskedBy (ask.Fault m) s = Unit {0}
+  AskedBy r s = S [] s
+
+  abbrev pub StepBy : Step → Type 0
+  StepBy (Goes s) = S [] s
+  StepBy (Ticks s) = S [] s
+  StepBy (Asks r s) = Names t few r × AskedBy r s
+
+abbrev pub KnowsAsked : Table → Few → Source → Request → State → Type 0
+KnowsAsked t few = AskedBy t few (KnowsState t few) (KnowsEnv t few)
+
+abbrev pub KnowsStep : Table → Few → Source → Step → Type 0
+KnowsStep t few = StepBy t few (KnowsState t few) (KnowsEnv t few)
 
 -- What a step is still to find, of a state in order.
 

@@ -12,6 +12,7 @@ use Rattle.uc_acts.specs.Queues.{cluster_count, processor_count}
 use Rattle.uc_acts.specs.Answers.{answer_to}
 use Rattle.uc_acts.specs.KernelRuns.{InRange}
 use Rattle.uc_machine.specs.declared.exec.Home.TheVariants.{Object}
+use Rattle.uc_machine.specs.Pieces.{Env}
 use Rattle.uc_machine.specs.Quiet.{State, Asks, quiet}
 use Rattle.uc_machine.specs.Answering.{answered}
 use Rattle.uc_meaning.specs.Runs.{World, Runs, drawn}
@@ -25,7 +26,7 @@ use Rattle.uc_typing.specs.Typing.{Ty, Obj, Clu, Pro, Table, Raw}
 use Rattle.uc_sound.specs.SoundFormed.{IsFormed}
 use Rattle.uc_sound.specs.Tables.{table_of}
 use Rattle.uc_life_laws.specs.LifeStates.{MembersBy, LifeState, Opens}
-use Rattle.uc_life_laws.specs.Knowing.{KnowsSlot, KnowsState, KnowsAsked, Names, Finds}
+use Rattle.uc_life_laws.specs.Knowing.{AskedBy, KnowsSlot, KnowsEnv, KnowsState, Names, Finds}
 use Rattle.uc_life_laws.specs.KnownAnswers.{Passes, MainPasses}
 use Rattle.uc_life_laws.specs.Things.{Few, numbered}
 
@@ -43,15 +44,18 @@ Meets t few s = LifeState t few s → KnowsState t few [] s →
     Opens t few s ×
     ((x : KnowsState t few [] s) × Finds t few x.sigs x.run.sig x.run.scope s s.run.control x.run.own)
 
--- a task at rest: it has asked something, all is known but for what the answer brings, and what it is told passes
-pub record KnowsRest (t : Table) (few : Few) (source : Source) (j : Journal) (n : ℕ) (s : State) : Type 0 where
+-- a task at rest: it has asked something, all is known but for what the answer brings, and what it is told passes; so far as S says what is known
+pub record RestBy (t : Table) (few : Few) (S : List Ty → State → Type 0) (E : Env → Type 0) (source : Source) (j : Journal) (n : ℕ) (s : State) : Type 0 where
   pub request : Request
-  pub asked : KnowsAsked t few source request s
+  pub asked : AskedBy t few S E source request s
   pub asks_for : form_of_request request ≡ asked_form n j
   pub no_end : request ≡ ask.End → ⊥
   pub no_fault : (m : ℕ) → request ≡ ask.Fault m → ⊥
   pub told : (o : ℕ) → answer_to source.sites n j ≡ Some (answer.Object o) →
       Passes t few request (answer.Object o)
+
+abbrev pub KnowsRest : Table → Few → Source → Journal → ℕ → State → Type 0
+KnowsRest t few = RestBy t few (KnowsState t few) (KnowsEnv t few)
 
 -- all is known, and what is in scope holds what is: of each task at rest that has not ended, of what is at home in each object, and of whoever
 -- runs in each state to which it comes before it asks, as far as each step found what it was to find; and what it names then passes

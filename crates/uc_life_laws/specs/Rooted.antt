@@ -13,9 +13,9 @@ use Rattle.uc_machine.specs.Pieces as piece
 use Rattle.uc_machine.specs.Pieces.{Value, Todo, Active, State, Env, Members}
 use Rattle.uc_meaning.specs.Runs.{World}
 use Rattle.uc_typing.specs.Typing.{Ty, Cell, Obj, Raw, Sig, Table}
-use Rattle.uc_typing.specs.Pieces.{AreNumbers}
 use Rattle.uc_life_laws.specs.Things.{Few, AtField, IsFor, InStack, Base, NoBase, Variables, Stands}
 use Rattle.uc_life_laws.specs.Knowing.{InMaking, KnowsEx, KnowsState}
+use Rattle.uc_life_laws.specs.Silent.{AllSilent}
 use Rattle.uc_life_laws.specs.Fewer.{FreshLasts}
 use Rattle.uc_life_laws.specs.Lasting.{lasting, lasting_numbers, WorldLasts}
 use Rattle.uc_life_laws.specs.LifeStates.{EnvBy, MembersBy}
@@ -86,11 +86,11 @@ module _ (t : Table) (few : Few) (numbers : Ty → ℕ → Bool) (o : ℕ) where
   abbrev pub ExApart : Exec → Execution (List Todo) Value → Type 0
   ExApart n x = StageApart x.links.stage n x
 
-  -- of the running execution, those of its activations that wait do not build or destroy the object, nor does the newest one as long as it has
-  -- operands that are no numbers
+  -- of the running execution, those of its activations that wait do not build or destroy the object, nor does the newest one, but where that only comes to
+  -- its end
   pub record RunApart (given : List Ty) (s : State) (x : KnowsState t few given s) : Type 0 where
     pub waiting : Apart (others x.sigs) s.callers
-    pub operands : Apart x.sigs (s.run ∷ s.callers) ⊎ AreNumbers x.run.own
+    pub operands : Apart x.sigs (s.run ∷ s.callers) ⊎ AllSilent s.run.control
 
 -- one that has not begun knows its own object alone, which keeps its number, and has no variables in scope; nor has one that has ended
 abbrev pub FreshKeeps : Table → Few → (Ty → ℕ → Bool) → Stage → Exec → Execution (List Todo) Value → Type 0

@@ -1,34 +1,46 @@
 -- What is left to find of steps that take marks away, where destructors are called as clean-ups tell.
-use Rattle.std.specs.Prelude.{◌≡◌, ◌<◌, Bool, true, false, List, ◌∷◌, nat_lt}
-use Rattle.uc_tree.specs.Source.{Source, Expr, OfObject, EndOn, CleanUp, Destroys, Forgets, Ends}
+use Rattle.std.specs.Prelude.{◌≡◌, ℕ, suc, ◌<◌, Bool, false, List, ◌∷◌, nat_lt}
+use Rattle.uc_tree.specs.Source.{Source, Expr, Load, OfObject, EndOn, CleanUp, Destroys, Forgets, Ends}
 use Rattle.uc_machine.specs.declared.exec.Exec.{Exec}
 use Rattle.uc_machine.specs.Pieces as piece
-use Rattle.uc_machine.specs.Pieces.{Todo, Sort, sort, State}
+use Rattle.uc_machine.specs.Pieces.{Object, Todo, Sort, sort, State, loaded}
 use Rattle.uc_machine.specs.Quiet.{MOST_ELEMENTS}
+use Rattle.uc_life_laws.specs.Destroying.{Destroying, AtPlace, AtElement}
 use Rattle.uc_life_laws.specs.Held.{Seating, IsOwn, Takes, Recounts, TakesAt, TakesNow}
-
--- what calls no destructor of a mutex object
-abbrev pub calls_plainly : Expr → Bool
-calls_plainly (OfObject (EndOn d written e)) = false
-calls_plainly e = true
 
 module _ (source : Source) (seats : Seating) (up : Exec → Bool) where
   -- the execution of the coroutine or task at hand is not up any more
   abbrev pub IsForgotten : State → Type 0
   IsForgotten s = (x : Exec) → IsOwn source seats up s x → s.run.this ≡ (seats.seat x).place → ⊥
 
-  -- a mark of this sort is reached, of this clean-up
-  abbrev pub ForgetsBy : Sort → CleanUp → List Todo → State → Type 0
-  ForgetsBy k Forgets todo s = IsForgotten s
-  ForgetsBy k Ends todo s = IsForgotten s
-  ForgetsBy k (Destroys e) todo s = calls_plainly e ≡ false → Takes source seats up s k todo
-  ForgetsBy k c todo s = Unit {0}
+  -- a destructor that comes to the end of this execution, of a mutex object that is at home at the place at which that is called: that object is read there
+  abbrev pub ReadsEnded : Exec → Expr → State → Type 0
+  ReadsEnded x (OfObject (EndOn d written (Load p))) s = (o : ℕ) →
+      AtPlace source (seats.seat x) s.env.exec s.run.frame s.run.this (λ v. (seats.seat x).home o ≡ v) p →
+      Destroying source (seats.seat x) d (Object o) →
+      AtPlace source (seats.seat x) s.env.exec s.run.frame s.run.this (λ v. loaded v s.env ≡ Object o) p
+  ReadsEnded x e s = Unit {0}
 
-  -- a clean-up is done behind an event
-  abbrev pub UnwindsBy : Sort → List Todo → State → Type 0
-  UnwindsBy (piece.IsClean c) todo s = ForgetsBy (piece.IsClean c) c todo s
-  UnwindsBy (piece.IsPart c) todo s = ForgetsBy (piece.IsPart c) c todo s
-  UnwindsBy k todo s = Unit {0}
+  -- so it is at the last element that stands
+  abbrev pub ReadsLast : Exec → Expr → State → Type 0
+  ReadsLast x (OfObject (EndOn d written (Load p))) s = (j : ℕ) → s.run.elements ≡ suc j → (o : ℕ) →
+      AtElement source (seats.seat x) s.env.exec s.run.frame s.run.this (λ v. (seats.seat x).home o ≡ v) j p →
+      Destroying source (seats.seat x) d (Object o) →
+      AtElement source (seats.seat x) s.env.exec s.run.frame s.run.this (λ v. loaded v s.env ≡ Object o) j p
+  ReadsLast x e s = Unit {0}
+
+  -- a clean-up is reached
+  abbrev pub ForgetsBy : CleanUp → State → Type 0
+  ForgetsBy Forgets s = IsForgotten s
+  ForgetsBy Ends s = IsForgotten s
+  ForgetsBy (Destroys e) s = (x : Exec) → IsOwn source seats up s x → ReadsEnded x e s
+  ForgetsBy c s = Unit {0}
+
+  -- it is done behind an event
+  abbrev pub UnwindsBy : Sort → State → Type 0
+  UnwindsBy (piece.IsClean c) s = ForgetsBy c s
+  UnwindsBy (piece.IsPart c) s = ForgetsBy c s
+  UnwindsBy k s = Unit {0}
 
   -- an exit leaves a part of an object, and elements
   abbrev pub ExitsBy : Sort → List Todo → State → Type 0
@@ -37,18 +49,19 @@ module _ (source : Source) (seats : Seating) (up : Exec → Bool) where
   ExitsBy (piece.IsSweep d) todo s = Takes source seats up s (piece.IsSweep d) todo
   ExitsBy k todo s = Unit {0}
 
-  -- an execution is up no more where its coroutine is forgotten or its task goes; where the destructor of a mutex object is called, those that this ends are held
-  -- soon; where a part of an object is left as that is built, where all elements of an array are, and
+  -- an execution is up no more where its coroutine is forgotten or its task goes; where the destructor of a mutex object is called that comes to the end of one,
+  -- that object is read there; where a part of an object is left as that is built, where all elements of an array are, and
   -- where an exit leaves what is being built or destroyed, those that it held are held soon; no other elements are counted where some are counted anew;
   -- where a main ends, nothing is left behind it; and one that is made next has made none
   abbrev pub LeavesAt : List Todo → State → Type 0
-  LeavesAt (piece.Clean c ∷ todo) s = ForgetsBy (piece.IsClean c) c todo s
+  LeavesAt (piece.Clean c ∷ todo) s = ForgetsBy c s
   LeavesAt (piece.Part c ∷ todo) s = Takes source seats up s (piece.IsPart c) todo
   LeavesAt (piece.FillNow m b d ∷ todo) s = nat_lt s.run.elements m ≡ false → Takes source seats up s (piece.IsFill m b d) todo
-  LeavesAt (piece.Sweep d ∷ todo) s = (calls_plainly d ≡ false → Takes source seats up s (piece.IsSweep d) todo) × Recounts source seats up s todo
+  LeavesAt (piece.Sweep d ∷ todo) s = ((x : Exec) → IsOwn source seats up s x → ReadsLast x d s) × Recounts source seats up s todo
+  LeavesAt (piece.CountNow m ∷ (piece.FillNow k b d ∷ todo)) s = Recounts source seats up s todo
   LeavesAt (piece.CountNow m ∷ todo) s = Recounts source seats up s todo
   LeavesAt (piece.MoreNow ∷ todo) s = s.run.elements < MOST_ELEMENTS
-  LeavesAt (piece.Unwind ∷ (p ∷ todo)) s = UnwindsBy (sort p) todo s
+  LeavesAt (piece.Unwind ∷ (p ∷ todo)) s = UnwindsBy (sort p) s
   LeavesAt (piece.Exit way ∷ (p ∷ todo)) s = ExitsBy (sort p) todo s
   LeavesAt todo s = TakesAt source seats up todo s
 

@@ -4,7 +4,10 @@ ghost use Rattle.uc_life_laws.specs.Endings.{LawEndings};
 ghost use Rattle.uc_life_laws.specs.Following.{LawFollowing};
 ghost use Rattle.uc_life_laws.specs.NamedAsks.{LawAsked};
 ghost use Rattle.uc_life_laws.specs.KnownAnswers.{LawAnswers};
+ghost use Rattle.uc_life_laws.specs.Kinds.{LawKinds};
 ghost use Rattle.uc_life_laws.specs.KnownRuns.{LawKnownRuns, LawNamed};
+ghost use Rattle.uc_life_laws.specs.Makings.{LawMakings};
+ghost use Rattle.uc_life_laws.specs.MakingsRuns.{LawMakingsRuns};
 ghost use Rattle.uc_life_laws.specs.LifeLaws.{LawKnown, LawSteps};
 ghost use Rattle.uc_life_laws.specs.LifeReading.{LawReading};
 ghost use Rattle.uc_life_laws.specs.LifeRuns.{LawClears, LawRuns};
@@ -19,6 +22,18 @@ pub fn law_steps()
 /// In a state in which all is known that its execution can come by, a step leads to one.
 pub fn law_known()
     ensures { LawKnown }
+{}
+
+/// A step keeps the kinds of frames, or adds and takes one, and what is claimed by them of executions that do
+/// not run.
+pub fn law_kinds()
+    ensures { LawKinds }
+{}
+
+/// So what is being built, by these kinds, lies elsewhere or in what older activations wait for, as long as each
+/// constructor is called at what does.
+pub fn law_makings()
+    ensures { LawMakings }
 {}
 
 /// All stays known with an answer that suits what was asked, and is known in a task that begins.
@@ -62,6 +77,12 @@ pub fn law_runs()
 /// which whoever runs comes before it asks, as far as each step found what it was to find.
 pub fn law_known_runs()
     ensures { LawKnownRuns }
+{}
+
+/// So in each such run all that is being built lies elsewhere or in what older activations wait for, by kinds of
+/// frames that go along the run, as long as each constructor is called at what does.
+pub fn law_makings_runs()
+    ensures { LawMakingsRuns }
 {}
 
 /// So it is where nothing is asked of the steps in which a clean-up finds and reads the variable that it ends:

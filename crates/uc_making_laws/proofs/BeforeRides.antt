@@ -85,7 +85,7 @@ module _ (t : Table) (few : Few) (source : Source) where
     ride_all (asks {s} e) l h f m b = one s l h f m b
 
 pub law_before_rides : LawBeforeRides
-law_before_rides t few own yet source input opts j w r range fits on zero leaves spares binds mains finds puts this p u n s q d bound mained found put has b asked homes kept keeps rooted =
+law_before_rides t few own yet source input opts j w r range fits on zero main leaves spares binds mains finds puts this p u n s q d bound mained found put has b asked homes kept keeps rooted =
     let all = law_own_names source input opts j w r range fits on leaves spares in
     let rests = run_rests source input opts range r fits on in
     let y = run_named source input opts range r fits on in
@@ -101,13 +101,13 @@ law_before_rides t few own yet source input opts j w r range fits on zero leaves
     let worlds = law_this_runs t few source input opts j w r this in
     let up = law_upheld.upheld asked homes source input opts j w r range fits on leaves spares mains p u n s q d mained b kept keeps in
     ride_all t few source names.Spares (LoneState t few) (ThisState t few) (λ v. FreshEnv v.env) (UpheldAt (with_homes homes b.makers) asked j w u) (λ v. RootedOnWay t few own yet (with_homes homes b.makers) asked j w u v source) (λ v. Before t few j w u v source × RaisesUpwards t few own yet b.makers.rank j w u v) (λ v l h f m g.
-    at_state v l (λ o k belongs free. nowhere_before t few source j w u lt all.later (all.elsewhere u lt) lone.world (worlds.world on) v l h f (with_homes homes b.makers) asked m zero own yet o k belongs free) (λ k. upwards_there t few source j w u lt all.later (all.elsewhere u lt) lone.world (worlds.world on) v l h f (with_homes homes b.makers) asked m own yet k) g) d.rides (ride_lone t few source d.rides put lone_start) these.rides.1 fresh_ride up rooted
+    at_state v l (λ o k belongs free. nowhere_before t few source j w u lt all.later (all.elsewhere u lt) lone.world (worlds.world on) v l h f (with_homes homes b.makers) asked m zero own yet main o k belongs free) (λ k. upwards_there t few source j w u lt all.later (all.elsewhere u lt) lone.world (worlds.world on) v l h f (with_homes homes b.makers) asked m own yet main k) g) d.rides (ride_lone t few source d.rides put lone_start) these.rides.1 fresh_ride up rooted
   where
     at_state : (v : State) → LoneState t few v → ((o : ℕ) → IsRootedOnWay t few own yet (with_homes homes b.makers) asked j w u v o → Belongs few v.env.exec (few.home o) → Free t few o (Marked t v.env.exec (v.run ∷ v.callers)) → NowhereBefore t few j w u v o) → (IsStoodOnWay t few own yet (with_homes homes b.makers) asked j w u v → StandsUpwards t few j (world_at w u v) own yet b.makers.rank) → RootedOnWay t few own yet (with_homes homes b.makers) asked j w u v source → Before t few j w u v source × RaisesUpwards t few own yet b.makers.rank j w u v
     at_state v l f up g = (by v.run.control refl g l.stack.0, raises v.run.control g)
       where
         raises : (todo : List Todo) → RootedOnWayBy t few own yet (with_homes homes b.makers) asked j w u v source todo → RaisesUpwardsBy t few own yet b.makers.rank j w u v todo
-        raises (piece.RaiseAtNow ∷ todo) h = up h
+        raises (piece.RaiseAtNow ∷ todo) h = λ o e. up (h o e)
         raises (p ∷ todo) h = tt
         raises [] h = tt
 

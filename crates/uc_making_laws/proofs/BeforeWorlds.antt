@@ -17,7 +17,8 @@ use Rattle.uc_meaning.specs.Runs.{World, or_else}
 use Rattle.uc_name_laws.proofs.Homes.{no_both}
 use Rattle.uc_life_laws.proofs.NamedWorlds.{found_none}
 use Rattle.uc_typing.specs.Typing.{Ty, Cell, Obj, Table}
-use Rattle.uc_life_laws.specs.Things.{Few, Stands}
+use Rattle.uc_life_laws.specs.Things.{Few, Base, Stands}
+use Rattle.uc_life_laws.specs.Knowing.{main_of}
 use Rattle.uc_life_laws.specs.LifeStates.{EnvBy, MembersBy}
 use Rattle.uc_life_laws.proofs.Cells.{tested}
 use Rattle.uc_life_laws.proofs.Parked.{found_hand}
@@ -104,13 +105,13 @@ module _ (t : Table) (few : Few) (source : Source) (j : Journal) (w : World) (u 
     }
 
     -- what executions have of others stands in what those have that made them
-    pub upwards : (own : Exec → Value → Ty → Bool) (yet : Exec → List Active → Value → Ty → Bool) → IsStoodOnWay t few own yet makers asked j w u s → StandsUpwards t few j (world_at w u s) own yet makers.rank
-    upwards own yet stood =
+    pub upwards : (own : Exec → Value → Ty → Bool) (yet : Exec → List Active → Value → Ty → Bool) → ((z : Value) (b : Ty) → Base few (main_of 0) z b → own (main_of 0) z b ≡ true) → IsStoodOnWay t few own yet makers asked j w u s → StandsUpwards t few j (world_at w u s) own yet makers.rank
+    upwards own yet main stood =
         law_upwards t few makers (now makers asked held_up.made) j (world_at w u s) own yet held_up.outlasts (λ n cs i z b k e.
         let is = made_there held_up.made source j (world_at w u s) held_up.there first_there n cs i in
-        based_of t few makers asked held_up.made yet own j (world_at w u s) stood.first held_up.later n is z b k e (stood.based n cs i z b k e))
+        based_of t few makers asked held_up.made yet own j (world_at w u s) main held_up.later n is z b k e (stood n cs i z b k e))
 
-    module _ (zero : (n : Exec) → Belongs few n (few.home 0) → ⊥) (own : Exec → Value → Ty → Bool) (yet : Exec → List Active → Value → Ty → Bool) (o : ℕ) (rooted : IsRootedOnWay t few own yet makers asked j w u s o) (belongs : Belongs few s.env.exec (few.home o)) (free : Free t few o (Marked t s.env.exec (s.run ∷ s.callers))) where
+    module _ (zero : (n : Exec) → Belongs few n (few.home 0) → ⊥) (own : Exec → Value → Ty → Bool) (yet : Exec → List Active → Value → Ty → Bool) (main : (z : Value) (b : Ty) → Base few (main_of 0) z b → own (main_of 0) z b ≡ true) (o : ℕ) (rooted : IsRootedOnWay t few own yet makers asked j w u s o) (belongs : Belongs few s.env.exec (few.home o)) (free : Free t few o (Marked t s.env.exec (s.run ∷ s.callers))) where
       freed : Freed t few (ask.Gone o) (if u == u then s else w.tasks u)
       freed = subst (Freed t few (ask.Gone o)) (sym same) (belongs, free)
 
@@ -127,7 +128,7 @@ module _ (t : Table) (few : Few) (source : Source) (j : Journal) (w : World) (u 
 
       nowhere : IsNowhere t few j (world_at w u s) own yet makers.rank o
       nowhere = record {
-        up = upwards own yet rooted.stood;
+        up = upwards own yet main rooted.stood;
         outside = λ n cs i c h. let k = rooted.covered n cs i c h in none_yet k.0 k.1 k.2 k.3 k.4;
         unmarked = none_yet;
       }

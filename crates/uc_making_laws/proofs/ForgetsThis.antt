@@ -14,7 +14,7 @@ use Rattle.uc_machine.specs.declared.exec.Home.{Home}
 use Rattle.uc_machine.specs.declared.exec.Home.TheVariants as home
 use Rattle.uc_machine.specs.declared.exec.Stage.{Stage}
 use Rattle.uc_machine.specs.declared.exec.Stage.TheVariants.{Fresh, Started, Ended}
-use Rattle.uc_machine.specs.Executions.{Execution}
+use Rattle.uc_machine.specs.Executions.{Execution, others}
 use Rattle.uc_machine.specs.Pieces as piece
 use Rattle.uc_machine.specs.Pieces.{Value, Todo, Active, Members}
 use Rattle.uc_meaning.specs.Runs.{World, May, Runs, world_after, gives, no_room, acts, begun, more}
@@ -22,6 +22,7 @@ use Rattle.uc_state_laws.specs.Opens.{RunMeets}
 use Rattle.uc_name_laws.proofs.Homes.{no_both}
 use Rattle.uc_typing.specs.Typing.{Ty, Cell, Obj, Table}
 use Rattle.uc_life_laws.specs.Things.{Few, Base, Things}
+use Rattle.uc_life_laws.specs.Silent.{AllSilent}
 use Rattle.uc_life_laws.specs.Knowing.{KnowsState}
 use Rattle.uc_life_laws.specs.LifeStates.{SlotBy, ParkedBy, MembersBy}
 use Rattle.uc_life_laws.specs.Lasting.{lasting, lasting_numbers}
@@ -40,7 +41,11 @@ use Rattle.uc_rooted_runs.proofs.UnmarkedRuns.{law_unmarked_runs}
 use Rattle.uc_making_laws.specs.OwnThis.{ThisStack, FindsThis}
 use Rattle.uc_making_laws.specs.ThisRuns.{ThisWorld}
 use Rattle.uc_making_laws.specs.NoOthers.{NoThis}
-use Rattle.uc_making_laws.specs.ForgetsThis.{GoesBy, MayGo, RunGoes, IsLeftNowhere, IsLetGo, LawForgetsThis}
+use Rattle.uc_making_laws.specs.ForgetsThis.{GoesBy, MayGo, RunGoes, IsLeftNowhere, IsOwedNothing, LawForgetsThis}
+use Rattle.uc_making_laws.specs.LettingGo.{FindsTold}
+use Rattle.uc_making_laws.specs.LettingRuns.{LetsWorld}
+use Rattle.uc_making_laws.proofs.LettingWalk.{law_letting}
+use Rattle.uc_making_laws.proofs.LettingRuns.{law_letting_runs}
 use Rattle.uc_making_laws.proofs.ThisRuns.{law_this_runs}
 use Rattle.uc_making_laws.proofs.NoOthers.{in_world, law_no_others}
 
@@ -83,7 +88,7 @@ module _ (t : Table) (few : Few) where
   yet_things n cs w b (inl h) = own_things n cs w b h
   yet_things n cs w b (inr e) = let z : false ≡ true = e in absurd (cc)
 
-  module _ (zero : (n : Exec) → Belongs few n (few.home 0) → ⊥) (j : Journal) (a : List Entry) (x : World) (u o : ℕ) (h : IsLeft t few (j ++ a) x u o) (this : ThisWorld t few x) (left : IsLeftNowhere t few j a x u o) (gone : IsLetGo t few j a x u o) where
+  module _ (zero : (n : Exec) → Belongs few n (few.home 0) → ⊥) (j : Journal) (a : List Entry) (x : World) (u o : ℕ) (h : IsLeft t few (j ++ a) x u o) (this : ThisWorld t few x) (lets : LetsWorld t few x) (left : IsLeftNowhere t few j a x u o) (owed : IsOwedNothing j a x u o) (silent : AllSilent (x.tasks u).run.control) where
     not_zero : o ≡ 0 → ⊥
     not_zero e = zero (x.tasks u).env.exec (subst (λ (q : ℕ). Belongs few (x.tasks u).env.exec (few.home q)) e h.belongs)
 
@@ -120,6 +125,19 @@ module _ (t : Table) (few : Few) where
         same : piece.Object o ≡ (x.tasks v).run.this → (x.tasks v).run.this ≡ piece.Object 0 → o ≡ 0
         same e f = cc
 
+    -- of the task that acts no activation that waits is of the object
+    none_waits : has_ended u (j ++ a) ≡ false → NoThis o (x.tasks u).callers
+    none_waits on =
+        let n = (x.tasks u).env.exec in
+        let cs = (x.tasks u).callers in
+        law_letting.none t few o n cs (lets.tasks u).stack.1 not_zero (λ c k. left.nowhere n ((x.tasks u).run ∷ cs) (inl (u, on, refl, refl)) c (stands_more t few (Things t few n cs) (Things t few n ((x.tasks u).run ∷ cs)) (λ w b y. inr y) (Cell (Obj c)) (few.home o) k)) owed
+
+    gone : has_ended u (j ++ a) ≡ false → (given : List Ty) (k : KnowsState t (lasting few j) given (x.tasks u)) → RunApart t (lasting few j) (lasting_numbers few.numbers (j ++ a)) o given (x.tasks u) k
+    gone on given k = record {
+      waiting = law_no_others.making t few o (others k.sigs) (x.tasks u).callers (none_waits on);
+      operands = inr silent;
+    }
+
     alive : (v : ℕ) → has_ended v (j ++ a) ≡ false → (given : List Ty) (k : KnowsState t (lasting few j) given (x.tasks v)) → RunApart t (lasting few j) (lasting_numbers few.numbers (j ++ a)) o given (x.tasks v) k
     alive v on given k = by (v == u) refl
       where
@@ -143,24 +161,29 @@ module _ (t : Table) (few : Few) where
       };
     }
 
+  -- what is so of tasks behind an act
+  record InWorlds (x : World) : Type 0 where
+    this : ThisWorld t few x
+    lets : LetsWorld t few x
+
   module _ (zero : (n : Exec) → Belongs few n (few.home 0) → ⊥) (source : Source) (input : List ℕ) (opts : Options) where
-    roots_by : (j : Journal) (a : List Entry) (x : World) (u : ℕ) (q : Request) → LeftBehind t few (j ++ a) x u q → ThisWorld t few x → GoesBy (IsLeftNowhere t few) j a x u q → GoesBy (IsLetGo t few) j a x u q → RootsAt t few all_own none_yet no_rank j a x q
-    roots_by j a x u (ask.Gone o) h this left gone = rooted zero j a x u o h this left gone
-    roots_by j a x u q h this left gone = tt
+    roots_by : (j : Journal) (a : List Entry) (x : World) (u : ℕ) (q : Request) → LeftBehind t few (j ++ a) x u q → InWorlds x → GoesBy (IsLeftNowhere t few) j a x u q → GoesBy IsOwedNothing j a x u q → GoesBy (λ j a x u o. AllSilent (x.tasks u).run.control) j a x u q → RootsAt t few all_own none_yet no_rank j a x q
+    roots_by j a x u (ask.Gone o) h i left owed silent = rooted zero j a x u o h i.this i.lets left owed silent
+    roots_by j a x u q h i left owed silent = tt
 
-    may_root : {j : Journal} {w : World} {a : List Entry} {x : World} (m : May source opts input j w a x) → ThisWorld t few x → MayLeave t few source opts input j w a x m → MayGo (IsLeftNowhere t few) source input opts m → MayGo (IsLetGo t few) source input opts m → MayRoot t few all_own none_yet no_rank source opts input j w a x m
-    may_root (gives p n v le) this h left gone = tt
-    may_root (no_room p n v le) this h left gone = tt
-    may_root {j} {w} (acts p n i v asked d) this h left gone =
-        roots_by j (act opts source.sites input j p n i asked) (world_after source (act opts source.sites input j p n i asked) w n v) n asked.request h this left gone
+    may_root : {j : Journal} {w : World} {a : List Entry} {x : World} (m : May source opts input j w a x) → InWorlds x → MayLeave t few source opts input j w a x m → MayGo (IsLeftNowhere t few) source input opts m → MayGo IsOwedNothing source input opts m → MayGo (λ j a x u o. AllSilent (x.tasks u).run.control) source input opts m → MayRoot t few all_own none_yet no_rank source opts input j w a x m
+    may_root (gives p n v le) i h left owed silent = tt
+    may_root (no_room p n v le) i h left owed silent = tt
+    may_root {j} {w} (acts p n k v asked d) i h left owed silent =
+        roots_by j (act opts source.sites input j p n k asked) (world_after source (act opts source.sites input j p n k asked) w n v) n asked.request h i left owed silent
 
-    run_roots : {j : Journal} {w : World} (r : Runs source input opts j w) → is_over j ≡ false → RunMeets (FindsThis t few source) source input opts j w r → RunLeft t few source input opts j w r → RunGoes (IsLeftNowhere t few) source input opts r → RunGoes (IsLetGo t few) source input opts r → RunRoots t few all_own none_yet no_rank source input opts j w r
-    run_roots begun on this h left gone = tt
-    run_roots {j} {w} (more r o m) on this h left gone =
-        (run_roots r o this.0 h.0 left.0 gone.0, may_root m ((law_this_runs t few source input opts j w (more r o m) this).world on) h.1 left.1 gone.1)
+    run_roots : {j : Journal} {w : World} (r : Runs source input opts j w) → is_over j ≡ false → RunMeets (FindsThis t few source) source input opts j w r → RunMeets (FindsTold t few source) source input opts j w r → RunLeft t few source input opts j w r → RunGoes (IsLeftNowhere t few) source input opts r → RunGoes IsOwedNothing source input opts r → RunGoes (λ j a x u o. AllSilent (x.tasks u).run.control) source input opts r → RunRoots t few all_own none_yet no_rank source input opts j w r
+    run_roots begun on this lets h left owed silent = tt
+    run_roots {j} {w} (more r o m) on this lets h left owed silent =
+        (run_roots r o this.0 lets.0 h.0 left.0 owed.0 silent.0, may_root m (record { this = (law_this_runs t few source input opts j w (more r o m) this).world on; lets = (law_letting_runs t few source input opts j w (more r o m) lets).world on }) h.1 left.1 owed.1 silent.1)
 
 pub law_forgets_this : LawForgetsThis
-law_forgets_this t few source input opts j w r range fits on places zero binds mains finds leaves spares puts calls left gone =
+law_forgets_this t few source input opts j w r range fits on places zero binds mains finds leaves spares puts calls told left owed =
     let ends : RunMeets (EndsMains source) source input opts j w r = law_mains.runs source input opts j w r mains in
     let owns = (law_own_names source input opts j w r range fits on leaves spares).rides in
-    law_forgetting t few all_own none_yet no_rank source input opts j w r range fits on places (run_keeps source input opts j w r binds ends finds owns) (run_roots t few zero source input opts r on calls (law_unmarked_runs t few source input opts j w r range fits on leaves spares puts) left gone)
+    law_forgetting t few all_own none_yet no_rank source input opts j w r range fits on places (run_keeps source input opts j w r binds ends finds owns) (run_roots t few zero source input opts r on calls told (law_unmarked_runs t few source input opts j w r range fits on leaves spares puts) left owed (law_letting_runs t few source input opts j w r told).gone)

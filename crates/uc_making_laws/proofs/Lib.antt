@@ -3,6 +3,11 @@ pub mod ThisSteps
 pub mod ThisWalk
 pub mod ThisRuns
 pub mod NoOthers
+pub mod LettingKeeping
+pub mod LettingLists
+pub mod LettingSteps
+pub mod LettingWalk
+pub mod LettingRuns
 pub mod ForgetsThis
 pub mod Upheld
 pub mod BeforeWorlds

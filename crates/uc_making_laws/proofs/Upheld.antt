@@ -46,7 +46,7 @@ use Rattle.uc_life_laws.proofs.OwnNamesLemmas.{law_own_names}
 use Rattle.uc_life_laws.proofs.OwnRides.{Settled, start as own_start}
 use Rattle.uc_apart_laws.specs.Before.{world_at}
 use Rattle.uc_rooted_runs.specs.Makers.{Makers, seating}
-use Rattle.uc_rooted_runs.specs.Births.{MakesLater}
+use Rattle.uc_rooted_runs.specs.Births.{run_makers, MakesLater}
 use Rattle.uc_rooted_runs.specs.Mains.{CallsNoMain}
 use Rattle.uc_rooted_runs.specs.MainRuns.{EndsMains}
 use Rattle.uc_rooted_runs.specs.Outlasting.{Outlasts, OutlastEx}
@@ -70,7 +70,7 @@ use Rattle.uc_rooted_runs.proofs.OutlastNames as outlast_names
 use Rattle.uc_rooted_runs.proofs.OutlastNames.{MadeBelow, born_there, names_at, below_behind}
 use Rattle.uc_rooted_runs.proofs.OutlastRuns as outlast
 use Rattle.uc_making_laws.specs.RideWhile.{RideWhile}
-use Rattle.uc_making_laws.specs.Upheld.{MadeLaterTo, UpheldAt, LawUpheld}
+use Rattle.uc_making_laws.specs.Upheld.{MadeLaterTo, way_makers, UpheldAt, LawUpheld}
 
 -- a hand in which each object stands once
 
@@ -310,16 +310,20 @@ module _ (source : Source) (input : List ℕ) (opts : Options) (range : InRange 
   rests : RunRests source input opts j w
   rests = run_rests source input opts range r fits on
 
-  births_to : MadeLaterTo source input opts j w r p u n s q d
+  births_to : (b : MadeLaterTo source input opts j w r p u n s q d) × (b.makers ≡ way_makers source input opts r d)
   births_to =
       let y = births.run_made source input opts range r fits on in
-      let z = births.ridden source (at_hand j w u) y.serials d.rides (start source input opts range rests on y.serials y.world p u d.runs d.given d.told) y.births in
-      record {
-        makers = z.births;
-        made = run_more source (MakesBelow source y.serials y.births) (MakesLater source z.births) (λ s h. (births.makes_more source y.serials z.now z.grows.more y.births z.births z.keeps s h).later) opts input r y.makes;
-        spawned = births.run_spawns_told source input opts range z.now z.births r (births.run_spawns_more source input opts range y.serials z.now z.grows.more y.births z.births z.keeps r y.spawns);
-        rides = ride_more source (MakesBelow source z.now z.births) (MakesLater source z.births) (λ s h. h.later) d.rides z.makes;
-      }
+      let first : Makers = run_makers source input opts r in
+      let z = births.ridden source (at_hand j w u) y.serials d.rides (start source input opts range rests on y.serials y.world p u d.runs d.given d.told) first in
+      let last : Makers = way_makers source input opts r d in (
+        record {
+          makers = last;
+          made = run_more source (MakesBelow source y.serials first) (MakesLater source last) (λ s h. (births.makes_more source y.serials z.now z.grows.more first last z.keeps s h).later) opts input r y.makes;
+          spawned = births.run_spawns_told source input opts range z.now last r (births.run_spawns_more source input opts range y.serials z.now z.grows.more first last z.keeps r y.spawns);
+          rides = ride_more source (MakesBelow source z.now last) (MakesLater source last) (λ s h. h.later) d.rides z.makes;
+        },
+        refl,
+      )
 
   module _ (leaves : RunLeaves source input opts j w r) (spares : RunMeets names.Spares source input opts j w r) (mains : RunMeets (CallsNoMain source) source input opts j w r) (mained : RideMeets (CallsNoMain source) source (answered source d.given (drawn j w u)) (left opts j u) s n q d.rides) where
     -- who runs has its name alone, as long as no step before forgot the running execution

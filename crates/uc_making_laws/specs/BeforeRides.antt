@@ -9,7 +9,7 @@ use Rattle.uc_acts.specs.KernelRuns.{InRange}
 use Rattle.uc_acts.specs.Serves.{left}
 use Rattle.uc_machine.specs.declared.exec.Exec.{Exec}
 use Rattle.uc_machine.specs.Monitors.{this_object}
-use Rattle.uc_machine.specs.Pieces.{Value, Todo, GoneNow, GiveUpNow, RaiseAtNow, Active, State}
+use Rattle.uc_machine.specs.Pieces.{Value, Object, Todo, GoneNow, GiveUpNow, RaiseAtNow, Active, State, top}
 use Rattle.uc_machine.specs.Answering.{answered}
 use Rattle.uc_meaning.specs.Runs.{World, Runs, AsksIn, drawn}
 use Rattle.uc_state_laws.specs.Fitting.{RunFits}
@@ -35,10 +35,9 @@ use Rattle.uc_making_laws.specs.Upheld.{MadeLaterTo}
 
 module _ (t : Table) (few : Few) (own : Exec → Value → Ty → Bool) (yet : Exec → List Active → Value → Ty → Bool) (makers : Makers) (asked : Exec → Bool) (j : Journal) (w : World) (u : ℕ) (v : State) where
   -- while task u has come to a state: what those that live have of others stood in what those had that made them
-  pub record IsStoodOnWay : Type 0 where
-    pub first : (z : Value) (b : Ty) → Base few (main_of 0) z b → own (main_of 0) z b ≡ true
-    pub based : (n : Exec) (cs : List Active) → Lives j (world_at w u v) n cs → (z : Value) (b : Ty) → Base few n z b → own n z b ≡ false →
-        IsStood t few makers asked yet j (world_at w u v) n z b
+  abbrev pub IsStoodOnWay : Type 0
+  IsStoodOnWay = (n : Exec) (cs : List Active) → Lives j (world_at w u v) n cs → (z : Value) (b : Ty) → Base few n z b → own n z b ≡ false →
+      IsStood t few makers asked yet j (world_at w u v) n z b
 
   -- so it is; where an object is in the own object of one that lives, it stands there in what one that lives is to clean up; and it does not stand in what
   -- is told beside the marks
@@ -50,12 +49,12 @@ module _ (t : Table) (few : Few) (own : Exec → Value → Ty → Bool) (yet : E
     pub told : (n : Exec) (cs : List Active) → Lives j (world_at w u v) n cs → (c : ℕ) →
         Stands t few (λ z b. yet n cs z b ≡ true) (Cell (Obj c)) (few.home o) → ⊥
 
-  -- so it is where an object goes, or is given up, and the first where an event is raised at one; of what else is let go of, or is entered again to be
-  -- destroyed, those of whom it is asked are clear
+  -- so it is where an object goes, or is given up, and the first where an event is raised at an object, not at a coroutine; of what else is let go of, or is
+  -- entered again to be destroyed, those of whom it is asked are clear
   abbrev pub RootedOnWayBy : Source → List Todo → Type 0
   RootedOnWayBy source (GoneNow ∷ todo) = IsRootedOnWay (this_object v)
   RootedOnWayBy source (GiveUpNow ∷ todo) = IsRootedOnWay (this_object v)
-  RootedOnWayBy source (RaiseAtNow ∷ todo) = IsStoodOnWay
+  RootedOnWayBy source (RaiseAtNow ∷ todo) = (o : ℕ) → top v.run.operands ≡ Object o → IsStoodOnWay
   RootedOnWayBy source todo = (k : KnowsState t few [] v) → IsClearAt t few source v k todo
 
   abbrev pub RootedOnWay : Source → Type 0
@@ -64,7 +63,7 @@ module _ (t : Table) (few : Few) (own : Exec → Value → Ty → Bool) (yet : E
 -- where an event is raised at an object what those that live have of others stands upwards, in the world as it stands while task u has come there
 module _ (t : Table) (few : Few) (own : Exec → Value → Ty → Bool) (yet : Exec → List Active → Value → Ty → Bool) (rank : Exec → ℕ) (j : Journal) (w : World) (u : ℕ) (v : State) where
   abbrev pub RaisesUpwardsBy : List Todo → Type 0
-  RaisesUpwardsBy (RaiseAtNow ∷ todo) = StandsUpwards t few j (world_at w u v) own yet rank
+  RaisesUpwardsBy (RaiseAtNow ∷ todo) = (o : ℕ) → top v.run.operands ≡ Object o → StandsUpwards t few j (world_at w u v) own yet rank
   RaisesUpwardsBy todo = Unit {0}
 
   abbrev pub RaisesUpwards : Type 0
@@ -72,7 +71,7 @@ module _ (t : Table) (few : Few) (own : Exec → Value → Ty → Bool) (yet : E
 
 -- on the way to what a task asks next, behind a run in which all that was asked so far fits, no step forgets the running execution, calls a main or binds
 -- what stands in a frame of another one, routines are there and unwindings have reasons, nobody leaves its home for good, marks are put for what is an
--- execution's own, object 0 is at home in nobody's own, and activations have their objects: just before an object goes, or its building is given up, it is nowhere in the world, and who does
+-- execution's own, object 0 is at home in nobody's own, the main of task 0 has its own object alone of others, and activations have their objects: just before an object goes, or its building is given up, it is nowhere in the world, and who does
 -- not run in the task spares it, as long as of some executions what was to be cleaned up as they were made stays (`RunKeeps`, `RideKeeps`); and where an
 -- event is raised at an object, what executions have of others stands upwards; so it is before the first step that forgets the running execution, if there
 -- is one
@@ -82,6 +81,7 @@ LawBeforeRides =
     (source : Source) (input : List ℕ) (opts : Options) (j : Journal) (w : World)
     (r : Runs source input opts j w) → InRange opts → RunFits source input opts j w r → is_over j ≡ false →
     ((n : Exec) → Belongs few n (few.home 0) → ⊥) →
+    ((z : Value) (b : Ty) → Base few (main_of 0) z b → own (main_of 0) z b ≡ true) →
     RunLeaves source input opts j w r → RunMeets names.Spares source input opts j w r →
     RunMeets (BindsOwn source) source input opts j w r → RunMeets (CallsNoMain source) source input opts j w r →
     RunMeets (FindsAll source) source input opts j w r → RunMeets (Puts t few) source input opts j w r →

@@ -1,4 +1,4 @@
--- Runs in which nobody has at hand what has gone, where activations have their objects: of who builds or destroys it is asked of who acts alone.
+-- Runs in which nobody has at hand what has gone, where activations have their objects and are told of them.
 use Rattle.std.specs.Prelude.{◌≡◌, ℕ, false, List, ◌++◌}
 use Rattle.uc_tree.specs.Source.{Source}
 use Rattle.uc_entry.specs.declared.entry.Entry.{Entry}
@@ -7,7 +7,6 @@ use Rattle.uc_entry.specs.declared.request.Request.{Request}
 use Rattle.uc_entry.specs.declared.request.Request.TheVariants as ask
 use Rattle.uc_acts.specs.Journal.{Journal, is_over}
 use Rattle.uc_acts.specs.Acts.{act}
-use Rattle.uc_acts.specs.Known.{has_ended}
 use Rattle.uc_acts.specs.KernelRuns.{InRange}
 use Rattle.uc_machine.specs.declared.exec.Exec.{Exec}
 use Rattle.uc_machine.specs.Pieces.{Value, Active}
@@ -18,15 +17,16 @@ use Rattle.uc_name_laws.specs.NameSteps as names
 use Rattle.uc_typing.specs.Typing.{Ty, Table}
 use Rattle.uc_life_laws.specs.RunningRuns.{RunLeaves}
 use Rattle.uc_life_laws.specs.Things.{Few, Base, Things}
-use Rattle.uc_life_laws.specs.Knowing.{KnowsState}
 use Rattle.uc_life_laws.specs.Belonging.{Belongs}
 use Rattle.uc_life_laws.specs.Marks.{Puts}
-use Rattle.uc_life_laws.specs.Lasting.{lasting, lasting_numbers, RunForgets}
-use Rattle.uc_life_laws.specs.Rooted.{IsPlace, Lives, RunApart}
+use Rattle.uc_life_laws.specs.Lasting.{RunForgets}
+use Rattle.uc_life_laws.specs.Rooted.{IsPlace, Lives}
 use Rattle.uc_apart_laws.specs.Clear.{IsNoHome}
 use Rattle.uc_rooted_runs.specs.Binds.{BindsOwn}
 use Rattle.uc_rooted_runs.specs.Mains.{CallsNoMain, FindsAll}
+use Rattle.uc_depth_laws.specs.Owing.{owed_waiting}
 use Rattle.uc_making_laws.specs.OwnThis.{FindsThis}
+use Rattle.uc_making_laws.specs.LettingGo.{FindsTold}
 
 -- what holds behind each act of a run by which an object goes: of the journal before, the act, the world behind, the task that acts, and the object
 module _ (P : Journal → List Entry → World → ℕ → ℕ → Type 0) where
@@ -50,14 +50,13 @@ module _ (t : Table) (few : Few) where
   pub record IsLeftNowhere (j : Journal) (a : List Entry) (x : World) (u o : ℕ) : Type 0 where
     pub nowhere : (n : Exec) (cs : List Active) → Lives (j ++ a) x n cs → IsNoHome t few o (Things t few n cs)
 
-  -- the task that acts builds and destroys it no more
-  abbrev pub IsLetGo : Journal → List Entry → World → ℕ → ℕ → Type 0
-  IsLetGo j a x u o = has_ended u (j ++ a) ≡ false → (given : List Ty) (k : KnowsState t (lasting few j) given (x.tasks u)) →
-      RunApart t (lasting few j) (lasting_numbers few.numbers (j ++ a)) o given (x.tasks u) k
+-- of the task that acts, those of its activations that wait are not to let go of the object
+abbrev pub IsOwedNothing : Journal → List Entry → World → ℕ → ℕ → Type 0
+IsOwedNothing j a x u o = owed_waiting o (x.tasks u).callers ≡ 0
 
 -- then nobody has at hand what has gone, as long as all that was asked so far fits, what executions have of others are places, no step binds what stands in
 -- a frame of another one, forgets the running one or calls a main, routines are there, unwindings have reasons, nobody leaves its home for good, marks are
--- put for what is an execution's own, object 0 is at home in nobody's own, and what is called, made and spawned is had
+-- put for what is an execution's own, object 0 is at home in nobody's own, what is called, made and spawned is had, and told of or let go of by what is called
 abbrev pub LawForgetsThis : Type 0
 LawForgetsThis =
     (t : Table) (few : Few) (source : Source) (input : List ℕ) (opts : Options) (j : Journal) (w : World)
@@ -70,5 +69,6 @@ LawForgetsThis =
     RunLeaves source input opts j w r → RunMeets names.Spares source input opts j w r →
     RunMeets (Puts t few) source input opts j w r →
     RunMeets (FindsThis t few source) source input opts j w r →
-    RunGoes (IsLeftNowhere t few) source input opts r → RunGoes (IsLetGo t few) source input opts r →
+    RunMeets (FindsTold t few source) source input opts j w r →
+    RunGoes (IsLeftNowhere t few) source input opts r → RunGoes IsOwedNothing source input opts r →
     RunForgets t few source input opts j w r

@@ -1,7 +1,9 @@
 pub mod OwnThis
 pub mod ThisRuns
 pub mod NoOthers
+pub mod LettingGo
 pub mod ForgetsThis
+pub mod LettingRuns
 pub mod RideWhile
 pub mod Upheld
 pub mod BeforeRides

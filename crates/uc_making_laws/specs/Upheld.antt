@@ -18,7 +18,7 @@ use Rattle.uc_life_laws.specs.RunningRuns.{RunLeaves}
 use Rattle.uc_life_laws.specs.OwnNames.{IsOwn}
 use Rattle.uc_apart_laws.specs.Before.{world_at}
 use Rattle.uc_rooted_runs.specs.Makers.{Makers}
-use Rattle.uc_rooted_runs.specs.Births.{MakesLater, RunSpawnsLater}
+use Rattle.uc_rooted_runs.specs.Births.{ride_makers, run_makers, MakesLater, RunSpawnsLater}
 use Rattle.uc_rooted_runs.specs.Mains.{CallsNoMain}
 use Rattle.uc_rooted_runs.specs.OutlastRuns.{with_homes, run_made, now}
 use Rattle.uc_rooted_runs.specs.Upwards.{OutlastWorld}
@@ -34,6 +34,10 @@ pub record MadeLaterTo (source : Source) (input : List ℕ) (opts : Options) (j 
   pub spawned : RunSpawnsLater makers source input opts j w r
   pub rides : RideMeets (MakesLater source makers) source (answered source d.given (drawn j w u)) (left opts j u) s n q d.rides
 
+-- by whom executions were made, as a run and the way to what is asked next tell it
+abbrev pub way_makers : (source : Source) (input : List ℕ) (opts : Options) {j : Journal} {w : World} → Runs source input opts j w → {p u n : ℕ} {s : State} {q : Asked} → AsksIn source opts j w p u n s q → Makers
+way_makers source input opts r d = ride_makers source (run_makers source input opts r) d.rides
+
 -- while task u has come to a state: who runs has its name alone there, and what is in hand is held; those that were made by then are all that are there,
 -- and later than those that made them; and what those were to clean up then stays with them
 pub record UpheldAt (makers : Makers) (asked : Exec → Bool) (j : Journal) (w : World) (u : ℕ) (v : State) : Type 0 where
@@ -45,12 +49,12 @@ pub record UpheldAt (makers : Makers) (asked : Exec → Bool) (j : Journal) (w :
   pub later : (n : Exec) → made n ≡ true → makers.rank (makers.parent n) < makers.rank n
 
 -- of a run in which all that was asked so far fits, no step forgets the running execution or calls a main, and nobody leaves its home for good, and of the
--- way to what is asked next, on which no step calls a main: there are such, and so it is in each state on the way before which no step forgot it
+-- way to what is asked next, on which no step calls a main: such are those that are told, and so it is in each state on the way before which no step forgot it
 pub record LawUpheld : Type 0 where
   pub births : (source : Source) (input : List ℕ) (opts : Options) (j : Journal) (w : World)
       (r : Runs source input opts j w) → InRange opts → RunFits source input opts j w r → is_over j ≡ false →
       (p u n : ℕ) (s : State) (q : Asked) (d : AsksIn source opts j w p u n s q) →
-      MadeLaterTo source input opts j w r p u n s q d
+      (b : MadeLaterTo source input opts j w r p u n s q d) × (b.makers ≡ way_makers source input opts r d)
   pub upheld : (asked : Exec → Bool) (homes : ℕ → Value) (source : Source) (input : List ℕ) (opts : Options)
       (j : Journal) (w : World) (r : Runs source input opts j w) → InRange opts → RunFits source input opts j w r →
       is_over j ≡ false → RunLeaves source input opts j w r → RunMeets names.Spares source input opts j w r →

@@ -2,6 +2,8 @@
 
 ghost use Rattle.uc_making_laws.specs.BeforeRides.{LawBeforeRides};
 ghost use Rattle.uc_making_laws.specs.ForgetsThis.{LawForgetsThis};
+ghost use Rattle.uc_making_laws.specs.LettingGo.{LawLetting};
+ghost use Rattle.uc_making_laws.specs.LettingRuns.{LawLettingRuns};
 ghost use Rattle.uc_making_laws.specs.NoOthers.{LawNoOthers};
 ghost use Rattle.uc_making_laws.specs.OwnThis.{LawThis};
 ghost use Rattle.uc_making_laws.specs.ThisRuns.{LawThisRuns};
@@ -22,8 +24,19 @@ pub fn law_no_others()
     ensures { LawNoOthers }
 {}
 
+/// Activations go on to be told of their objects by older ones, or to let go of them: where an object is let go of
+/// and its home is at hand of nobody, none that waits is of it.
+pub fn law_letting()
+    ensures { LawLetting }
+{}
+
+/// So it is in each run in which what is called is told of its object, or lets go of it.
+pub fn law_letting_runs()
+    ensures { LawLettingRuns }
+{}
+
 /// So nobody has at hand what has gone, in runs in which behind each act by which an object goes nobody has at
-/// hand that in which it was at home, and who acted builds and destroys it no more.
+/// hand that in which it was at home, who acted has no operands, and those that wait there are not to let go of it.
 pub fn law_forgets_this()
     ensures { LawForgetsThis }
 {}

@@ -131,8 +131,7 @@ fn note_constructor(
         routine,
         params: &params,
     };
-    note_inits(names, &built, &routine.inits)?;
-    Ok(())
+    note_inits(names, &built, &routine.inits)
 }
 
 fn note_routine(

@@ -101,15 +101,14 @@ fn may_refer(
     if !is_unshared(sort) {
         return Ok(true);
     }
-    let inside = is_bound_inside(
+    is_bound_inside(
         names.alloc(),
         names.tables(),
         class,
         place,
         bound,
         &declarator.name,
-    )?;
-    Ok(inside)
+    )
 }
 
 // Behind another break nothing is asked.
@@ -152,10 +151,7 @@ fn note_unshared(
         (may_refer names.now.program class.now place declarator.now.name) O5 declarator.now.pos)) }
 {
     match sort {
-        Some(sort) => {
-            note_referred(names, class, place, bound, declarator, sort, found)?;
-            Ok(())
-        }
+        Some(sort) => note_referred(names, class, place, bound, declarator, sort, found),
         None => Ok(()),
     }
 }
@@ -224,8 +220,7 @@ pub fn note_field(
 {
     let sort = names.tables().sort_of(base);
     note_field_condition(names, sort, declarator, found);
-    note_reference(names, class, bound, sort, declarator, found)?;
-    Ok(())
+    note_reference(names, class, bound, sort, declarator, found)
 }
 
 fn note_field_condition(

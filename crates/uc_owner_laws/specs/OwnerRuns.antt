@@ -1,9 +1,8 @@
--- Runs of programs in which what events are raised at is of a task.
-use Rattle.std.specs.Prelude.{◌≡◌, ℕ, ◌<◌, Bool, false, List, [], ◌∷◌}
+-- Runs of programs in which whoever raises an event at what is out of scope builds or destroys that.
+use Rattle.std.specs.Prelude.{◌≡◌, ℕ, Bool, false, List, [], ◌∷◌}
 use Rattle.uc_tree.specs.Programs.{Program}
 use Rattle.uc_entry.specs.declared.entry.Options.{Options}
 use Rattle.uc_acts.specs.Journal.{Journal, is_over}
-use Rattle.uc_acts.specs.Known.{object_count, is_gone, owner}
 use Rattle.uc_acts.specs.KernelRuns.{InRange}
 use Rattle.uc_machine.specs.declared.exec.Exec.{Exec}
 use Rattle.uc_machine.specs.Pieces.{Value, Object, Todo, RaiseAtNow, Active, State, top}
@@ -13,21 +12,21 @@ use Rattle.uc_state_laws.specs.Fitting.{RunFits}
 use Rattle.uc_resolve.specs.Resolve.{source_of}
 use Rattle.uc_rules.specs.Breaks.{breaks_of}
 use Rattle.uc_state_laws.specs.RoomRuns.{Comes}
-use Rattle.uc_state_laws.specs.Opens.{LeadsMeet}
-use Rattle.uc_typing.specs.Typing.{Ty, Raw}
+use Rattle.uc_state_laws.specs.Opens.{RunMeets, LeadsMeet}
 use Rattle.uc_sound.specs.SoundFormed.{IsFormed}
 use Rattle.uc_sound.specs.Tables.{table_of}
-use Rattle.uc_life_laws.specs.Things.{Few, Base}
+use Rattle.uc_typing.specs.Typing.{Ty, Raw}
+use Rattle.uc_life_laws.specs.Things.{Few, Base, Things}
 use Rattle.uc_life_laws.specs.Knowing.{InMaking, KnowsState}
+use Rattle.uc_life_laws.specs.Marks.{Puts}
 use Rattle.uc_life_laws.specs.Rooted.{IsPlace, StandsUpwards}
 use Rattle.uc_apart_laws.specs.Before.{world_at}
-use Rattle.uc_tasked_laws.specs.SeatedStates.{Fair}
-use Rattle.uc_tasked_laws.specs.TaskedRuns.{told_by, RunFair, RunMakesApart}
-use Rattle.uc_owner_laws.specs.Owners.{OwnersBeside}
+use Rattle.uc_apart_laws.specs.Clear.{IsNoHome}
+use Rattle.uc_owner_laws.specs.Owners.{OutOfScope}
 
--- in each run of a program that breaks no rule, as long as all that was asked so far fits and each step found what it was to find: where whoever runs
--- raises an event at an object that was made, is not gone, and is not built or destroyed by who runs, that is of a task, if in the world as it then
--- stands tasks are in scope, parts, or such where they stand elsewhere, and what executions have of others stands upwards
+-- in each run of a program that breaks no rule, as long as all that was asked so far fits and marks are put for what is an execution's own: where whoever
+-- runs raises an event at an object that is out of scope in the world as it then stands, it has nothing at hand in which that is at home, and it builds or
+-- destroys it, if what executions have of others stands upwards there
 abbrev pub LawOwnerRuns : Type 0
 LawOwnerRuns =
     (p : Program) → IsFormed p → breaks_of p ≡ [] → (few : Few) →
@@ -35,13 +34,12 @@ LawOwnerRuns =
     (input : List ℕ) (opts : Options) → InRange opts →
     (j : Journal) (w : World) (r : Runs (source_of p) input opts j w) →
     RunFits (source_of p) input opts j w r → is_over j ≡ false →
-    RunFair p few.home (source_of p) input opts j w r →
-    RunMakesApart p few.home (source_of p) input opts j w r →
+    RunMeets (Puts (table_of p) few) (source_of p) input opts j w r →
     (n : ℕ) (s : State) (c : Comes (source_of p) j w n s) →
-    LeadsMeet (Fair p (source_of p) (told_by few.home j)) (source_of p) (answered (source_of p) c.given (drawn j w n)) s c.leads →
+    LeadsMeet (Puts (table_of p) few) (source_of p) (answered (source_of p) c.given (drawn j w n)) s c.leads →
     (own : Exec → Value → Ty → Bool) (yet : Exec → List Active → Value → Ty → Bool) (rank : Exec → ℕ) →
-    OwnersBeside p few j (world_at w n s) own yet → StandsUpwards (table_of p) few j (world_at w n s) own yet rank →
+    StandsUpwards (table_of p) few j (world_at w n s) own yet rank →
     (k : KnowsState (table_of p) few [] s) (todo : List Todo) → s.run.control ≡ RaiseAtNow ∷ todo →
-    (o : ℕ) → top s.run.operands ≡ Object o →
-    ((i : ℕ) → InMaking k.sigs (s.run ∷ s.callers) (Object o) (Raw i) → ⊥) →
-    o < object_count j → is_gone o j ≡ false → owner o j ≡ [] → ⊥
+    (o : ℕ) → top s.run.operands ≡ Object o → OutOfScope (table_of p) few j (world_at w n s) own yet o →
+    IsNoHome (table_of p) few o (Things (table_of p) few s.env.exec (s.run ∷ s.callers)) ×
+    ((i : ℕ) × InMaking k.sigs (s.run ∷ s.callers) (Object o) (Raw i))

@@ -1,48 +1,40 @@
--- Worlds in which whoever is at home where a task stands in what an execution has at hand is of a task: so is what events are raised at.
-use Rattle.std.specs.Prelude.{◌≡◌, ℕ, ◌<◌, ◌⊎◌, Bool, true, false, List, []}
-use Rattle.uc_tree.specs.Programs.{Program}
+-- Worlds in which nobody has to clean up that in which a mutex object is at home: nobody has that at hand, and whoever knows the object by its number
+-- builds or destroys it.
+use Rattle.std.specs.Prelude.{◌≡◌, ℕ, Bool, true, List}
 use Rattle.uc_acts.specs.Journal.{Journal}
-use Rattle.uc_acts.specs.Known.{object_count, is_gone, owner}
 use Rattle.uc_machine.specs.declared.exec.Exec.{Exec}
 use Rattle.uc_machine.specs.Pieces.{Value, Object, Active}
 use Rattle.uc_meaning.specs.Runs.{World}
-use Rattle.uc_typing.specs.Typing.{Ty, Cell, Obj, Raw, Sig}
-use Rattle.uc_sound.specs.Tables.{table_of}
-use Rattle.uc_life_laws.specs.Things.{Few, Base, Things, Stands}
+use Rattle.uc_typing.specs.Typing.{Ty, Cell, Obj, Raw, Sig, Table}
+use Rattle.uc_life_laws.specs.Things.{Few, Base, Stands}
+use Rattle.uc_life_laws.specs.Belonging.{Belongs}
 use Rattle.uc_life_laws.specs.Knowing.{InMaking}
+use Rattle.uc_life_laws.specs.Marks.{Marked, Free}
 use Rattle.uc_life_laws.specs.Rooted.{IsPlace, Lives, Yet, OwnObject, StandsUpwards}
+use Rattle.uc_life_laws.specs.Unmarked.{LoneWorld}
+use Rattle.uc_apart_laws.specs.Nowhere.{IsNowhere}
 use Rattle.uc_tasked_laws.specs.Aims.{IsAimed}
-use Rattle.uc_tasked_laws.specs.SeatedStates.{IsFree}
-use Rattle.uc_tasked_laws.specs.TaskedRuns.{told_by, AllKeep}
-use Rattle.uc_tasked_laws.specs.TaskedLaws.{InScope}
 
--- in a world, of those that live: where a mutex object that is a task stands in what they have to clean up, it is in scope, or a part of an object
--- under construction, or nobody is at home there who is still to be of a task; nor is anybody where one stands in their own objects
-pub record OwnersBeside (p : Program) (few : Few) (j : Journal) (x : World) (own : Exec → Value → Ty → Bool) (yet : Exec → List Active → Value → Ty → Bool) : Type 0 where
-  pub others : (n : Exec) (cs : List Active) → Lives j x n cs → (i : ℕ) → (table_of p).tasks i ≡ true → (w : Value) →
-      Stands (table_of p) few (Yet (table_of p) yet n cs) (Cell (Obj i)) w →
-      InScope (table_of p) n cs w (Cell (Obj i)) ⊎ IsFree (told_by few.home j) w
-  pub objects : (n : Exec) (cs : List Active) → Lives j x n cs → (i : ℕ) → (table_of p).tasks i ≡ true → (w : Value) →
-      Stands (table_of p) few (OwnObject few own n) (Cell (Obj i)) w → IsFree (told_by few.home j) w
+-- of an object, in a world: one that lives, and has it at home in what is its own, has no mark around it; where it stands in the own object of one that
+-- lives, there it stands in what one that lives is to clean up; and it does not stand in what is told beside the marks
+pub record OutOfScope (t : Table) (few : Few) (j : Journal) (x : World) (own : Exec → Value → Ty → Bool) (yet : Exec → List Active → Value → Ty → Bool) (o : ℕ) : Type 0 where
+  pub unmarked : (n : Exec) (cs : List Active) → Lives j x n cs → Belongs few n (few.home o) →
+      Free t few o (Marked t n cs)
+  pub covered : (n : Exec) (cs : List Active) → Lives j x n cs → (c : ℕ) →
+      Stands t few (OwnObject few own n) (Cell (Obj c)) (few.home o) →
+      (m : Exec) × (ds : List Active) × Lives j x m ds × (d : ℕ) × Stands t few (Yet t yet m ds) (Cell (Obj d)) (few.home o)
+  pub told : (n : Exec) (cs : List Active) → Lives j x n cs → (c : ℕ) →
+      Stands t few (λ w b. yet n cs w b ≡ true) (Cell (Obj c)) (few.home o) → ⊥
 
--- so it is, nobody is at home who is still to be of a task where one is in scope, or a part of an object under construction, and what executions have of
--- others stands upwards
-pub record KeepsOwners (p : Program) (few : Few) (j : Journal) (x : World) (own : Exec → Value → Ty → Bool) (yet : Exec → List Active → Value → Ty → Bool) (rank : Exec → ℕ) : Type 0 where
-  pub seats : (n : Exec) (cs : List Active) → Lives j x n cs → AllKeep p (told_by few.home j) n cs
-  pub beside : OwnersBeside p few j x own yet
-  pub up : StandsUpwards (table_of p) few j x own yet rank
-
--- then so it is wherever a task stands in what one that lives has at hand; and what is raised at is of a task, if it was made, is not gone, and
--- whoever raises the event does not build or destroy it
+-- then it is nowhere in the world, if all marks are for what is their execution's own, and what executions have of others stands upwards; and whoever
+-- knows it by its number, as one that an event may be raised at, builds or destroys it
 pub record LawOwners : Type 0 where
-  pub things : (p : Program) (few : Few) (j : Journal) (x : World) (own : Exec → Value → Ty → Bool)
-      (yet : Exec → List Active → Value → Ty → Bool) (rank : Exec → ℕ) →
-      KeepsOwners p few j x own yet rank → (n : Exec) (cs : List Active) → Lives j x n cs → (i : ℕ) →
-      (table_of p).tasks i ≡ true → (w : Value) → Stands (table_of p) few (Things (table_of p) few n cs) (Cell (Obj i)) w →
-      IsFree (told_by few.home j) w
-  pub aimed : (p : Program) (few : Few) (j : Journal) (x : World) (own : Exec → Value → Ty → Bool)
-      (yet : Exec → List Active → Value → Ty → Bool) (rank : Exec → ℕ) →
-      KeepsOwners p few j x own yet rank → ((n : Exec) (w : Value) (b : Ty) → Base few n w b → IsPlace w) →
-      (n : Exec) (gs : List Sig) (cs : List Active) → Lives j x n cs → (i o : ℕ) → (table_of p).tasks i ≡ true →
-      IsAimed (table_of p) few n gs cs i o → (InMaking gs cs (Object o) (Raw i) → ⊥) →
-      o < object_count j → is_gone o j ≡ false → owner o j ≡ [] → ⊥
+  pub nowhere : (t : Table) (few : Few) (j : Journal) (x : World) (own : Exec → Value → Ty → Bool)
+      (yet : Exec → List Active → Value → Ty → Bool) (rank : Exec → ℕ) (o : ℕ) →
+      LoneWorld t few x → OutOfScope t few j x own yet o → StandsUpwards t few j x own yet rank →
+      IsNowhere t few j x own yet rank o
+  pub aimed : (t : Table) (few : Few) (j : Journal) (x : World) (own : Exec → Value → Ty → Bool)
+      (yet : Exec → List Active → Value → Ty → Bool) (rank : Exec → ℕ) (o : ℕ) →
+      IsNowhere t few j x own yet rank o → ((n : Exec) (w : Value) (b : Ty) → Base few n w b → IsPlace w) →
+      (n : Exec) (gs : List Sig) (cs : List Active) → Lives j x n cs → (i : ℕ) →
+      IsAimed t few n gs cs i o → InMaking gs cs (Object o) (Raw i)

@@ -18,7 +18,7 @@ use Rattle.uc_life_laws.specs.Placed.{Placed, stacked, Ends, all}
 use Rattle.uc_life_laws.specs.Outermost.{outermost, outer_by}
 use Rattle.uc_life_laws.specs.Destroying.{Seat, Destroying, DestroyingAt, AtElement, EndsElement, EndsBelow, CleansUp}
 use Rattle.uc_life_laws.specs.Held.{Seating, SoonIn, Soon, SoonHere, Onwards, HoldsNow, Takes, OfCounted, HoldsCounted, Recounts}
-use Rattle.uc_life_laws.specs.Ways.{ExitsBy}
+use Rattle.uc_life_laws.specs.Ways.{ExitsBy, LeavesAt}
 use Rattle.uc_life_laws.specs.Completing.{AreParts, AreTaken, TakesOver, IsSetUp}
 use Rattle.uc_life_laws.proofs.Completing.{law_completing}
 use Rattle.uc_life_laws.proofs.Cells.{either}
@@ -63,6 +63,7 @@ module _ (source : Source) (seats : Seating) (up : Exec → Bool) (s : State) (x
 
   pub none_counted : (todo : List Todo) → IsFree todo → HoldsCounted source seats up s x todo → ⊥
   none_counted [] f h = absurd h
+  none_counted (piece.CountNow m ∷ (piece.FillNow k b d ∷ todo)) f h = absurd f
   none_counted (p ∷ todo) f h = free_by (piece.sort p) todo (HoldsCounted source seats up s x todo) (IsFree todo) (none_counted todo) f h
 
 -- who runs stays who runs
@@ -150,13 +151,15 @@ module _ (source : Source) (special : ℕ → Bool) (makers : Makers) (homes : �
       subst (λ l. Leads x (quiet.act_todo source l s)) (sym e) (subst (λ c. Leads x (quiet.turns (quiet.fill_todo c m b d todo) s)) (sym f) (refl, (0, (2, stands x m b d todo o h))))
 
   -- elements are counted anew
-  counts : (m : ℕ) (todo : List Todo) → s.run.control ≡ piece.CountNow m ∷ todo → CountsNext m todo → IsOrderly special Q s.run.elements todo → GoesAt source Seats Up (piece.CountNow m ∷ todo) s → Recounts source Seats Up s todo
-  counts m (piece.Sweep d ∷ todo) e c k g x own (inl h) =
+  sweeps : (m : ℕ) (d : Expr) (todo : List Todo) → s.run.control ≡ piece.CountNow m ∷ (piece.Sweep d ∷ todo) → Counts m d → IsFree todo → Recounts source Seats Up s (piece.Sweep d ∷ todo)
+  sweeps m d todo e c k x own (inl h) =
       subst (λ l. Leads x (quiet.act_todo source l s)) (sym e) (refl, (0, (0, inl (all_below m s.run.elements d source (W x) s.env.exec s.run.frame s.run.this c h.0, h.1))))
-  counts m (piece.Sweep d ∷ todo) e c k g x own (inr h) = absurd (none_counted source Seats Up s x todo k.0 h)
-  counts m (piece.FillNow i b d ∷ todo) e c k g x own (inl h) = absurd (g x own h.0)
-  counts m (piece.FillNow i b d ∷ todo) e c k g x own (inr h) = absurd (none_counted source Seats Up s x todo k.1 h)
-  counts m todo e c k g x own h = absurd c
+  sweeps m d todo e c k x own (inr h) = absurd (none_counted source Seats Up s x todo k h)
+
+  counts : (m : ℕ) (todo : List Todo) → s.run.control ≡ piece.CountNow m ∷ todo → CountsNext m todo → IsOrderly special Q s.run.elements todo → LeavesAt source Seats Up (piece.CountNow m ∷ todo) s
+  counts m (piece.Sweep d ∷ todo) e c k = sweeps m d todo e c k.0
+  counts m (piece.FillNow i b d ∷ todo) e c k = λ x own h. absurd (none_counted source Seats Up s x todo k.1 h)
+  counts m todo e c k = absurd c
 
   exits : (p : Todo) (todo : List Todo) → IsClear (p ∷ todo) → ExitsBy source Seats Up (piece.sort p) todo s
   exits (piece.Part c) todo l = absurd l
@@ -169,7 +172,7 @@ module _ (source : Source) (special : ℕ → Bool) (makers : Makers) (homes : �
   leaves st (piece.Part c ∷ todo) e k g = part c todo st e k.0.1 k.0.0 k.1
   leaves st (piece.FillNow m b d ∷ todo) e k g = λ f. fill m b d todo e k.0 f
   leaves st (piece.Sweep d ∷ todo) e k g = (g, λ x own h. absurd (none_counted source Seats Up s x todo k.0 h))
-  leaves st (piece.CountNow m ∷ todo) e k g = counts m todo e k.0 k.1 g
+  leaves st (piece.CountNow m ∷ todo) e k g = counts m todo e k.0 k.1
   leaves st (piece.MoreNow ∷ todo) e k g = k.0.1
   leaves st (piece.Unwind ∷ (p ∷ todo)) e k g = g
   leaves st (piece.Exit w ∷ (p ∷ todo)) e k g = exits p todo k.0

@@ -5,3 +5,12 @@ pub mod PartSources
 pub mod Leaving
 pub mod SpawnSteps
 pub mod PartsRuns
+pub mod UndoingMarks
+pub mod UndoingLists
+pub mod UndoingSteps
+pub mod UndoingWalk
+pub mod Taking
+pub mod Undoings
+pub mod UndoingSources
+pub mod UndoingWorlds
+pub mod TakenRuns

@@ -38,6 +38,7 @@ use Rattle.uc_parts_laws.specs.PartsRuns.{parts_of, LawPartsRuns, RideKeepsBesid
 use Rattle.uc_parts_laws.proofs.PartSteps as steps
 use Rattle.uc_parts_laws.proofs.PartWalk.{walk, begins, answered_there}
 use Rattle.uc_parts_laws.proofs.PartSources.{law_parts_sources}
+use Rattle.uc_parts_laws.proofs.TakenRuns.{run_taken, ride_taken}
 use Rattle.uc_parts_laws.proofs.Leaving.{taken_over, law_leaving}
 use Rattle.uc_parts_laws.proofs.SpawnSteps.{SpawnAsk, SpawnStep, walk as spawning}
 
@@ -120,10 +121,12 @@ module _ (g : Setting) (known : PartsSource g.special g.source) where
 
 pub law_parts_runs : LawPartsRuns
 law_parts_runs = record {
-  runs = λ p formed accepted home input opts j w r h. (run_parts (parts_of p home) (law_parts_sources p formed accepted) input opts j w r h).states;
-  rides = λ p formed accepted home input opts j w r h q t n s asked d k.
+  runs = λ p formed accepted home input opts range j w r fits same.
+      (run_parts (parts_of p home) (law_parts_sources p formed accepted) input opts j w r (run_taken p formed accepted home input opts range j w r fits same)).states;
+  rides = λ p formed accepted home input opts range j w r fits same on q t n s asked d.
       let known : PartsSource (special_of p) (source_of p) = law_parts_sources p formed accepted in
-      ride_states (parts_of p home) known d.rides k (answered_parts (parts_of p home) known j w q t n s asked opts d (run_parts (parts_of p home) known input opts j w r h).world);
+      let world = (run_parts (parts_of p home) known input opts j w r (run_taken p formed accepted home input opts range j w r fits same)).world in
+      ride_states (parts_of p home) known d.rides (ride_taken p formed accepted home input opts range j w r fits same on q t n s asked d) (answered_parts (parts_of p home) known j w q t n s asked opts d world);
 }
 
 -- so executions are held soon

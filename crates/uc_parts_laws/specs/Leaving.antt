@@ -1,12 +1,11 @@
 -- What is left to find of steps that take marks away, where parts of objects are taken over; of steps that make executions nothing is.
-use Rattle.std.specs.Prelude.{◌≡◌, ℕ, Bool, false, List, ◌∷◌}
+use Rattle.std.specs.Prelude.{ℕ, Bool, List, ◌∷◌}
 use Rattle.uc_tree.specs.Source.{Source}
 use Rattle.uc_machine.specs.declared.exec.Exec.{Exec}
 use Rattle.uc_machine.specs.Pieces as piece
 use Rattle.uc_machine.specs.Pieces.{Value, Todo, State, sort}
-use Rattle.uc_life_laws.specs.Destroying.{EndsBelow}
-use Rattle.uc_life_laws.specs.Held.{Seating, IsOwn, Takes}
-use Rattle.uc_life_laws.specs.Ways.{calls_plainly, ForgetsBy, UnwindsBy}
+use Rattle.uc_life_laws.specs.Held.{Seating, IsOwn}
+use Rattle.uc_life_laws.specs.Ways.{ReadsLast, ForgetsBy, UnwindsBy}
 use Rattle.uc_rooted_runs.specs.Makers.{Makers, seating}
 use Rattle.uc_rooted_runs.specs.Births.{MakesLater}
 use Rattle.uc_rooted_runs.specs.OutlastRuns.{with_homes, now}
@@ -14,14 +13,12 @@ use Rattle.uc_rooted_runs.specs.KeptRuns.{Keeps}
 use Rattle.uc_parts_laws.specs.PartStates.{PartsState}
 
 module _ (source : Source) (seats : Seating) (up : Exec → Bool) where
-  -- an execution is up no more where its coroutine is forgotten or its task goes; where the destructor of a mutex object is called, those that this ends are held
-  -- soon; and none is up at an element of an array that is to be built
+  -- an execution is up no more where its coroutine is forgotten or its task goes; and where the destructor of a mutex object is called that comes to the end of
+  -- one, that object is read there
   abbrev pub GoesAt : List Todo → State → Type 0
-  GoesAt (piece.Clean c ∷ todo) s = ForgetsBy source seats up (piece.IsClean c) c todo s
-  GoesAt (piece.Sweep d ∷ todo) s = calls_plainly d ≡ false → Takes source seats up s (piece.IsSweep d) todo
-  GoesAt (piece.CountNow m ∷ (piece.FillNow n b d ∷ todo)) s = (x : Exec) → IsOwn source seats up s x →
-      EndsBelow source (seats.seat x) s.env.exec s.run.frame s.run.this s.run.elements d → ⊥
-  GoesAt (piece.Unwind ∷ (p ∷ todo)) s = UnwindsBy source seats up (sort p) todo s
+  GoesAt (piece.Clean c ∷ todo) s = ForgetsBy source seats up c s
+  GoesAt (piece.Sweep d ∷ todo) s = (x : Exec) → IsOwn source seats up s x → ReadsLast source seats up x d s
+  GoesAt (piece.Unwind ∷ (p ∷ todo)) s = UnwindsBy source seats up (sort p) s
   GoesAt todo s = Unit {0}
 
   abbrev pub GoesNow : State → Type 0

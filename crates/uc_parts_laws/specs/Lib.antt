@@ -3,3 +3,7 @@ pub mod PartStates
 pub mod PartsLaws
 pub mod Leaving
 pub mod PartsRuns
+pub mod Undoing
+pub mod UndoingTodos
+pub mod UndoingStates
+pub mod UndoingLaws

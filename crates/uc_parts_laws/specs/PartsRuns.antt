@@ -1,12 +1,13 @@
 -- Runs of programs in which parts of objects under construction are taken over, so that executions are held soon, as far as their coroutines are forgotten and
 -- mutex objects are destroyed as is to be found.
-use Rattle.std.specs.Prelude.{◌≡◌, ℕ, Bool, List, []}
+use Rattle.std.specs.Prelude.{◌≡◌, ℕ, Bool, false, List, []}
 use Rattle.uc_tree.specs.Programs.{Program}
 use Rattle.uc_tree.specs.Source.{Source}
 use Rattle.uc_entry.specs.declared.entry.Entry.{Entry}
 use Rattle.uc_entry.specs.declared.entry.Options.{Options}
 use Rattle.uc_entry.specs.declared.request.Asked.{Asked}
-use Rattle.uc_acts.specs.Journal.{Journal}
+use Rattle.uc_acts.specs.Journal.{Journal, is_over}
+use Rattle.uc_acts.specs.KernelRuns.{InRange}
 use Rattle.uc_acts.specs.Serves.{left}
 use Rattle.uc_machine.specs.declared.exec.Exec.{Exec}
 use Rattle.uc_machine.specs.Pieces.{Value, State}
@@ -16,29 +17,32 @@ use Rattle.uc_meaning.specs.Runs.{World, May, Runs, AsksIn, drawn, gives, no_roo
 use Rattle.uc_resolve.specs.Resolve.{source_of}
 use Rattle.uc_rules.specs.Breaks.{breaks_of}
 use Rattle.uc_sound.specs.SoundFormed.{IsFormed}
+use Rattle.uc_state_laws.specs.Fitting.{RunFits}
 use Rattle.uc_state_laws.specs.Opens.{RideMeets, RunMeets}
+use Rattle.uc_life_laws.specs.Homes.{home_of}
 use Rattle.uc_putting_laws.specs.PuttingLaws.{special_of}
 use Rattle.uc_rooted_runs.specs.Makers.{Makers, seating}
 use Rattle.uc_rooted_runs.specs.Births.{MakesLater, RunSpawnsLater}
 use Rattle.uc_rooted_runs.specs.OutlastRuns.{with_homes, made_behind, run_made, now}
 use Rattle.uc_rooted_runs.specs.KeptRuns.{RideKeeps, RunKeeps}
-use Rattle.uc_parts_laws.specs.PartStates.{Setting, PartsState, CallsTaken}
+use Rattle.uc_parts_laws.specs.PartStates.{Setting, PartsState}
 use Rattle.uc_parts_laws.specs.Leaving.{GoesNow}
 
 -- of a program, with the homes of mutex objects
 abbrev pub parts_of : Program → (ℕ → Value) → Setting
 parts_of p home = record { source = source_of p; special = special_of p; home = home }
 
--- in each run of a program that breaks no rule parts are taken over in each state, as long as those are that a routine which is called is to build; and so it
--- is on the way to what is asked next
+-- in each run of a program that breaks no rule, with the homes of mutex objects that it tells, parts are taken over in each state, as long as all that was
+-- asked before fits; and so it is on the way to what is asked next, whether that fits or not
 pub record LawPartsRuns : Type 0 where
-  pub runs : (p : Program) → IsFormed p → breaks_of p ≡ [] → (home : ℕ → Value) (input : List ℕ) (opts : Options) (j : Journal) (w : World)
-      (r : Runs (source_of p) input opts j w) → RunMeets (CallsTaken (parts_of p home)) (source_of p) input opts j w r →
+  pub runs : (p : Program) → IsFormed p → breaks_of p ≡ [] → (home : ℕ → Value) (input : List ℕ) (opts : Options) → InRange opts →
+      (j : Journal) (w : World) (r : Runs (source_of p) input opts j w) → RunFits (source_of p) input opts j w r →
+      ((o : ℕ) → home o ≡ home_of (source_of p) input opts j w r o) →
       RunMeets (PartsState (parts_of p home)) (source_of p) input opts j w r
-  pub rides : (p : Program) → IsFormed p → breaks_of p ≡ [] → (home : ℕ → Value) (input : List ℕ) (opts : Options) (j : Journal) (w : World)
-      (r : Runs (source_of p) input opts j w) → RunMeets (CallsTaken (parts_of p home)) (source_of p) input opts j w r →
+  pub rides : (p : Program) → IsFormed p → breaks_of p ≡ [] → (home : ℕ → Value) (input : List ℕ) (opts : Options) → InRange opts →
+      (j : Journal) (w : World) (r : Runs (source_of p) input opts j w) → RunFits (source_of p) input opts j w r →
+      ((o : ℕ) → home o ≡ home_of (source_of p) input opts j w r o) → is_over j ≡ false →
       (q t n : ℕ) (s : State) (asked : Asked) (d : AsksIn (source_of p) opts j w q t n s asked) →
-      RideMeets (CallsTaken (parts_of p home)) (source_of p) (answered (source_of p) d.given (drawn j w t)) (left opts j t) s n asked d.rides →
       RideMeets (PartsState (parts_of p home)) (source_of p) (answered (source_of p) d.given (drawn j w t)) (left opts j t) s n asked d.rides
 
 module _ (makers : Makers) (asked : Exec → Bool) where

@@ -3,6 +3,7 @@
 ghost use Rattle.uc_parts_laws.specs.Leaving.{LawLeaving};
 ghost use Rattle.uc_parts_laws.specs.PartsLaws.{LawParts, LawPartsSources};
 ghost use Rattle.uc_parts_laws.specs.PartsRuns.{LawKeptParts, LawPartsRuns};
+ghost use Rattle.uc_parts_laws.specs.UndoingLaws.{LawTaking, LawUndoing};
 
 /// In the source of every program that breaks no rule parts of objects are built by constructors alone, outside all
 /// other statements, and where elements of an array are built their clean-up stands next.
@@ -16,13 +17,15 @@ pub fn law_parts()
     ensures { LawParts }
 {}
 
-/// So it is in each state of runs of programs, and on the way to what is asked next.
+/// In each state of runs of programs parts are taken over, and on the way to what is asked next, as long as all that was
+/// asked before fits.
 pub fn law_parts_runs()
     ensures { LawPartsRuns }
 {}
 
 /// Where parts are taken over, executions are held soon behind each step that takes their marks away or makes them,
-/// as far as those are up no more whose coroutines are forgotten, and destructors of mutex objects lead on.
+/// as far as those are up no more whose coroutines are forgotten, and mutex objects that hold one are read where they
+/// are destroyed.
 pub fn law_leaving()
     ensures { LawLeaving }
 {}
@@ -30,4 +33,16 @@ pub fn law_leaving()
 /// So it is in rides and runs.
 pub fn law_kept_parts()
     ensures { LawKeptParts }
+{}
+
+/// In the source of every program that breaks no rule constructors that build parts are called where the destructor
+/// that takes these over stands next: at a variable, at a field, or at each element of an array there.
+pub fn law_undoing()
+    ensures { LawUndoing }
+{}
+
+/// In every task of such a source the place at which a constructor is called lies among the operands, so what it is to
+/// build is taken over by what stands behind the call.
+pub fn law_taking()
+    ensures { LawTaking }
 {}

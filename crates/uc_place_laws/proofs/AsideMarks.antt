@@ -260,7 +260,7 @@ module _ (makes : ℕ → Bool) (Near Other : ℕ → Type 0) (Alone Lonely : Ty
 
   pub stmt_more : (a : Stmt) → SitedStmt makes Near Alone made a → SitedStmt makes Other Lonely made a
   stmt_more (src.Evaluate line e) h = sited_more makes Near Other made made f (λ q. q) e h
-  stmt_more (src.Fill line n b d) h = (fills_more b h.0, h.1)
+  stmt_more (src.Fill line n b d) h = (fills_more b h.0, h.1, h.2)
   stmt_more a h = h
 
 -- to-do lists that are left

@@ -13,7 +13,7 @@ use Rattle.uc_resolve.specs.Standings as tree
 use Rattle.uc_resolve.specs.Standings.{Meant}
 use Rattle.uc_resolve.specs.Resolve as meaning
 use Rattle.uc_resolve.specs.Resolve.{Scope}
-use Rattle.uc_place_laws.specs.Siting.{OpensAt, OpensAlone, Nowhere, Everywhere, PlainExpr, PlainMaybe, PlainItems, PlainTargets, PlainDeclared, SitedAt, BuildsAt, PlainSingle, SitedExpr, SitedClean, SitedRaised, SitedStmt, SitedStmts, SitedHandlers, SitedClauses}
+use Rattle.uc_place_laws.specs.Siting.{OpensAt, OpensAlone, Nowhere, Everywhere, PlainExpr, PlainMaybe, PlainItems, PlainTargets, PlainDeclared, SitedAt, BuildsAt, MakesFor, PlainSingle, SitedExpr, SitedClean, SitedRaised, SitedStmt, SitedStmts, SitedHandlers, SitedClauses}
 use Rattle.uc_place_laws.specs.AsideLaws.{makes_of}
 use Rattle.uc_place_laws.proofs.Roles.{written_plain, unwritten_plain}
 use Rattle.uc_place_laws.proofs.AsideMarks.{stmt_more}
@@ -61,6 +61,17 @@ module _ (p : Program) where
   destroyed ACluster place h = inr h
   destroyed AProcessor place h = inr h
 
+  -- what ends an element is of what made it
+  plain_for : (b : Expr) (i : ℕ) (place : Expr) (r : Option ℕ) → MakesFor b (meaning.called_by p i role.Destructor place [] r)
+  plain_for b i place None = tt
+  plain_for b i place (Some r) = tt
+
+  made_for : (i : ℕ) (e : Expr) (c d : Option ℕ) → MakesFor (meaning.made_by p i e [] c) (meaning.ended_by p i (src.Load e) d)
+  made_for i e None None = tt
+  made_for i e None (Some d) = tt
+  made_for i e (Some c) None = tt
+  made_for i e (Some c) (Some d) = tt
+
   module _ (Near : ℕ → Type 0) (Alone : Type 0) (made : Bool) where
     fills : (b : Expr) → SitedExpr (makes_of p) Near made b → (BuildsAt (makes_of p) Near made b → Alone) → PlainSingle (makes_of p) made b ⊎ (BuildsAt (makes_of p) Near made b × Alone)
     fills b (inl h) f = inl h
@@ -70,16 +81,16 @@ module _ (p : Program) where
     build line m None place args a l w h k = constructed Near made m place args a w k
     build line (APlain i) (Some n) place args a l w h k =
         let e : Expr = meaning.counted_element p (APlain i) n place in
-        (fills (meaning.constructed p (APlain i) e []) (constructed Near made (APlain i) e [] (a, tt) (w, tt) tt) (λ b. l), destroyed (APlain i) e (h, tt))
+        (fills (meaning.constructed p (APlain i) e []) (constructed Near made (APlain i) e [] (a, tt) (w, tt) tt) (λ b. l), destroyed (APlain i) e (h, tt), plain_for (meaning.constructed p (APlain i) e []) i e (written_at p i role.Destructor))
     build line (AMutex i) (Some n) place args a l w h k =
         let e : Expr = meaning.counted_element p (AMutex i) n place in
-        (inl (mutex i e (written_at p i role.Constructor) (w, tt)), destroyed (AMutex i) e (h, tt))
+        (inl (mutex i e (written_at p i role.Constructor) (w, tt)), destroyed (AMutex i) e (h, tt), made_for i e (written_at p i role.Constructor) (written_at p i role.Destructor))
       where
         mutex : (i : ℕ) (e : Expr) (r : Option ℕ) → SitedAt (makes_of p) Everywhere made e → PlainSingle (makes_of p) made (meaning.made_by p i e [] r)
         mutex i e None h = inr (h, tt)
         mutex i e (Some r) h = inr (h, expressions.args_by p (tree.params_of p r) [] tt)
-    build line ACluster (Some n) place args a l w h k = (inl (inr ((w, tt), tt)), inr (h, tt))
-    build line AProcessor (Some n) place args a l w h k = (inl (inr ((w, tt), tt)), inr (h, tt))
+    build line ACluster (Some n) place args a l w h k = (inl (inr ((w, tt), tt)), inr (h, tt), tt)
+    build line AProcessor (Some n) place args a l w h k = (inl (inr ((w, tt), tt)), inr (h, tt), tt)
 
   pub clean_up : (m : Making) (len : Option ℕ) (place : Expr) → PlainExpr (makes_of p) place → SitedClean (makes_of p) (meaning.clean_up p m len place)
   clean_up m None place h = destroyed m place h

@@ -26,6 +26,15 @@ abbrev pub OpensAlone : Stmts → Type 0
 OpensAlone (Scoped c rest) = OfEach (λ p. ⊥) c
 OpensAlone ss = Unit {0}
 
+-- an expression makes a mutex object; it does where what destroys what it builds ends one
+abbrev pub MakesMutex : Expr → Type 0
+MakesMutex (OfObject (MakeOn c r written p args)) = Unit {0}
+MakesMutex e = ⊥
+
+abbrev pub MakesFor : Expr → Expr → Type 0
+MakesFor b (OfObject (EndOn r written e)) = MakesMutex b
+MakesFor b d = Unit {0}
+
 -- nothing is built at a variable; something may be at each
 abbrev pub Nowhere : ℕ → Type 0
 Nowhere k = ⊥
@@ -156,7 +165,7 @@ module _ (makes : ℕ → Bool) where
   SitedRaised made (AgainFrom k) = Unit {0}
 
   -- a statement behind which the scope of an object at these variables opens; an array is built where no array opens of what is known by its
-  -- number
+  -- number, and what ends mutex objects that are its elements stands beside what makes them
   abbrev mutual
     pub SitedStmt : (ℕ → Type 0) → Type 0 → Bool → Stmt → Type 0
     SitedStmt Near Alone made (Skip line) = Unit {0}
@@ -173,7 +182,7 @@ module _ (makes : ℕ → Bool) where
     SitedStmt Near Alone made (Continue line) = Unit {0}
     SitedStmt Near Alone made (Return line e) = PlainMaybe e
     SitedStmt Near Alone made (Owes line) = Unit {0}
-    SitedStmt Near Alone made (Fill line n b d) = (PlainSingle made b ⊎ (BuildsAt Near made b × Alone)) × PlainSingle false d
+    SitedStmt Near Alone made (Fill line n b d) = (PlainSingle made b ⊎ (BuildsAt Near made b × Alone)) × PlainSingle false d × MakesFor b d
     SitedStmt Near Alone made (OfEvents a) = SitedEvent made a
     SitedStmt Near Alone made (OfTasks a) = SitedTask made a
 

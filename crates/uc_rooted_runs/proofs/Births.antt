@@ -1,8 +1,8 @@
 -- In each run executions are made by others that were made before: a new name is none of those that were there.
 use Rattle.std.proofs.Common.{◌≡◌, ℕ, suc, ◌<◌, ◌≤◌, Bool, true, false, List, [], ◌∷◌, ◌++◌, Option, Some, None, refl, sym, ap, ◌∙◌, subst, arith}
-use Rattle.std.specs.Prelude.{nat_eq, if◌then◌else◌}
+use Rattle.std.specs.Prelude.{nat_eq, if◌then◌else◌, slice_get}
 use Rattle.std.proofs.lemmas.Bool.{eqb-true, eq-eqb}
-use Rattle.uc_tree.specs.Source.{Source}
+use Rattle.uc_tree.specs.Source.{Source, Routine}
 use Rattle.uc_entry.specs.declared.entry.Entry.{Entry}
 use Rattle.uc_entry.specs.declared.entry.Options.{Options}
 use Rattle.uc_entry.specs.declared.request.Asked.{Asked}
@@ -19,7 +19,7 @@ use Rattle.uc_machine.specs.declared.exec.Home.TheVariants as home
 use Rattle.uc_machine.specs.Executions.{exec_eq, members_at}
 use Rattle.uc_machine.specs.Switches.{new_exec}
 use Rattle.uc_machine.specs.Pieces as piece
-use Rattle.uc_machine.specs.Pieces.{Value, State, Members, Asks}
+use Rattle.uc_machine.specs.Pieces.{Value, Todo, State, Members, Asks}
 use Rattle.uc_machine.specs.Quiet.{home_at}
 use Rattle.uc_machine.specs.Answering.{answered}
 use Rattle.uc_machine.specs.Rides.{Rides, slices, goes_on, ticks, asks}
@@ -45,17 +45,7 @@ use Rattle.uc_life_laws.proofs.NamedWorlds.{WorldNamed, run_named, named_act, fo
 use Rattle.uc_life_laws.specs.Placed.{Placed}
 use Rattle.uc_life_laws.specs.Outermost.{outermost}
 use Rattle.uc_rooted_runs.specs.Makers.{Makers, MadeBy}
-use Rattle.uc_rooted_runs.specs.Births.{MakesLater, SpawnsLater, MaySpawnLater, RunSpawnsLater, LawBirths}
-
--- one more is made by another
-
-abbrev made_now : Makers → Exec → Exec → Value → List Placed → Makers
-made_now b n by v ps = record {
-  parent = λ m. if exec_eq m n then by else b.parent m;
-  seat = λ m. record { place = if exec_eq m n then v else (b.seat m).place; home = λ o. piece.Nothing };
-  before = λ m. if exec_eq m n then ps else b.before m;
-  rank = λ m. if exec_eq m n then suc (b.rank by) else b.rank m;
-}
+use Rattle.uc_rooted_runs.specs.Births.{made_now, with_birth, makers_by, makers_behind, ride_makers, makers_asked, run_makers, MakesLater, SpawnsLater, MaySpawnLater, RunSpawnsLater, LawBirths}
 
 -- of those that were made by now the same is told
 pub record Keeps (serials : Home → ℕ) (b c : Makers) : Type 0 where
@@ -140,44 +130,57 @@ grows_on here a b c g h = record {
 -- a step
 
 record Next (source : Source) (before behind : Home → ℕ) (b : Makers) (s : State) : Type 0 where
-  births : Makers
-  keeps : Keeps before b births
-  makes : MakesBelow source behind births s
+  keeps : Keeps before b (makers_behind source s b)
+  makes : MakesBelow source behind (makers_behind source s b) s
+
+-- an execution is set up next
+abbrev SetsUp : List Todo → Type 0
+SetsUp (piece.SetUpNow r ∷ todo) = Unit {0}
+SetsUp todo = ⊥
 
 module _ (source : Source) (here : Home → Bool) where
-  next : (serials : Home → ℕ) (s : State) → Named here false serials s → (h : NamedBehind source here false serials s) → (b : Makers) → Next source serials h.serials b s
-  next serials s k h b = by (members_at (home_at s.run.this s.env) s.env) refl
-    where
-      at : Home
-      at = home_at s.run.this s.env
+  module _ (serials : Home → ℕ) (s : State) (k : Named here false serials s) (h : NamedBehind source here false serials s) (b : Makers) where
+    abbrev Tells : Makers → Type 0
+    Tells c = Keeps serials b c × MakesBelow source h.serials c s
 
-      grown : (n : Exec) → IsBelow serials n → IsBelow h.serials n
-      grown n x = below_more serials h.serials h.grows.more n x
+    running : IsBelow h.serials s.env.exec
+    running = below_more serials h.serials h.grows.more s.env.exec k.names.env_named.exec_below
 
-      in_hand : (n : Exec) (x : IsBorn source s n) → members_at (home_at s.run.this s.env) s.env ≡ Some x.members
-      in_hand n x = ap (λ q. members_at q s.env) (sym (ap (λ (m : Exec). m.home) x.named)) ∙ x.in_hand
+    in_hand : (n : Exec) (x : IsBorn source s n) → members_at (home_at s.run.this s.env) s.env ≡ Some x.members
+    in_hand n x = ap (λ q. members_at q s.env) (sym (ap (λ (m : Exec). m.home) x.named)) ∙ x.in_hand
 
-      by : (o : Option Members) → members_at (home_at s.run.this s.env) s.env ≡ o → Next source serials h.serials b s
-      by None e = record {
-        births = b;
-        keeps = keeps_same serials b;
-        makes = record {
-          running = grown s.env.exec k.names.env_named.exec_below;
-          born = h.born;
-          later = λ n x. absurd (none_some x.members (members_at (home_at s.run.this s.env) s.env) e (in_hand n x));
-        };
-      }
-      by (Some m) e =
-          let new : IsBelow serials (new_exec (home_at s.run.this s.env) s.env) → ⊥ = law_new.unnamed here false serials s k (home_at s.run.this s.env) m e in
+    -- a state that makes none
+    makes_none : ((n : Exec) → IsBorn source s n → ⊥) → Tells b
+    makes_none f = (keeps_same serials b, record { running = running; born = h.born; later = λ n x. absurd (f n x) })
+
+    makes_one : (m : Members) → members_at (home_at s.run.this s.env) s.env ≡ Some m → Tells (made_now b (new_exec (home_at s.run.this s.env) s.env) s.env.exec s.run.this (outermost s.callers))
+    makes_one m e =
+        let new : IsBelow serials (new_exec (home_at s.run.this s.env) s.env) → ⊥ = law_new.unnamed here false serials s k (home_at s.run.this s.env) m e in (
+          made_keeps serials b (new_exec (home_at s.run.this s.env) s.env) s.env.exec s.run.this (outermost s.callers) new,
           record {
-            births = made_now b (new_exec (home_at s.run.this s.env) s.env) s.env.exec s.run.this (outermost s.callers);
-            keeps = made_keeps serials b (new_exec (home_at s.run.this s.env) s.env) s.env.exec s.run.this (outermost s.callers) new;
-            makes = record {
-              running = grown s.env.exec k.names.env_named.exec_below;
-              born = h.born;
-              later = λ n x. subst (λ q. MadeBy (made_now b (new_exec (home_at s.run.this s.env) s.env) s.env.exec s.run.this (outermost s.callers)) q s.env.exec s.run.this (outermost s.callers)) (sym x.named) (made_by serials b (new_exec (home_at s.run.this s.env) s.env) s.env.exec s.run.this (outermost s.callers) new k.names.env_named.exec_below);
-            };
-          }
+            running = running;
+            born = h.born;
+            later = λ n x. subst (λ q. MadeBy (made_now b (new_exec (home_at s.run.this s.env) s.env) s.env.exec s.run.this (outermost s.callers)) q s.env.exec s.run.this (outermost s.callers)) (sym x.named) (made_by serials b (new_exec (home_at s.run.this s.env) s.env) s.env.exec s.run.this (outermost s.callers) new k.names.env_named.exec_below);
+          },
+        )
+
+    same_routine : (r : ℕ) (todo : List Todo) → s.run.control ≡ piece.SetUpNow r ∷ todo → (n : Exec) (x : IsBorn source s n) → slice_get source.routines r ≡ Some x.routine
+    same_routine r todo c n x =
+        let e : piece.SetUpNow r ∷ todo ≡ piece.SetUpNow x.main ∷ x.todo = sym c ∙ x.next in
+        let m : r ≡ x.main = cc in
+        ap (slice_get source.routines) m ∙ x.known
+
+    set_up : (r : ℕ) (todo : List Todo) → s.run.control ≡ piece.SetUpNow r ∷ todo → (x : Option Routine) → slice_get source.routines r ≡ x → (o : Option Members) → members_at (home_at s.run.this s.env) s.env ≡ o → Tells (with_birth x o s b)
+    set_up r todo c None q o e = makes_none (λ n x. none_some x.routine (slice_get source.routines r) q (same_routine r todo c n x))
+    set_up r todo c (Some y) q None e = makes_none (λ n x. none_some x.members (members_at (home_at s.run.this s.env) s.env) e (in_hand n x))
+    set_up r todo c (Some y) q (Some m) e = makes_one m e
+
+    told : (l : List Todo) → s.run.control ≡ l → Tells (makers_by source l s b)
+    told (piece.SetUpNow r ∷ todo) c = set_up r todo c (slice_get source.routines r) refl (members_at (home_at s.run.this s.env) s.env) refl
+    told l c = makes_none (λ n x. subst SetsUp (sym (sym c ∙ x.next)) tt)
+
+    next : Next source serials h.serials b s
+    next = let z : Tells (makers_behind source s b) = told s.run.control refl in record { keeps = z.0; makes = z.1 }
 
   -- a ride
 
@@ -185,42 +188,41 @@ module _ (source : Source) (here : Home → Bool) where
     pub now : Home → ℕ
     pub grows : Grows here before now
     pub named : Named here false now u
-    pub births : Makers
-    pub keeps : Keeps before b births
-    pub makes : RideMeets (MakesBelow source now births) source s q u k a r
+    pub keeps : Keeps before b (ride_makers source b r)
+    pub makes : RideMeets (MakesBelow source now (ride_makers source b r)) source s q u k a r
 
   pub ridden : (serials : Home → ℕ) {s u : State} {q k : ℕ} {a : Asked} (r : Rides source s q u k a) → Named here false serials s → (b : Makers) → Ridden serials b s q u k a r
   ridden serials slices h b =
-      record { now = serials; grows = grows_not here serials; named = h; births = b; keeps = keeps_same serials b; makes = tt }
+      record { now = serials; grows = grows_not here serials; named = h; keeps = keeps_same serials b; makes = tt }
   ridden serials (goes_on {s} e r) h b =
       let x = walk source here false serials s h (λ u. vacuous u) in
       let y = next serials s h x b in
-      let z = ridden x.serials r (subst (StepNamed here false x.serials) e x.named) y.births in
+      let c : Makers = makers_behind source s b in
+      let z = ridden x.serials r (subst (StepNamed here false x.serials) e x.named) c in
       record {
         now = z.now;
         grows = grows_on here serials x.serials z.now x.grows z.grows;
         named = z.named;
-        births = z.births;
-        keeps = keeps_on serials x.serials x.grows.more b y.births z.births y.keeps z.keeps;
-        makes = (makes_more source x.serials z.now z.grows.more y.births z.births z.keeps s y.makes, z.makes);
+        keeps = keeps_on serials x.serials x.grows.more b c (ride_makers source c r) y.keeps z.keeps;
+        makes = (makes_more source x.serials z.now z.grows.more c (ride_makers source c r) z.keeps s y.makes, z.makes);
       }
   ridden serials (ticks {s} e r) h b =
       let x = walk source here false serials s h (λ u. vacuous u) in
       let y = next serials s h x b in
-      let z = ridden x.serials r (subst (StepNamed here false x.serials) e x.named) y.births in
+      let c : Makers = makers_behind source s b in
+      let z = ridden x.serials r (subst (StepNamed here false x.serials) e x.named) c in
       record {
         now = z.now;
         grows = grows_on here serials x.serials z.now x.grows z.grows;
         named = z.named;
-        births = z.births;
-        keeps = keeps_on serials x.serials x.grows.more b y.births z.births y.keeps z.keeps;
-        makes = (makes_more source x.serials z.now z.grows.more y.births z.births z.keeps s y.makes, z.makes);
+        keeps = keeps_on serials x.serials x.grows.more b c (ride_makers source c r) y.keeps z.keeps;
+        makes = (makes_more source x.serials z.now z.grows.more c (ride_makers source c r) z.keeps s y.makes, z.makes);
       }
   ridden serials (asks {s} {t} {q} {r} e) h b =
       let x = walk source here false serials s h (λ u. vacuous u) in
       let y = next serials s h x b in
       let z : StepNamed here false x.serials (Asks r t) = subst (StepNamed here false x.serials) e x.named in
-      record { now = x.serials; grows = x.grows; named = z.0; births = y.births; keeps = y.keeps; makes = y.makes }
+      record { now = x.serials; grows = x.grows; named = z.0; keeps = y.keeps; makes = y.makes }
 
 -- a run
 
@@ -236,25 +238,22 @@ module _ (source : Source) (input : List ℕ) (opts : Options) (range : InRange 
   one_not_none t ts e f = cc
 
   record Spawned (before behind : Home → ℕ) (b : Makers) (q : Request) (s : State) : Type 0 where
-    births : Makers
-    keeps : Keeps before b births
+    keeps : Keeps before b (makers_asked q s b)
     running : IsBelow behind s.env.exec
     main : (o : ℕ) → q ≡ ask.Spawn o → IsBelow behind (main_of o)
-    later : SpawnsLater births q s
+    later : SpawnsLater (makers_asked q s b) q s
 
   spawned : (now : Home → ℕ) (q : Request) (s : State) → IsBelow now s.env.exec → ((o : ℕ) → q ≡ ask.Spawn o → now (home.Task o) ≡ 0) → (b : Makers) → Spawned now (after_by q now) b q s
   spawned now (ask.Spawn o) s h f b =
       let none = f o refl in
       let new : IsBelow now (main_of o) → ⊥ = λ l. omega (arith, l, none) in
       record {
-        births = made_now b (main_of o) s.env.exec (piece.Object o) (outermost s.callers);
         keeps = made_keeps now b (main_of o) s.env.exec (piece.Object o) (outermost s.callers) new;
         running = below_more now (after_by (ask.Spawn o) now) (after_more (ask.Spawn o) now) s.env.exec h;
         main = λ k e. let one = one_main (ask.Spawn o) now k e in omega (arith, one);
         later = made_by now b (main_of o) s.env.exec (piece.Object o) (outermost s.callers) new h;
       }
   spawned now q s h f b = record {
-    births = b;
     keeps = keeps_same now b;
     running = below_more now (after_by q now) (after_more q now) s.env.exec h;
     main = λ o e. let one = one_main q now o e in omega (arith, one);
@@ -310,9 +309,8 @@ module _ (source : Source) (input : List ℕ) (opts : Options) (range : InRange 
   pub record RunMade {j : Journal} {w : World} (r : Runs source input opts j w) : Type 0 where
     pub serials : Home → ℕ
     pub world : WorldNamed serials j w
-    pub births : Makers
-    pub makes : RunMeets (MakesBelow source serials births) source input opts j w r
-    pub spawns : RunSpawnsBelow serials births r
+    pub makes : RunMeets (MakesBelow source serials (run_makers source input opts r)) source input opts j w r
+    pub spawns : RunSpawnsBelow serials (run_makers source input opts r) r
 
   module _ {j : Journal} {w : World} (rests : RunRests source input opts j w) (on : is_over j ≡ false) (deep : DeepWorld j w) (serials : Home → ℕ) (x : WorldNamed serials j w) (p t n : ℕ) (s : State) (asked : Asked) (d : AsksIn source opts j w p t n s asked) (f : Fits opts source.sites j t asked.request) (going : is_over (j ++ act opts source.sites input j p t n asked) ≡ false) where
     -- what is spawned is no task's own, and nothing was made there
@@ -374,34 +372,36 @@ module _ (source : Source) (input : List ℕ) (opts : Options) (range : InRange 
   pub run_made : {j : Journal} {w : World} (r : Runs source input opts j w) → RunFits source input opts j w r → is_over j ≡ false → RunMade r
   run_made begun f on =
       let x = run_named source input opts range begun f on in
-      record { serials = x.serials; world = x.world; births = record { parent = λ m. m; seat = λ m. record { place = piece.Nothing; home = λ o. piece.Nothing }; before = λ m. []; rank = λ m. 0 }; makes = tt; spawns = tt }
+      record { serials = x.serials; world = x.world; makes = tt; spawns = tt }
   run_made (more {j} {w} r o (gives p t v le)) f on =
       let y = run_made r f.0 o in
-      record { serials = y.serials; world = named_given y.serials j w p t y.world; births = y.births; makes = (y.makes, tt); spawns = (y.spawns, tt) }
+      record { serials = y.serials; world = named_given y.serials j w p t y.world; makes = (y.makes, tt); spawns = (y.spawns, tt) }
   run_made (more {j} r o (no_room p t v le)) f on = no_both (is_over (j ++ lone_limit ∷ [])) (over_limit j 0 0) on
   run_made (more {j} {w} r o (acts p t n s asked d)) f on =
       let y = run_made r f.0 o in
+      let first : Makers = run_makers source input opts r in
+      let along : Makers = ride_makers source first d.rides in
+      let last : Makers = makers_asked asked.request s along in
       let rests = run_rests source input opts range r f.0 o in
       let deep = deep_run source input opts range r f.0 o in
       let here = is_here (w.tasks t).env.own (held t j) in
       let k = ride source input opts range rests o deep y.serials y.world p t n s asked d f.1 on in
-      let z = ridden source here y.serials d.rides (start source input opts range rests o y.serials y.world p t d.runs d.given d.told) y.births in
+      let z = ridden source here y.serials d.rides (start source input opts range rests o y.serials y.world p t d.runs d.given d.told) first in
       let same = no_more rests o deep y.serials y.world p t n s asked d f.1 on z.now z.grows z.named in
-      let m = spawned k.now asked.request s k.named.names.env_named.exec_below (none_there rests o deep y.serials y.world p t n s asked d f.1 on) z.births in
+      let m = spawned k.now asked.request s k.named.names.env_named.exec_below (none_there rests o deep y.serials y.world p t n s asked d f.1 on) along in
       let le = now_more source input opts range rests o deep y.serials y.world p t n s asked d f.1 on in
       let up : (h : Home) → z.now h ≤ after_by asked.request k.now h = λ h. let a = same h in let b = after_more asked.request k.now h in omega (arith, a, b) in
-      let later = keeps_less z.now k.now same z.births m.births m.keeps in
-      let all = keeps_on y.serials z.now z.grows.more y.births z.births m.births z.keeps later in
+      let later = keeps_less z.now k.now same along last m.keeps in
+      let all = keeps_on y.serials z.now z.grows.more first along last z.keeps later in
       record {
         serials = after_by asked.request k.now;
         world = named_act source input opts range rests o deep y.serials y.world p t n s asked d f.1 on;
-        births = m.births;
         makes = (
-          run_more source (MakesBelow source y.serials y.births) (MakesBelow source (after_by asked.request k.now) m.births) (λ s h. makes_more source y.serials (after_by asked.request k.now) le y.births m.births all s h) opts input r y.makes,
-          ride_more source (MakesBelow source z.now z.births) (MakesBelow source (after_by asked.request k.now) m.births) (λ s h. makes_more source z.now (after_by asked.request k.now) up z.births m.births later s h) d.rides z.makes,
+          run_more source (MakesBelow source y.serials first) (MakesBelow source (after_by asked.request k.now) last) (λ s h. makes_more source y.serials (after_by asked.request k.now) le first last all s h) opts input r y.makes,
+          ride_more source (MakesBelow source z.now along) (MakesBelow source (after_by asked.request k.now) last) (λ s h. makes_more source z.now (after_by asked.request k.now) up along last later s h) d.rides z.makes,
         );
         spawns = (
-          run_spawns_more y.serials (after_by asked.request k.now) le y.births m.births all r y.spawns,
+          run_spawns_more y.serials (after_by asked.request k.now) le first last all r y.spawns,
           record { running = m.running; main = m.main; later = m.later },
         );
       }
@@ -409,8 +409,11 @@ module _ (source : Source) (input : List ℕ) (opts : Options) (range : InRange 
 pub law_births : LawBirths
 law_births source input opts j w r range fits on =
     let y = run_made source input opts range r fits on in
-    record {
-      makers = y.births;
-      made = run_more source (MakesBelow source y.serials y.births) (MakesLater source y.births) (λ s h. h.later) opts input r y.makes;
-      spawned = run_spawns_told source input opts range y.serials y.births r y.spawns;
-    }
+    let makers : Makers = run_makers source input opts r in (
+      record {
+        makers = makers;
+        made = run_more source (MakesBelow source y.serials makers) (MakesLater source makers) (λ s h. h.later) opts input r y.makes;
+        spawned = run_spawns_told source input opts range y.serials makers r y.spawns;
+      },
+      refl,
+    )

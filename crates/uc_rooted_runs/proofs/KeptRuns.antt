@@ -1,5 +1,5 @@
--- Names tell the rest, so nobody has at hand what has gone.
-use Rattle.std.proofs.Common.{◌≡◌, ℕ, ◌<◌, ◌≤◌, inl, inr, Bool, true, false, List, [], ◌∷◌, ◌++◌, Option, Some, None, refl, sym, ap, ◌∙◌, subst, ⊎_elim}
+-- Names tell the rest.
+use Rattle.std.proofs.Common.{◌≡◌, ℕ, ◌<◌, ◌≤◌, inl, inr, Bool, true, false, List, [], ◌∷◌, Option, Some, None, refl, sym, ap, ◌∙◌, subst, ⊎_elim}
 use Rattle.std.specs.Prelude.{if◌then◌else◌}
 use Rattle.std.proofs.lemmas.Bool.{cases_lt}
 use Rattle.uc_tree.specs.Source.{Source, routine_of}
@@ -8,10 +8,8 @@ use Rattle.uc_entry.specs.declared.entry.Options.{Options}
 use Rattle.uc_entry.specs.declared.request.Asked.{Asked}
 use Rattle.uc_entry.specs.declared.request.Request.{Request}
 use Rattle.uc_entry.specs.declared.request.Request.TheVariants as ask
-use Rattle.uc_acts.specs.Journal.{Journal, is_over}
+use Rattle.uc_acts.specs.Journal.{Journal}
 use Rattle.uc_acts.specs.Known.{task_count}
-use Rattle.uc_acts.specs.Acts.{act}
-use Rattle.uc_acts.specs.KernelRuns.{InRange}
 use Rattle.uc_machine.specs.declared.exec.Exec.{Exec}
 use Rattle.uc_machine.specs.declared.exec.Home.{Home}
 use Rattle.uc_machine.specs.declared.exec.Home.TheVariants as home
@@ -19,12 +17,9 @@ use Rattle.uc_machine.specs.Executions.{Execution}
 use Rattle.uc_machine.specs.Pieces.{Value, Todo, SetUpNow, TakeDownNow, Finish, Active, State, Members}
 use Rattle.uc_machine.specs.Quiet.{first_state}
 use Rattle.uc_machine.specs.Rides.{Rides, slices, goes_on, ticks, asks}
-use Rattle.uc_meaning.specs.Runs.{World, May, Runs, world_after, gives, no_room, acts, begun, more}
-use Rattle.uc_state_laws.specs.Fitting.{RunFits}
+use Rattle.uc_meaning.specs.Runs.{World, May, Runs, gives, no_room, acts, begun, more}
 use Rattle.uc_state_laws.specs.Opens.{RideMeets, MayMeet, RunMeets}
-use Rattle.uc_name_laws.specs.NameSteps as names
 use Rattle.uc_name_laws.proofs.Homes.{no_both}
-use Rattle.uc_life_laws.specs.RunningRuns.{RunLeaves}
 use Rattle.uc_typing.specs.Typing.{Ty, Table}
 use Rattle.uc_life_laws.specs.Things.{Few, Base}
 use Rattle.uc_life_laws.specs.Knowing.{main_of}
@@ -33,9 +28,7 @@ use Rattle.uc_life_laws.specs.Rooted.{InSlot, InParked, InHand, InMembers, Lives
 use Rattle.uc_life_laws.specs.Ways.{LeavesAt}
 use Rattle.uc_life_laws.proofs.Ways.{law_ways}
 use Rattle.uc_rooted_runs.specs.Makers.{Makers, seating}
-use Rattle.uc_rooted_runs.specs.Births.{MakesLater, RunSpawnsLater}
 use Rattle.uc_life_laws.specs.OwnNames.{StepOwn, StaysOwn, RunOwns}
-use Rattle.uc_life_laws.proofs.OwnNamesLemmas.{run_first, law_own_names}
 use Rattle.uc_rooted_runs.specs.Binds.{BindsOwn}
 use Rattle.uc_rooted_runs.specs.FreshStates.{TakesOthersBy, KeepsFresh}
 use Rattle.uc_rooted_runs.specs.Mains.{FindsAll}
@@ -45,17 +38,11 @@ use Rattle.uc_rooted_runs.specs.OutlastRuns.{with_homes, made_behind, ride_made,
 use Rattle.uc_rooted_runs.specs.OutlastNames.{NamesAt, RideNames, SpawnsNew, MayName, RunNames}
 use Rattle.uc_rooted_runs.specs.Upwards.{IsBased}
 use Rattle.uc_rooted_runs.specs.MadeRuns.{IsMade, AllMade}
-use Rattle.uc_rooted_runs.proofs.MadeRuns.{law_made_runs}
-use Rattle.uc_rooted_runs.specs.RootedRuns.{UpheldBy, MayUphold, RunUpholds}
-use Rattle.uc_rooted_runs.specs.UnmarkedRuns.{LeftBehind, MayLeave, RunLeft}
-use Rattle.uc_rooted_runs.specs.KeptRuns.{KeepsAt, Keeps, RideKeeps, SpawnsKept, MayKeep, RunKeeps, LawKeptRuns, IsStood, RootedBy, MayRoot, RunRooted, LawForgetsNames}
+use Rattle.uc_rooted_runs.specs.KeptRuns.{KeepsAt, Keeps, RideKeeps, SpawnsKept, MayKeep, RunKeeps, LawKeptRuns, IsStood}
 use Rattle.uc_rooted_runs.proofs.Binds.{law_binds}
 use Rattle.uc_rooted_runs.proofs.MainRuns.{law_mains}
 use Rattle.uc_rooted_runs.proofs.OutlastRuns.{law_outlast_runs}
 use Rattle.uc_rooted_runs.proofs.OutlastNames.{law_outlast_names}
-use Rattle.uc_rooted_runs.proofs.UnmarkedRuns.{law_unmarked_runs}
-use Rattle.uc_rooted_runs.proofs.Beside.{law_beside}
-use Rattle.uc_rooted_runs.proofs.RootedRuns.{law_rooted_runs}
 
 -- what is asked of each state of a run, that executions which have not begun stay as they were made, and ends leave no marks
 module _ (source : Source) where
@@ -161,35 +148,3 @@ based_of t few makers asked made yet own j x first later n (inr e) w b k f s = r
   lives = s.lives;
   stood = s.stood;
 }
-
-module _ (t : Table) (few : Few) (own : Exec → Value → Ty → Bool) (yet : Exec → List Active → Value → Ty → Bool) (makers : Makers) (source : Source) (input : List ℕ) (opts : Options) (range : InRange opts) where
-  -- behind one act
-  upheld : (j : Journal) (a : List Entry) (x : World) (r : Runs source input opts (j ++ a) x) → RunFits source input opts (j ++ a) x r → is_over (j ++ a) ≡ false → RunLeaves source input opts (j ++ a) x r → RunMeets names.Spares source input opts (j ++ a) x r → RunMeets (EndsMains source) source input opts (j ++ a) x r → RunMeets (MakesLater source makers) source input opts (j ++ a) x r → RunSpawnsLater makers source input opts (j ++ a) x r → (u : ℕ) (q : Request) → LeftBehind t few (j ++ a) x u q → RootedBy t few own yet makers source input opts j a x r u q → UpheldBy t few own yet makers source input opts j a x r q
-  upheld j a x r f on l h g m s u (ask.Gone o) left k = record {
-    asked = k.asked;
-    homes = k.homes;
-    outlasts = run_both (with_homes k.homes makers) k.asked source input opts r g k.keeps (law_outlast_names k.asked k.homes source input opts (j ++ a) x r range f on l h (record { makers = makers; made = m; spawned = s }));
-    based = λ n cs i w b d e.
-        let made = law_made_runs.there source input opts (j ++ a) x r range f on in
-        let is = in_world (run_made source input opts r) source (j ++ a) x made (run_first source input opts range r f on) n cs i in
-        based_of t few (with_homes k.homes makers) k.asked (run_made source input opts r) yet own (j ++ a) x k.first (law_made_runs.later source input opts (j ++ a) x r (record { makers = makers; made = m; spawned = s })) n is w b d e (k.based n cs i w b d e);
-    beside = law_beside t few j a x own yet u o left k.beside;
-  }
-  upheld j a x r f on l h g m s u q left k = tt
-
-  may_uphold : {j : Journal} {w : World} {a : List Entry} {x : World} (r : Runs source input opts (j ++ a) x) → RunFits source input opts (j ++ a) x r → is_over (j ++ a) ≡ false → RunLeaves source input opts (j ++ a) x r → RunMeets names.Spares source input opts (j ++ a) x r → RunMeets (EndsMains source) source input opts (j ++ a) x r → RunMeets (MakesLater source makers) source input opts (j ++ a) x r → RunSpawnsLater makers source input opts (j ++ a) x r → (m : May source opts input j w a x) → MayLeave t few source opts input j w a x m → MayRoot t few own yet makers source input opts r m → MayUphold t few own yet makers source input opts r m
-  may_uphold r f on l h g m s (gives p n v le) left k = tt
-  may_uphold r f on l h g m s (no_room p n v le) left k = tt
-  may_uphold {j} {w} r f on l h g m s (acts p n i v asked d) left k =
-      upheld j (act opts source.sites input j p n i asked) (world_after source (act opts source.sites input j p n i asked) w n v) r f on l h g m s n asked.request left k
-
-  run_upholds : {j : Journal} {w : World} (r : Runs source input opts j w) → RunFits source input opts j w r → is_over j ≡ false → RunLeaves source input opts j w r → RunMeets names.Spares source input opts j w r → RunMeets (EndsMains source) source input opts j w r → RunMeets (MakesLater source makers) source input opts j w r → RunSpawnsLater makers source input opts j w r → RunLeft t few source input opts j w r → RunRooted t few own yet makers source input opts r → RunUpholds t few own yet makers source input opts r
-  run_upholds begun f on l h g m s left k = tt
-  run_upholds (more r o y) f on l h g m s left k =
-      (run_upholds r f.0 o l.0 h.0 g.0 m.0 s.0 left.0 k.0, may_uphold (more r o y) f on l h g m s y left.1 k.1)
-
-pub law_forgets_names : LawForgetsNames
-law_forgets_names t few own yet source input opts j w r range fits on places binds mains finds leaves spares puts b k =
-    let ends : RunMeets (EndsMains source) source input opts j w r = law_mains.runs source input opts j w r mains in
-    let owns : RunOwns source input opts j w r = (law_own_names source input opts j w r range fits on leaves spares).rides in
-    law_rooted_runs t few own yet source input opts j w r range fits on places (run_keeps source input opts j w r binds ends finds owns) b (run_upholds t few own yet b.makers source input opts range r fits on leaves spares ends b.made b.spawned (law_unmarked_runs t few source input opts j w r range fits on leaves spares puts) k)

@@ -8,7 +8,6 @@ pub mod Outlasting
 pub mod Upwards
 pub mod Binds
 pub mod OutlastRuns
-pub mod RootedRuns
 pub mod MainKeeping
 pub mod MainSteps
 pub mod MainWalk
@@ -16,6 +15,5 @@ pub mod EndSteps
 pub mod MainRuns
 pub mod OutlastNames
 pub mod UnmarkedRuns
-pub mod Beside
 pub mod MadeRuns
 pub mod KeptRuns

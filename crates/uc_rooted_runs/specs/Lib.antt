@@ -9,9 +9,7 @@ pub mod Binds
 pub mod OutlastRuns
 pub mod Mains
 pub mod MainRuns
-pub mod RootedRuns
 pub mod OutlastNames
 pub mod UnmarkedRuns
-pub mod Beside
 pub mod MadeRuns
 pub mod KeptRuns

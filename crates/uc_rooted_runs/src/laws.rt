@@ -1,17 +1,15 @@
 // The laws: each is a function whose contract is the law.
 
-ghost use Rattle.uc_rooted_runs.specs.Beside.{LawBeside};
 ghost use Rattle.uc_rooted_runs.specs.Binds.{LawBinds};
 ghost use Rattle.uc_rooted_runs.specs.Births.{LawBirths};
 ghost use Rattle.uc_rooted_runs.specs.Forgetting.{LawForgetting};
 ghost use Rattle.uc_rooted_runs.specs.FreshRuns.{LawFresh};
 ghost use Rattle.uc_rooted_runs.specs.MainRuns.{LawMains};
 ghost use Rattle.uc_rooted_runs.specs.OutlastRuns.{LawOutlastRuns};
-ghost use Rattle.uc_rooted_runs.specs.KeptRuns.{LawForgetsNames, LawKeptRuns};
+ghost use Rattle.uc_rooted_runs.specs.KeptRuns.{LawKeptRuns};
 ghost use Rattle.uc_rooted_runs.specs.MadeRuns.{LawMadeRuns};
 ghost use Rattle.uc_rooted_runs.specs.OutlastNames.{LawOutlastNames};
 ghost use Rattle.uc_rooted_runs.specs.Outlasting.{LawOutlasting};
-ghost use Rattle.uc_rooted_runs.specs.RootedRuns.{LawRootedRuns};
 ghost use Rattle.uc_rooted_runs.specs.UnmarkedRuns.{LawUnmarkedRuns};
 ghost use Rattle.uc_rooted_runs.specs.Upwards.{LawUpwards};
 
@@ -57,12 +55,6 @@ pub fn law_outlast_runs()
     ensures { LawOutlastRuns }
 {}
 
-/// So nobody has at hand what has gone, in runs in which what was there as executions were made stays as long as
-/// those live.
-pub fn law_rooted_runs()
-    ensures { LawRootedRuns }
-{}
-
 /// What is names alone in that: none of those that were made by now was made by one that is made next, no
 /// other in hand has the name of the running one, and nobody elsewhere has made what was made meanwhile.
 pub fn law_outlast_names()
@@ -80,19 +72,8 @@ pub fn law_unmarked_runs()
     ensures { LawUnmarkedRuns }
 {}
 
-/// So it stands in no own object of an execution that lives, and nobody builds or destroys it, as far as whoever
-/// does that has it at home in what is its own.
-pub fn law_beside()
-    ensures { LawBeside }
-{}
-
 /// So what was to be cleaned up as executions were made stays with those that made them, as long as it is not
 /// left before they go, as names tell the rest.
 pub fn law_kept_runs()
     ensures { LawKeptRuns }
-{}
-
-/// So nobody has at hand what has gone, in such runs, as far as names do not tell it.
-pub fn law_forgets_names()
-    ensures { LawForgetsNames }
 {}

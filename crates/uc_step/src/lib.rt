@@ -15,6 +15,7 @@ mod numbers;
 mod operators;
 mod others;
 mod outside;
+mod places;
 mod plain;
 mod polls;
 pub mod step;

@@ -1,5 +1,5 @@
-use Rattle.std.proofs.Common.{rules, ◌≡◌, ◌∷◌, ◌++◌, ◌-◌, [], length, replicate, reverse, sym, ap, ◌∙◌, arith}
-use Rattle.std.proofs.lemmas.List.{reverse-append, append-nil}
+use Rattle.std.proofs.Common.{rules, true, ◌≡◌, ◌∷◌, ◌++◌, ◌+◌, ◌-◌, [], length, replicate, reverse, ap, ◌∙◌, arith}
+use Rattle.std.proofs.lemmas.List.{reverse-append}
 use Rattle.uc_frames.specs.declared.block.Extent.{Extent}
 use Rattle.uc_frames.specs.Block.{contents}
 use Rattle.uc_frames.specs.Machine.{nought}
@@ -13,9 +13,9 @@ returns-clause-made c =
     let cs = c.self.inside.cells.items in
     let r = c.args.routine in
     let n : c.len-length.result ≡ length cs = search rules in
-    let y : Extent = record { floor = c.len-length.result - c.args.taken; base = c.len-length.result - r.params; start = c.len-length.result } in
+    let y : Extent = record { floor = c.len-length.result - c.args.taken; base = c.len-length.result - r.params; start = c.len-length.result + c.saturating_sub-others.result } in
     let o : reverse c.push_reserved.new.self.items ≡ x ∷ xs = ap reverse c.push_reserved.ensures.items ∙ reverse-append c.self.inside.older.items (x ∷ []) in
-    let z : r.cells - r.params ≡ 0 = omega (arith, c.if-routine.false) in
-    let k : cs ++ replicate (r.cells - r.params) nought ≡ cs = ap (λ i. cs ++ replicate i nought) z ∙ append-nil cs in
-    λ t. rw (← c.self.view_is) (ap (λ l. contents y l cs) o ∙ ap (contents y (x ∷ xs)) (sym k)
-    ∙ called_in_place x xs cs c.self.invariant r c.args.taken y (omega (arith, n)) (omega (arith, n)) (omega (arith, n, z)) (omega (arith, n, c.if-length-self.false)) (omega (arith, c.if-taken-params.false)))
+    let made : c.zeros_in_place.result ≡ true = search rules in
+    let k : c.zeros_in_place.new.cells.items ≡ cs ++ replicate (r.cells - r.params) nought = c.zeros_in_place.ensures.made made ∙ ap (λ i. cs ++ replicate i nought) c.saturating_sub-others.ensures in
+    λ t. rw (← c.self.view_is) (ap (λ l. contents y l c.zeros_in_place.new.cells.items) o ∙ ap (contents y (x ∷ xs)) k
+    ∙ called_in_place x xs cs c.self.invariant r c.args.taken y (omega (arith, n)) (omega (arith, n)) (omega (arith, n, c.saturating_sub-others.ensures)) (omega (arith, n, c.if-length-self.false)) (omega (arith, c.if-taken-params.false)))

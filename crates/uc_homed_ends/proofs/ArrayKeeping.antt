@@ -1,0 +1,242 @@
+-- What holds of elements of arrays of mutex objects goes on to hold where members, executions and who runs change.
+use Rattle.std.proofs.Common.{◌≡◌, ℕ, ℤ, Bool, length, ap, ◌∙◌, true, false, List, ◌∷◌, Option, Some, None, refl, sym, subst}
+use Rattle.std.specs.Prelude.{if◌then◌else◌}
+use Rattle.uc_entry.specs.declared.fault.RunFault.TheVariants.{ResumeInUse, SwitchInUnwind}
+use Rattle.uc_entry.specs.Keyed.{find}
+use Rattle.uc_machine.specs.declared.exec.Exec.{Exec}
+use Rattle.uc_machine.specs.declared.exec.Home.{Home}
+use Rattle.uc_machine.specs.declared.exec.Home.TheVariants as home
+use Rattle.uc_machine.specs.declared.exec.Owner.{Owner}
+use Rattle.uc_machine.specs.declared.exec.Owner.TheVariants.{Frame, Fields}
+use Rattle.uc_machine.specs.declared.exec.Stage.{Stage}
+use Rattle.uc_machine.specs.declared.exec.Stage.TheVariants.{Fresh, Started, Ended}
+use Rattle.uc_machine.specs.Executions.{Links, exec_eq, joined, change, parked_at, frames_by, frames_changed, frame_changed, value_changed, with_owned, with_frames, at_depth, list_in}
+use Rattle.uc_machine.specs.Switches as sw
+use Rattle.uc_machine.specs.Switches.{Moved, To, Stops}
+use Rattle.uc_machine.specs.Pieces.{Value, Number, Place, Running, Object, Nothing, Todo, Active, State, Env, Members, address, stored, nought, written}
+use Rattle.uc_life_laws.specs.LifeStates.{frame_at, SlotBy, ParkedBy}
+use Rattle.uc_life_laws.proofs.HomedCells.{either, set_length}
+use Rattle.uc_life_laws.proofs.Parked as parked
+use Rattle.uc_life_laws.proofs.Parked.{Ex, at_home}
+use Rattle.uc_life_laws.specs.Things.{Few}
+use Rattle.uc_homed_ends.specs.ArrayHomes.{Arrays, Each, AreFree, ArrayStack, ArrayEx, ArrayEnv, ArrayState, Spares, StackSpares, OwnerSpares, ValueSpares}
+use Rattle.uc_homed_ends.proofs.ArrayCells.{stack_number, stack_spared, list_spared}
+
+module _ (few : Few) where
+  pub like : {e f : Env} → ArrayEnv few e → f.hand ≡ e.hand → f.house ≡ e.house → f.own ≡ e.own → ArrayEnv few f
+  like s h g o = parked.like (ArrayEx few) s h g o
+
+  -- a task changes, but who runs stays, what is in scope there keeps what it holds, and so do all executions that do not run
+  pub record Keeps (e f : Env) : Type 0 where
+    pub exec : f.exec ≡ e.exec
+    pub frames : length f.frames ≡ length e.frames
+    pub stack : (cs : List Active) → ArrayStack few e.exec e.frames cs → ArrayStack few e.exec f.frames cs
+    pub env : ArrayEnv few f
+
+  pub keeps_both : {e f g : Env} → Keeps e f → Keeps f g → Keeps e g
+  keeps_both {e} {f} {g} h k = record {
+    exec = k.exec ∙ h.exec;
+    frames = k.frames ∙ h.frames;
+    stack = λ cs x. subst (λ n. ArrayStack few n g.frames cs) h.exec (k.stack cs (subst (λ n. ArrayStack few n f.frames cs) (sym h.exec) (h.stack cs x)));
+    env = k.env;
+  }
+
+  -- with the same frames
+  keeps_frames : {e f : Env} → f.exec ≡ e.exec → f.frames ≡ e.frames → ArrayEnv few f → Keeps e f
+  keeps_frames {e} {f} x q h = record { exec = x; frames = ap length q; stack = λ cs y. subst (λ fs. ArrayStack few e.exec fs cs) (sym q) y; env = h }
+
+  pub keeps_like : {e f : Env} → ArrayEnv few e → f.exec ≡ e.exec → f.frames ≡ e.frames → f.hand ≡ e.hand → f.house ≡ e.house → f.own ≡ e.own → Keeps e f
+  keeps_like s x q h g o = keeps_frames x q (like s h g o)
+
+  keeps_change : (h : Home) (f : Members → Members) (e : Env) → parked.KeepsParked (ArrayEx few) h f → ArrayEnv few e → Keeps e (change h f e)
+  keeps_change h f e k s = keeps_frames (parked.change_exec h f e) (parked.change_frames h f e) (parked.change_rests (ArrayEx few) h f e k s)
+
+  -- writes
+
+  abbrev KeepsFrames : (List (List Value) → List (List Value)) → Type 0
+  KeepsFrames f = (n : Exec) (fs : List (List Value)) → (length (f fs) ≡ length fs) × ((cs : List Active) → ArrayStack few n fs cs → ArrayStack few n (f fs) cs)
+
+  frames_kept : (h : Home) (n : ℕ) (f : List (List Value) → List (List Value)) (o : Option Ex) (m : Members) → KeepsFrames f → SlotBy (ArrayEx few) (at_home h n) o → ParkedBy (ArrayEx few) h m.parked → ParkedBy (ArrayEx few) h (frames_by n f o m).parked
+  frames_kept h n f None m same r s = s
+  frames_kept h n f (Some x) m same r s =
+      parked.update_parked (ArrayEx few) h n (Some (record x { frames = f x.frames })) m.parked (record { frames = (same (at_home h n) x.frames).0 ∙ r.frames; stack = (same (at_home h n) x.frames).1 (x.run ∷ x.callers) r.stack }) s
+
+  with_frames_keeps : (n : Exec) (f : List (List Value) → List (List Value)) (e : Env) → KeepsFrames f → ArrayEnv few e → Keeps e (with_frames n f e)
+  with_frames_keeps n f e same s =
+      either (Keeps e) (exec_eq n e.exec) (record e { frames = f e.frames }) (change n.home (frames_changed n.serial f) e) (record { exec = refl; frames = (same e.exec e.frames).0; stack = (same e.exec e.frames).1; env = like s refl refl refl }) (keeps_change n.home (frames_changed n.serial f) e (λ m h. frames_kept n.home n.serial f (joined (find n.serial m.parked)) m same (parked.found_parked (ArrayEx few) n.home n.serial m.parked h) h) s)
+
+  number_keeps : (o : Owner) (k : ℕ) (z : ℤ) (e : Env) → ArrayEnv few e → Keeps e (with_owned o (value_changed k (stored (Number z)) nought) e)
+  number_keeps (Frame n d) k z e s =
+      with_frames_keeps n (frame_changed d (value_changed k (stored (Number z)) nought)) e (λ n fs. (set_length fs d (value_changed k (stored (Number z)) nought (list_in (at_depth fs d))), λ cs h. stack_number few n d k z fs cs h)) s
+  number_keeps (Fields o) k z e s = keeps_change (home.Object o) _ e (λ m h. h) s
+
+  -- a number is written anywhere
+  pub written_number : (v : Value) (z : ℤ) (e : Env) → ArrayEnv few e → Keeps e (written v (Number z) e)
+  written_number (Number n) z e s = keeps_like s refl refl refl refl refl
+  written_number (Place o p) z e s = number_keeps o (address p) z e s
+  written_number (Running x) z e s = keeps_like s refl refl refl refl refl
+  written_number (Object o) z e s = number_keeps (Fields o) 0 z e s
+  written_number Nothing z e s = keeps_like s refl refl refl refl refl
+
+  -- a value is written, for an activation that runs with this to do and those that wait
+  pub record KeepsAt (d : ℕ) (todo : List Todo) (cs : List Active) (e f : Env) : Type 0 where
+    pub exec : f.exec ≡ e.exec
+    pub frames : length f.frames ≡ length e.frames
+    pub stack : ArrayStack few e.exec e.frames cs → ArrayStack few e.exec f.frames cs
+    pub list : Arrays (AreFree few e.exec (frame_at d e.frames) d) todo → Arrays (AreFree few e.exec (frame_at d f.frames) d) todo
+    pub env : ArrayEnv few f
+
+  at_frames : {e f : Env} (d : ℕ) (todo : List Todo) (cs : List Active) → f.exec ≡ e.exec → f.frames ≡ e.frames → ArrayEnv few f → KeepsAt d todo cs e f
+  at_frames {e} {f} d todo cs x q h = record {
+    exec = x;
+    frames = ap length q;
+    stack = λ y. subst (λ fs. ArrayStack few e.exec fs cs) (sym q) y;
+    list = λ y. subst (λ fs. Arrays (AreFree few e.exec (frame_at d fs) d) todo) (sym q) y;
+    env = h;
+  }
+
+  fields_at : (o k : ℕ) (w : Value) (d : ℕ) (todo : List Todo) (cs : List Active) (e : Env) → ArrayEnv few e → KeepsAt d todo cs e (with_owned (Fields o) (value_changed k (stored w) nought) e)
+  fields_at o k w d todo cs e s = at_frames d todo cs (parked.change_exec (home.Object o) _ e) (parked.change_frames (home.Object o) _ e) (parked.change_rests (ArrayEx few) (home.Object o) _ e (λ m h. h) s)
+
+  frame_at_spared : (n : Exec) (x k : ℕ) (w : Value) (d : ℕ) (todo : List Todo) (cs : List Active) (e : Env) → exec_eq n e.exec ≡ true → (d ≡ x → Each (Spares few e.exec w k d) todo) → StackSpares few e.exec w k x cs → ArrayEnv few e → KeepsAt d todo cs e (with_owned (Frame n x) (value_changed k (stored w) nought) e)
+  frame_at_spared n x k w d todo cs e own q a s =
+      subst (λ (b : Bool). KeepsAt d todo cs e (if b then record e { frames = frame_changed x (value_changed k (stored w) nought) e.frames } else change n.home (frames_changed n.serial (frame_changed x (value_changed k (stored w) nought))) e)) (sym own) (record {
+        exec = refl;
+        frames = set_length e.frames x (value_changed k (stored w) nought (list_in (at_depth e.frames x)));
+        stack = λ h. stack_spared few e.exec x k w e.frames cs a h;
+        list = λ h. list_spared few e.exec x k w e.frames d todo q h;
+        env = like s refl refl refl;
+      })
+
+  owned_spared : (o : Owner) (k : ℕ) (w : Value) (d : ℕ) (todo : List Todo) (cs : List Active) (e : Env) → OwnerSpares few Each w o k d todo cs e → ArrayEnv few e → KeepsAt d todo cs e (with_owned o (value_changed k (stored w) nought) e)
+  owned_spared (Frame n x) k w d todo cs e a s = frame_at_spared n x k w d todo cs e a.0 a.1 a.2 s
+  owned_spared (Fields o) k w d todo cs e a s = fields_at o k w d todo cs e s
+
+  -- anything is written that spares all elements
+  pub written_spared : (v w : Value) (d : ℕ) (todo : List Todo) (cs : List Active) (e : Env) → ValueSpares few Each w v d todo cs e → ArrayEnv few e → KeepsAt d todo cs e (written v w e)
+  written_spared (Number n) w d todo cs e a s = at_frames d todo cs refl refl s
+  written_spared (Place o p) w d todo cs e a s = owned_spared o (address p) w d todo cs e a s
+  written_spared (Running x) w d todo cs e a s = at_frames d todo cs refl refl s
+  written_spared (Object o) w d todo cs e a s = fields_at o 0 w d todo cs e s
+  written_spared Nothing w d todo cs e a s = at_frames d todo cs refl refl s
+
+  -- executions are made and go, and their links change
+
+  -- whatever the name of one that is made
+  pub born_keeps : (h : Home) (x : Ex) (e : Env) → ((n : Exec) → ArrayEx few n x) → ArrayEnv few e → Keeps e (sw.born h x e)
+  born_keeps h x e r s = keeps_change h (sw.one_more x) e (λ m p. parked.more_parked (ArrayEx few) h m.serial x m.parked (r (at_home h m.serial)) p) s
+
+  pub forgotten_keeps : (o : Option Exec) (e : Env) → ArrayEnv few e → Keeps e (sw.forgotten o e)
+  forgotten_keeps None e s = keeps_like s refl refl refl refl refl
+  forgotten_keeps (Some n) e s = keeps_change n.home (sw.slot_gone n.serial) e (λ m h. parked.without_parked (ArrayEx few) n.home n.serial m.parked h) s
+
+  links_kept : (h : Home) (g : Links → Links) (n : ℕ) (o : Option Ex) (m : Members) → SlotBy (ArrayEx few) (at_home h n) o → ParkedBy (ArrayEx few) h m.parked → ParkedBy (ArrayEx few) h (sw.links_by g n o m).parked
+  links_kept h g n None m r s = s
+  links_kept h g n (Some x) m r s = parked.update_parked (ArrayEx few) h n (Some (record x { links = g x.links })) m.parked (record { frames = r.frames; stack = r.stack }) s
+
+  pub links_keeps : (g : Links → Links) (n : Exec) (e : Env) → ArrayEnv few e → Keeps e (sw.with_links g n e)
+  links_keeps g n e s =
+      either (Keeps e) (exec_eq n e.exec) (record e { links = g e.links }) (change n.home (sw.links_changed g n.serial) e) (keeps_like s refl refl refl refl refl) (keeps_change n.home (sw.links_changed g n.serial) e (λ m h. links_kept n.home g n.serial (joined (find n.serial m.parked)) m (parked.found_parked (ArrayEx few) n.home n.serial m.parked h) h) s)
+
+  pub enlivened_keeps : (o : Option Exec) (e : Env) → ArrayEnv few e → Keeps e (sw.enlivened o e)
+  enlivened_keeps None e s = keeps_like s refl refl refl refl refl
+  enlivened_keeps (Some n) e s = links_keeps (λ l. record l { live = true }) n e s
+
+  -- switches
+
+  abbrev pub LifeMoved : Moved (List Todo) Value → Type 0
+  LifeMoved (To s) = ArrayState few s
+  LifeMoved (Stops f) = Unit {0}
+
+  -- who may be activated
+  abbrev LifeNext : Option (Exec × Ex) → Type 0
+  LifeNext None = Unit {0}
+  LifeNext (Some p) = ArrayEx few p.0 p.1
+
+  switched_rests : (n : Exec) (x : Ex) (s : State) → ArrayEx few n x → ArrayState few s → ArrayState few (sw.switched n x s)
+  switched_rests n x s r h = record {
+    frames = r.frames;
+    stack = r.stack;
+    env = like (parked.slot_rests (ArrayEx few) s.env.exec (Some (sw.stopped s)) (sw.set_slot n None s.env) (record { frames = h.frames; stack = h.stack }) (parked.slot_rests (ArrayEx few) n None s.env tt h.env)) refl refl refl;
+  }
+
+  able_stage : (g : Stage) (n : Exec) (x : Ex) → ArrayEx few n x → LifeNext (sw.able_at g n x)
+  able_stage Fresh n x r = tt
+  able_stage Started n x r = r
+  able_stage Ended n x r = tt
+
+  able_slot : (n : Exec) (o : Option Ex) → SlotBy (ArrayEx few) n o → LifeNext (sw.able_by n o)
+  able_slot n None r = tt
+  able_slot n (Some x) r = able_stage x.links.stage n x r
+
+  able_rests : (o : Option Exec) (e : Env) → ArrayEnv few e → LifeNext (sw.able o e)
+  able_rests None e s = tt
+  able_rests (Some n) e s = able_slot n (parked_at n e) (parked.parked_rests (ArrayEx few) n e s)
+
+  or_rests : (a b : Option (Exec × Ex)) → LifeNext a → LifeNext b → LifeNext (sw.or_else a b)
+  or_rests None b h k = k
+  or_rests (Some p) b h k = h
+
+  go_on_rests : (o : Option (Exec × Ex)) (s : State) → LifeNext o → ArrayState few s → LifeMoved (sw.go_on o s)
+  go_on_rests None s r h = tt
+  go_on_rests (Some p) s r h = switched_rests p.0 p.1 s r h
+
+  wake_stage : (g : Stage) (n : Exec) (x : Ex) (s : State) → ArrayEx few n x → ArrayState few s → LifeMoved (sw.wake_at g n x s)
+  wake_stage Fresh n x s r h = switched_rests n _ s (record { frames = r.frames; stack = r.stack }) h
+  wake_stage Started n x s r h = switched_rests n _ s (record { frames = r.frames; stack = r.stack }) h
+  wake_stage Ended n x s r h = tt
+
+  wake_slot : (n : Exec) (o : Option Ex) (s : State) → SlotBy (ArrayEx few) n o → ArrayState few s → LifeMoved (sw.wake_by n o s)
+  wake_slot n None s r h = tt
+  wake_slot n (Some x) s r h = wake_stage x.links.stage n x s r h
+
+  wake_one_rests : (o : Option Exec) (s : State) → ArrayState few s → LifeMoved (sw.wake_one o s)
+  wake_one_rests None s h = tt
+  wake_one_rests (Some n) s h = either LifeMoved (exec_eq n s.env.exec) (Stops ResumeInUse) (sw.wake_by n (parked_at n s.env) s) tt (wake_slot n (parked_at n s.env) s (parked.parked_rests (ArrayEx few) n s.env h.env) h)
+
+  pub wake_rests : (o : Option Exec) (s : State) → ArrayState few s → LifeMoved (sw.wake o s)
+  wake_rests o s h = either LifeMoved (sw.in_destruction s.env) (Stops SwitchInUnwind) (sw.wake_one o s) tt (wake_one_rests o s h)
+
+  pub suspend_rests : (s : State) → ArrayState few s → LifeMoved (sw.suspend s)
+  suspend_rests s h = either LifeMoved (sw.in_destruction s.env) (Stops SwitchInUnwind) (sw.go_on (sw.able s.env.links.resumer s.env) s) tt (go_on_rests (sw.able s.env.links.resumer s.env) s (able_rests s.env.links.resumer s.env h.env) h)
+
+  ended_rests : (s : State) → ArrayState few s → ArrayState few (sw.ended s)
+  ended_rests s h = record { frames = h.frames; stack = h.stack; env = like h.env refl refl refl }
+
+  pub finish_rests : (s : State) → ArrayState few s → LifeMoved (sw.finish s)
+  finish_rests s h =
+      go_on_rests (sw.or_else (sw.able s.env.links.starter s.env) (sw.able s.env.links.resumer s.env)) (sw.ended s) (or_rests (sw.able s.env.links.starter s.env) (sw.able s.env.links.resumer s.env) (able_rests s.env.links.starter s.env h.env) (able_rests s.env.links.resumer s.env h.env)) (ended_rests s h)
+
+  throw_rests : (o : Option (Exec × Ex)) (s : State) → LifeNext o → ArrayState few s → LifeMoved (sw.throw_at o s)
+  throw_rests None s r h = tt
+  throw_rests (Some p) s r h = switched_rests p.0 _ s (record { frames = r.frames; stack = r.stack }) h
+
+  pub escape_rests : (s : State) → ArrayState few s → LifeMoved (sw.escape s)
+  escape_rests s h = throw_rests (sw.able s.env.links.resumer s.env) (sw.ended s) (able_rests s.env.links.resumer s.env h.env) (ended_rests s h)
+
+  pub taken_down_rests : (s : State) → ArrayState few s → LifeMoved (sw.taken_down s)
+  taken_down_rests s h = go_on_rests (sw.able s.env.links.destroyer s.env) (sw.ended s) (able_rests s.env.links.destroyer s.env h.env) (ended_rests s h)
+
+  -- the same running execution, in a task that has changed
+  pub with_env : {e : Env} (s : State) → ArrayState few s → Keeps s.env e → ArrayState few (record s { env = e })
+  with_env {e} s h k = record {
+    frames = k.frames ∙ h.frames;
+    stack = subst (λ n. ArrayStack few n e.frames (s.run ∷ s.callers)) (sym k.exec) (k.stack (s.run ∷ s.callers) h.stack);
+    env = k.env;
+  }
+
+  over_rests : (n : Exec) (s : State) → ArrayState few s → ArrayState few (sw.over n s)
+  over_rests n s h = with_env s h (links_keeps (λ l. record l { live = false; stage = Ended }) n s.env h.env)
+
+  take_down_stage : (g : Stage) (n : Exec) (x : Ex) (s : State) → ArrayEx few n x → ArrayState few s → LifeMoved (sw.take_down_at g n x s)
+  take_down_stage Fresh n x s r h = over_rests n s h
+  take_down_stage Started n x s r h = switched_rests n _ s (record { frames = r.frames; stack = r.stack }) h
+  take_down_stage Ended n x s r h = over_rests n s h
+
+  take_down_slot : (n : Exec) (o : Option Ex) (s : State) → SlotBy (ArrayEx few) n o → ArrayState few s → LifeMoved (sw.take_down_by n o s)
+  take_down_slot n None s r h = h
+  take_down_slot n (Some x) s r h = take_down_stage x.links.stage n x s r h
+
+  pub take_down_rests : (o : Option Exec) (s : State) → ArrayState few s → LifeMoved (sw.take_down o s)
+  take_down_rests None s h = h
+  take_down_rests (Some n) s h = take_down_slot n (parked_at n s.env) s (parked.parked_rests (ArrayEx few) n s.env h.env) h
