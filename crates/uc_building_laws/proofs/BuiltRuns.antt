@@ -44,7 +44,7 @@ module _ (P Q : State → Type 0) (source : Source) where
 pub law_built_runs : LawBuiltRuns
 law_built_runs p formed accepted within input opts range j w r fits on finds = record {
   comes = λ n s c l. followed.comes n s c (objects n s c l);
-  scopes = λ n s c l. followed.scopes n s c (objects n s c l);
+  lives = λ n s c l. followed.lives n s c (objects n s c l);
   reads = λ n s c l f. followed.reads n s c (objects n s c l) (law_built.here p formed accepted input opts range j w r fits on meets n s c (leads n s c l) (f (law_opens.comes p formed accepted within input opts range j w r fits on n s c)));
 }
   where

@@ -23,6 +23,7 @@ use Rattle.uc_sound.specs.SoundFormed.{IsFormed}
 use Rattle.uc_sound.specs.Tables.{table_of}
 use Rattle.uc_life_laws.specs.Things.{IsField, IsUnbound, IsTracked, is_outside, UnmadeBehind, Around, LiesIn, Holds}
 use Rattle.uc_life_laws.specs.LifeStates.{frame_at, Outwards}
+use Rattle.uc_life_laws.specs.Lives.{LivesState}
 use Rattle.uc_life_laws.specs.Knowing.{InMaking, KnowsState, Finds}
 use Rattle.uc_life_laws.specs.Opened.{any}
 use Rattle.uc_life_laws.specs.OpenedRuns.{MeetsObjects}
@@ -71,8 +72,8 @@ pub record MeetsBuilding (t : Table) (heads : ℕ → ℕ → Bool) (source : So
   pub arrays : (c : CleanUp) (rest : Stmts) (todo : List Todo) → s.run.control ≡ Rest (Scoped c rest) ∷ todo →
       (k m i : ℕ) → CleansAt t (Row m (Obj i)) (Variable k) c →
       Holds t any s.env.exec (Outwards t any s.env.exec s.run.frame s.run.this s.callers c todo) (Frame s.env.exec s.run.frame) (frame_at s.run.frame s.env.frames) (variable s.env.exec s.run.frame k) (Row m (Obj i))
-  pub finds : KnowsState t any [] s →
-      (x : KnowsState t any [] s) × Finds t any x.sigs x.run.sig x.run.scope s s.run.control x.run.own
+  pub finds : LivesState t any s →
+      (x : LivesState t any s) × Finds t any x.0.sigs x.0.run.sig x.0.run.scope s s.run.control x.0.run.own
   pub builds : Remains t source s
 
 -- what is known by its number

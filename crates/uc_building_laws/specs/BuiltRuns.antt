@@ -18,7 +18,7 @@ use Rattle.uc_typing.specs.Typing.{Table}
 use Rattle.uc_typing.specs.Laws.{ReadsIn}
 use Rattle.uc_sound.specs.SoundFormed.{IsFormed}
 use Rattle.uc_sound.specs.Tables.{table_of}
-use Rattle.uc_life_laws.specs.LifeStates.{LifeState}
+use Rattle.uc_life_laws.specs.Lives.{LivesState}
 use Rattle.uc_life_laws.specs.Knowing.{KnowsState}
 use Rattle.uc_life_laws.specs.Opened.{any}
 use Rattle.uc_building_laws.specs.Building.{heads_of}
@@ -34,9 +34,9 @@ pub record AreBuilt (t : Table) (heads : ℕ → ℕ → Bool) (source : Source)
   pub comes : (n : ℕ) (s : State) (c : Comes source j w n s) →
       LeadsMeet (FindsBuilding t heads source) source (answered source c.given (drawn j w n)) s c.leads →
       KnowsState t any [] s
-  pub scopes : (n : ℕ) (s : State) (c : Comes source j w n s) →
+  pub lives : (n : ℕ) (s : State) (c : Comes source j w n s) →
       LeadsMeet (FindsBuilding t heads source) source (answered source c.given (drawn j w n)) s c.leads →
-      LifeState t any s
+      LivesState t any s
   pub reads : (n : ℕ) (s : State) (c : Comes source j w n s) →
       LeadsMeet (FindsBuilding t heads source) source (answered source c.given (drawn j w n)) s c.leads →
       FindsBuilding t heads source s → ReadsIn t s

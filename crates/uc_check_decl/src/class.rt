@@ -258,6 +258,7 @@ pub fn has_unset(
         names: &names,
     };
     let unset = has_unset_among(tables, &inits, class);
+    drop(names);
     Ok(unset)
 }
 
@@ -271,6 +272,7 @@ fn needs_inits(alloc: Global, tables: &Tables, class: &Class) -> bool
         names: &names,
     };
     let unset = has_unset_among(tables, &inits, class);
+    drop(names);
     unset
 }
 

@@ -210,16 +210,14 @@ pub fn is_sound_item(
     ensures { IfOk result (λ b. b ≡ is_sound_item index.now item.now place) }
 {
     match &item.form {
-        ItemForm::Class { .. } => Ok(true),
         ItemForm::Routine { routine } => {
             let sig = &routine.sig;
             let home = owner_home(tables, &sig.owner);
             is_definition(alloc, index, &sig.owner, home, sig, place)
         }
-        ItemForm::Constant { .. } => Ok(true),
         ItemForm::Proto { sig } => index.defines_sig(alloc, sig),
         ItemForm::Forward { forward } => index.has_class_of(alloc, forward),
-        ItemForm::Using { .. } => Ok(true),
+        ItemForm::Class { .. } | ItemForm::Constant { .. } | ItemForm::Using { .. } => Ok(true),
     }
 }
 

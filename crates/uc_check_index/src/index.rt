@@ -11,7 +11,7 @@ ghost use Rattle.uc_check_index.specs.Firsts.{any_named};
 ghost use Rattle.uc_check_index.specs.Indexed.{AreKeyed, AreNamed};
 ghost use Rattle.uc_check_index.specs.Topics.{class_name, constant_name, forward_name, proto_name, routine_name};
 
-use crate::firsts::{first_in, is_before};
+use crate::firsts::{both, first_in, is_before};
 use crate::keyed::firsts_by_key;
 use crate::keys::{kind_key, member_key, member_sig_key, sig_key};
 use crate::named::firsts_by_name;
@@ -76,12 +76,16 @@ fn named_in(alloc: Global, items: &[Item]) -> Result<Named, AllocError>
     ensures { IfOk result (λ n. AreNamed items.now n.classes n.forwards n.routines n.protos
         n.constants n.builders) }
 {
-    let classes = firsts_by_name(alloc, items, NameTopic::Class)?;
-    let forwards = firsts_by_name(alloc, items, NameTopic::Forward)?;
-    let routines = firsts_by_name(alloc, items, NameTopic::Routine)?;
-    let protos = firsts_by_name(alloc, items, NameTopic::Proto)?;
-    let constants = firsts_by_name(alloc, items, NameTopic::Constant)?;
-    let builders = firsts_by_name(alloc, items, NameTopic::Builder)?;
+    let classes = firsts_by_name(alloc, items, NameTopic::Class);
+    let forwards = firsts_by_name(alloc, items, NameTopic::Forward);
+    let routines = firsts_by_name(alloc, items, NameTopic::Routine);
+    let protos = firsts_by_name(alloc, items, NameTopic::Proto);
+    let constants = firsts_by_name(alloc, items, NameTopic::Constant);
+    let builders = firsts_by_name(alloc, items, NameTopic::Builder);
+    let ((classes, forwards), ((routines, protos), (constants, builders))) = both(
+        both(classes, forwards),
+        both(both(routines, protos), both(constants, builders)),
+    )?;
     Ok(Named {
         classes,
         forwards,
@@ -96,11 +100,15 @@ fn keyed_in(alloc: Global, items: &[Item]) -> Result<Keyed, AllocError>
     ensures { IfOk result (λ k. AreKeyed items.now k.kinds k.protos k.routines k.members
         k.member_sigs) }
 {
-    let kinds = firsts_by_key(alloc, items, KeyTopic::Class)?;
-    let protos = firsts_by_key(alloc, items, KeyTopic::Proto)?;
-    let routines = firsts_by_key(alloc, items, KeyTopic::Routine)?;
-    let members = firsts_by_key(alloc, items, KeyTopic::Member)?;
-    let member_sigs = firsts_by_key(alloc, items, KeyTopic::MemberSig)?;
+    let kinds = firsts_by_key(alloc, items, KeyTopic::Class);
+    let protos = firsts_by_key(alloc, items, KeyTopic::Proto);
+    let routines = firsts_by_key(alloc, items, KeyTopic::Routine);
+    let members = firsts_by_key(alloc, items, KeyTopic::Member);
+    let member_sigs = firsts_by_key(alloc, items, KeyTopic::MemberSig);
+    let (kinds, ((protos, routines), (members, member_sigs))) = both(
+        kinds,
+        both(both(protos, routines), both(members, member_sigs)),
+    )?;
     Ok(Keyed {
         kinds,
         protos,
@@ -115,9 +123,10 @@ impl<'a> Index<'a> {
     pub fn new(alloc: Global, program: &'a Program) -> Result<Index<'a>, AllocError>
         ensures { IfOk result (λ i. i ≡ program.now) }
     {
-        let named = named_in(alloc, &program.items)?;
-        let keyed = keyed_in(alloc, &program.items)?;
-        let protos = protos_in(alloc, &program.items)?;
+        let named = named_in(alloc, &program.items);
+        let keyed = keyed_in(alloc, &program.items);
+        let protos = protos_in(alloc, &program.items);
+        let ((named, keyed), protos) = both(both(named, keyed), protos)?;
         Ok(Index {
             program,
             named,
@@ -238,10 +247,9 @@ impl<'a> Index<'a> {
         match &later.form {
             ItemForm::Class { .. } => self.clashes_with_class(name, place),
             ItemForm::Routine { .. } => self.clashes_with_routine(proto, name, place),
-            ItemForm::Constant { .. } => self.any_clashes(name, place),
             ItemForm::Proto { .. } => self.clashes_with_proto(name, place),
             ItemForm::Forward { .. } => self.clashes_with_forward(name, place),
-            ItemForm::Using { .. } => self.any_clashes(name, place),
+            ItemForm::Constant { .. } | ItemForm::Using { .. } => self.any_clashes(name, place),
         }
     }
 

@@ -30,8 +30,7 @@ fn owned_key(alloc: Global, owner: &Owner, sig: &Sig) -> Result<Option<Vec<u8>>,
     ensures { IfOk result (λ key. option_map (λ k. k.items) key ≡ owned_key owner.now sig.now) }
 {
     match owner {
-        Owner::Here => Ok(None),
-        Owner::Main => Ok(None),
+        Owner::Here | Owner::Main => Ok(None),
         Owner::Class(name) => {
             let key = member_key(alloc, name, sig)?;
             Ok(Some(key))
@@ -43,8 +42,7 @@ fn owned_sig_key(alloc: Global, owner: &Owner, sig: &Sig) -> Result<Option<Vec<u
     ensures { IfOk result (λ key. option_map (λ k. k.items) key ≡ owned_sig_key owner.now sig.now) }
 {
     match owner {
-        Owner::Here => Ok(None),
-        Owner::Main => Ok(None),
+        Owner::Here | Owner::Main => Ok(None),
         Owner::Class(name) => {
             let key = member_sig_key(alloc, name, sig)?;
             Ok(Some(key))
@@ -60,11 +58,11 @@ fn class_key(alloc: Global, item: &Item) -> Result<Option<Vec<u8>>, AllocError>
             let key = kind_key(alloc, class.kind, &class.name)?;
             Ok(Some(key))
         },
-        ItemForm::Routine { .. } => Ok(None),
-        ItemForm::Constant { .. } => Ok(None),
-        ItemForm::Proto { .. } => Ok(None),
-        ItemForm::Forward { .. } => Ok(None),
-        ItemForm::Using { .. } => Ok(None),
+        ItemForm::Routine { .. }
+        | ItemForm::Constant { .. }
+        | ItemForm::Proto { .. }
+        | ItemForm::Forward { .. }
+        | ItemForm::Using { .. } => Ok(None),
     }
 }
 
@@ -72,15 +70,15 @@ fn proto_key(alloc: Global, item: &Item) -> Result<Option<Vec<u8>>, AllocError>
     ensures { IfOk result (λ key. option_map (λ k. k.items) key ≡ proto_key item.now) }
 {
     match &item.form {
-        ItemForm::Class { .. } => Ok(None),
-        ItemForm::Routine { .. } => Ok(None),
-        ItemForm::Constant { .. } => Ok(None),
         ItemForm::Proto { sig } => {
             let key = sig_key(alloc, sig)?;
             Ok(Some(key))
         },
-        ItemForm::Forward { .. } => Ok(None),
-        ItemForm::Using { .. } => Ok(None),
+        ItemForm::Class { .. }
+        | ItemForm::Routine { .. }
+        | ItemForm::Constant { .. }
+        | ItemForm::Forward { .. }
+        | ItemForm::Using { .. } => Ok(None),
     }
 }
 
@@ -88,15 +86,12 @@ fn routine_key(alloc: Global, item: &Item) -> Result<Option<Vec<u8>>, AllocError
     ensures { IfOk result (λ key. option_map (λ k. k.items) key ≡ routine_key item.now) }
 {
     match &item.form {
-        ItemForm::Class { .. } => Ok(None),
-        ItemForm::Routine { routine } => {
-            let key = outer_key(alloc, &routine.sig)?;
-            Ok(key)
-        },
-        ItemForm::Constant { .. } => Ok(None),
-        ItemForm::Proto { .. } => Ok(None),
-        ItemForm::Forward { .. } => Ok(None),
-        ItemForm::Using { .. } => Ok(None),
+        ItemForm::Routine { routine } => outer_key(alloc, &routine.sig),
+        ItemForm::Class { .. }
+        | ItemForm::Constant { .. }
+        | ItemForm::Proto { .. }
+        | ItemForm::Forward { .. }
+        | ItemForm::Using { .. } => Ok(None),
     }
 }
 
@@ -104,15 +99,12 @@ fn member_of(alloc: Global, item: &Item) -> Result<Option<Vec<u8>>, AllocError>
     ensures { IfOk result (λ key. option_map (λ k. k.items) key ≡ member_of item.now) }
 {
     match &item.form {
-        ItemForm::Class { .. } => Ok(None),
-        ItemForm::Routine { routine } => {
-            let key = owned_key(alloc, &routine.sig.owner, &routine.sig)?;
-            Ok(key)
-        },
-        ItemForm::Constant { .. } => Ok(None),
-        ItemForm::Proto { .. } => Ok(None),
-        ItemForm::Forward { .. } => Ok(None),
-        ItemForm::Using { .. } => Ok(None),
+        ItemForm::Routine { routine } => owned_key(alloc, &routine.sig.owner, &routine.sig),
+        ItemForm::Class { .. }
+        | ItemForm::Constant { .. }
+        | ItemForm::Proto { .. }
+        | ItemForm::Forward { .. }
+        | ItemForm::Using { .. } => Ok(None),
     }
 }
 
@@ -120,15 +112,12 @@ fn member_sig_of(alloc: Global, item: &Item) -> Result<Option<Vec<u8>>, AllocErr
     ensures { IfOk result (λ key. option_map (λ k. k.items) key ≡ member_sig_of item.now) }
 {
     match &item.form {
-        ItemForm::Class { .. } => Ok(None),
-        ItemForm::Routine { routine } => {
-            let key = owned_sig_key(alloc, &routine.sig.owner, &routine.sig)?;
-            Ok(key)
-        },
-        ItemForm::Constant { .. } => Ok(None),
-        ItemForm::Proto { .. } => Ok(None),
-        ItemForm::Forward { .. } => Ok(None),
-        ItemForm::Using { .. } => Ok(None),
+        ItemForm::Routine { routine } => owned_sig_key(alloc, &routine.sig.owner, &routine.sig),
+        ItemForm::Class { .. }
+        | ItemForm::Constant { .. }
+        | ItemForm::Proto { .. }
+        | ItemForm::Forward { .. }
+        | ItemForm::Using { .. } => Ok(None),
     }
 }
 
@@ -136,26 +125,11 @@ fn key_of(alloc: Global, topic: KeyTopic, item: &Item) -> Result<Option<Vec<u8>>
     ensures { IfOk result (λ key. option_map (λ k. k.items) key ≡ key_of topic item.now) }
 {
     match topic {
-        KeyTopic::Class => {
-            let key = class_key(alloc, item)?;
-            Ok(key)
-        }
-        KeyTopic::Proto => {
-            let key = proto_key(alloc, item)?;
-            Ok(key)
-        }
-        KeyTopic::Routine => {
-            let key = routine_key(alloc, item)?;
-            Ok(key)
-        }
-        KeyTopic::Member => {
-            let key = member_of(alloc, item)?;
-            Ok(key)
-        }
-        KeyTopic::MemberSig => {
-            let key = member_sig_of(alloc, item)?;
-            Ok(key)
-        }
+        KeyTopic::Class => class_key(alloc, item),
+        KeyTopic::Proto => proto_key(alloc, item),
+        KeyTopic::Routine => routine_key(alloc, item),
+        KeyTopic::Member => member_of(alloc, item),
+        KeyTopic::MemberSig => member_sig_of(alloc, item),
     }
 }
 

@@ -67,8 +67,7 @@ fn push_base(key: &mut Vec<u8>, base: &Base) -> Result<(), AllocError>
         }
         Base::Named(name) => {
             key.push(7)?;
-            push_name(key, name)?;
-            Ok(())
+            push_name(key, name)
         }
     }
 }
@@ -120,8 +119,7 @@ fn push_sig(key: &mut Vec<u8>, sig: &Sig) -> Result<(), AllocError>
     key.push(role_byte(sig.role))?;
     push_name(key, &sig.name)?;
     push_base(key, &sig.ret)?;
-    push_params(key, &sig.params)?;
-    Ok(())
+    push_params(key, &sig.params)
 }
 
 fn push_bytes(key: &mut Vec<u8>, bytes: &[u8]) -> Result<(), AllocError>
@@ -135,8 +133,7 @@ fn push_role(key: &mut Vec<u8>, sig: &Sig) -> Result<(), AllocError>
     ensures { OnOk result (key.new.items ≡ key.old.items ++ role_key sig.now) }
 {
     key.push(role_byte(sig.role))?;
-    push_bytes(key, sig.name.bytes())?;
-    Ok(())
+    push_bytes(key, sig.name.bytes())
 }
 
 /// The key of a signature.

@@ -12,7 +12,7 @@ ghost use Rattle.uc_check_index.specs.Marked.{mark_at};
 ghost use Rattle.uc_check_index.specs.Indexed.{AreProtos};
 ghost use Rattle.uc_check_index.specs.Topics.{form_role_key, form_sig_key, member_key_of};
 
-use crate::firsts::{first_in, no_firsts, note_key};
+use crate::firsts::{both, first_in, no_firsts, note_key};
 use crate::keys::{role_key, sig_key};
 use crate::topics::MemberTopic;
 use std::alloc::{AllocError, Global};
@@ -49,8 +49,7 @@ fn form_role_key(alloc: Global, form: &MemberForm) -> Result<Option<Vec<u8>>, Al
         ≡ form_role_key (member_form_at form.now)) }
 {
     match form {
-        MemberForm::Fields { .. } => Ok(None),
-        MemberForm::Routine { .. } => Ok(None),
+        MemberForm::Fields { .. } | MemberForm::Routine { .. } => Ok(None),
         MemberForm::Proto { sig } => {
             let key = role_key(alloc, sig)?;
             Ok(Some(key))
@@ -63,8 +62,7 @@ fn form_sig_key(alloc: Global, form: &MemberForm) -> Result<Option<Vec<u8>>, All
         ≡ form_sig_key (member_form_at form.now)) }
 {
     match form {
-        MemberForm::Fields { .. } => Ok(None),
-        MemberForm::Routine { .. } => Ok(None),
+        MemberForm::Fields { .. } | MemberForm::Routine { .. } => Ok(None),
         MemberForm::Proto { sig } => {
             let key = sig_key(alloc, sig)?;
             Ok(Some(key))
@@ -76,14 +74,8 @@ fn key_of(alloc: Global, topic: MemberTopic, member: &Member) -> Result<Option<V
     ensures { IfOk result (λ key. option_map (λ k. k.items) key ≡ member_key_of topic member.now) }
 {
     match topic {
-        MemberTopic::Role => {
-            let key = form_role_key(alloc, &member.form)?;
-            Ok(key)
-        }
-        MemberTopic::Sig => {
-            let key = form_sig_key(alloc, &member.form)?;
-            Ok(key)
-        }
+        MemberTopic::Role => form_role_key(alloc, &member.form),
+        MemberTopic::Sig => form_sig_key(alloc, &member.form),
     }
 }
 
@@ -115,8 +107,9 @@ impl<'a> Protos<'a> {
     pub fn new(alloc: Global, class: &'a Class) -> Result<Protos<'a>, AllocError>
         ensures { IfOk result (λ p. p ≡ class.now) }
     {
-        let roles = firsts_of(alloc, &class.members, MemberTopic::Role)?;
-        let sigs = firsts_of(alloc, &class.members, MemberTopic::Sig)?;
+        let roles = firsts_of(alloc, &class.members, MemberTopic::Role);
+        let sigs = firsts_of(alloc, &class.members, MemberTopic::Sig);
+        let (roles, sigs) = both(roles, sigs)?;
         Ok(Protos { class, roles, sigs })
     }
 
@@ -177,10 +170,7 @@ pub fn is_declared_in(
     ensures { IfOk result (λ b. b ≡ class_declares sig.now (slice_get protos.now class)) }
 {
     match protos.get(class) {
-        Some(class) => {
-            let declares = class.declares(alloc, sig)?;
-            Ok(declares)
-        }
+        Some(class) => class.declares(alloc, sig),
         None => Ok(false),
     }
 }
@@ -195,10 +185,7 @@ pub fn mark_in(
     ensures { IfOk result (λ mark. mark ≡ mark_in sig.now (slice_get protos.now class)) }
 {
     match protos.get(class) {
-        Some(class) => {
-            let mark = class.mark_of(alloc, sig)?;
-            Ok(mark)
-        }
+        Some(class) => class.mark_of(alloc, sig),
         None => Ok(MutexMark::Unmarked),
     }
 }

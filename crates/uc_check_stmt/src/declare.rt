@@ -123,12 +123,8 @@ pub fn single_target(sort: Sort) -> Target
     ensures { result ≡ single_target sort }
 {
     match sort {
-        Sort::Void => Target::Scalar,
-        Sort::Int => Target::Scalar,
-        Sort::Char => Target::Scalar,
-        Sort::Bool => Target::Scalar,
-        Sort::Condition => Target::Nothing,
-        Sort::Cluster => Target::Nothing,
+        Sort::Void | Sort::Int | Sort::Char | Sort::Bool => Target::Scalar,
+        Sort::Condition | Sort::Cluster => Target::Nothing,
         Sort::Processor => Target::Reference {
             sort: Sort::Cluster,
         },
@@ -184,8 +180,7 @@ pub fn is_element(names: &Names, sort: Sort) -> bool
     ensures { result ≡ is_element names.now.program sort }
 {
     match sort {
-        Sort::Void => false,
-        Sort::Processor => false,
+        Sort::Void | Sort::Processor => false,
         Sort::Object { class, kind } => is_event(kind) || count_params(names, class) == 0,
         _ => true,
     }
@@ -196,11 +191,8 @@ fn starts_well(names: &Names, start: VariableStart, sort: Sort) -> bool
 {
     match sort {
         Sort::Void => false,
-        Sort::Int => start.single,
-        Sort::Char => start.single,
-        Sort::Bool => start.single,
-        Sort::Condition => !start.by_value,
-        Sort::Cluster => !start.by_value,
+        Sort::Int | Sort::Char | Sort::Bool => start.single,
+        Sort::Condition | Sort::Cluster => !start.by_value,
         Sort::Processor => !start.by_value && start.count == 1,
         Sort::Object { class, kind } => {
             is_event(kind) || (!start.by_value && start.count == count_params(names, class))

@@ -77,8 +77,7 @@ fn check_item(names: &Names, item: &OutItem, found: &mut Found)
     ensures { found.new ≡ with_visits found.old (out_visits names.now item.now) }
 {
     match &item.form {
-        OutForm::Endl => {}
-        OutForm::Literal { .. } => {}
+        OutForm::Endl | OutForm::Literal { .. } => {}
         OutForm::Value { value } => {
             let entity = check_expr(names, value, found);
             ask_printed(entity, item.sign, found);

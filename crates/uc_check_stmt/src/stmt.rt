@@ -131,21 +131,21 @@ pub fn check_stmt(names: &mut Names, s: &Stmt, found: &mut Found) -> Result<(), 
         StmtForm::Enable { events, body } => check_masked(names, events, body, found),
         StmtForm::Disable { events, body } => check_masked(names, events, body, found),
         StmtForm::Accept { clauses, other } => check_accept(names, clauses, other, s.pos, found),
-        StmtForm::Empty => Ok(()),
-        StmtForm::Evaluate { .. } => Ok(()),
-        StmtForm::Break => Ok(()),
-        StmtForm::Continue => Ok(()),
-        StmtForm::Return { .. } => Ok(()),
-        StmtForm::Throw { .. } => Ok(()),
-        StmtForm::Raise { .. } => Ok(()),
-        StmtForm::RaiseAt { .. } => Ok(()),
-        StmtForm::Print { .. } => Ok(()),
-        StmtForm::PrintTogether { .. } => Ok(()),
-        StmtForm::Read { .. } => Ok(()),
-        StmtForm::Resume => Ok(()),
-        StmtForm::Suspend => Ok(()),
-        StmtForm::Yield => Ok(()),
-        StmtForm::Migrate { .. } => Ok(()),
+        StmtForm::Empty
+        | StmtForm::Evaluate { .. }
+        | StmtForm::Break
+        | StmtForm::Continue
+        | StmtForm::Return { .. }
+        | StmtForm::Throw { .. }
+        | StmtForm::Raise { .. }
+        | StmtForm::RaiseAt { .. }
+        | StmtForm::Print { .. }
+        | StmtForm::PrintTogether { .. }
+        | StmtForm::Read { .. }
+        | StmtForm::Resume
+        | StmtForm::Suspend
+        | StmtForm::Yield
+        | StmtForm::Migrate { .. } => Ok(()),
     }
 }
 
@@ -155,8 +155,7 @@ fn check_alone(names: &Names, s: &Stmt, found: &mut Found)
 {
     match &s.form {
         StmtForm::Evaluate { value } => check_statement(names, value, found),
-        StmtForm::Break => ask_loop_exit(names, s.pos, found),
-        StmtForm::Continue => ask_loop_exit(names, s.pos, found),
+        StmtForm::Break | StmtForm::Continue => ask_loop_exit(names, s.pos, found),
         StmtForm::Return { value } => check_return(names, value, s.pos, found),
         StmtForm::Throw { raised } => check_raise(names, raised, s.pos, found),
         StmtForm::Raise { raised } => check_raise(names, raised, s.pos, found),
@@ -166,21 +165,20 @@ fn check_alone(names: &Names, s: &Stmt, found: &mut Found)
         StmtForm::Print { items } => check_items(names, items, found),
         StmtForm::PrintTogether { items } => check_together(names, items, found),
         StmtForm::Read { places } => check_places(names, places, found),
-        StmtForm::Resume => ask_switch(names, s.pos, found),
-        StmtForm::Suspend => ask_switch(names, s.pos, found),
+        StmtForm::Resume | StmtForm::Suspend => ask_switch(names, s.pos, found),
         StmtForm::Migrate { cluster } => check_migrate(names, cluster, found),
-        StmtForm::Empty => {}
-        StmtForm::Yield => {}
-        StmtForm::Block { .. } => {}
-        StmtForm::Declare { .. } => {}
-        StmtForm::If { .. } => {}
-        StmtForm::While { .. } => {}
-        StmtForm::Do { .. } => {}
-        StmtForm::For { .. } => {}
-        StmtForm::Try { .. } => {}
-        StmtForm::Enable { .. } => {}
-        StmtForm::Disable { .. } => {}
-        StmtForm::Accept { .. } => {}
+        StmtForm::Empty
+        | StmtForm::Yield
+        | StmtForm::Block { .. }
+        | StmtForm::Declare { .. }
+        | StmtForm::If { .. }
+        | StmtForm::While { .. }
+        | StmtForm::Do { .. }
+        | StmtForm::For { .. }
+        | StmtForm::Try { .. }
+        | StmtForm::Enable { .. }
+        | StmtForm::Disable { .. }
+        | StmtForm::Accept { .. } => {}
     }
 }
 

@@ -29,9 +29,10 @@ fn first_among(alloc: Global, tables: &Tables, index: &Index) -> Result<Option<B
 pub fn first_break_by(alloc: Global, tables: &Tables) -> Result<Option<Break>, AllocError>
     ensures { IfOk result (λ first. first ≡ after None (breaks_of tables.now)) }
 {
-    // An owned table has one way to its end: behind the call that reads it no `?` stands.
     let index = Index::new(alloc, tables.program())?;
     let first = first_among(alloc, tables, &index);
+    // Tables are dropped by name: at the end of a function they would be taken apart there, table by table.
+    drop(index);
     first
 }
 
@@ -41,5 +42,6 @@ pub fn first_break(alloc: Global, program: &Program) -> Result<Option<Break>, Al
 {
     let tables = tables_of(alloc, program)?;
     let first = first_break_by(alloc, &tables);
+    drop(tables);
     first
 }

@@ -175,11 +175,13 @@ fn check_fields(
 }
 
 fn check_listed(
+    outer: &Names,
     walked: ClassWalk,
     listed: FieldList,
     at: Pos,
     found: &mut Found,
 ) -> Result<(), AllocError>
+    requires outer { outer.now ≡ plain_env walked.tables.now (class_around walked.home) }
     requires walks { Walks walked.tables.now walked.home walked.class.now walked.circular
         walked.holders.now walked.bound.known walked.bound.names.now }
     requires fields { AreFields walked.class.now listed.member listed.base.now
@@ -193,27 +195,8 @@ fn check_listed(
         listed.entry.access listed.entry.base.now listed.entry.member 0
         listed.entry.declarators.now)) }
 {
-    let outer = Names::new(walked.alloc, walked.tables, class_around(walked.home));
-    ask_base(&outer, listed.base, at, found);
-    check_fields(&outer, walked, listed, found)
-}
-
-fn ask_inner(
-    walked: ClassWalk,
-    proto: bool,
-    sig: &Sig,
-    place: usize,
-    found: &mut Found,
-) -> Result<(), AllocError>
-    requires { Walks walked.tables.now walked.home walked.class.now walked.circular
-        walked.holders.now walked.bound.known walked.bound.names.now }
-    ensures { OnOk result (found.new
-        ≡ first_break_after found.old
-        (AtRoutine (plain_env walked.entry.tables.now (class_around walked.entry.home))
-        walked.entry.class.now proto sig.now place)) }
-{
-    let outer = Names::new(walked.alloc, walked.tables, class_around(walked.home));
-    ask_routine(&outer, walked, proto, sig, place, found)
+    ask_base(outer, listed.base, at, found);
+    check_fields(outer, walked, listed, found)
 }
 
 // The environment of a routine in its class, before its parameters.
@@ -225,13 +208,15 @@ fn inner_names<'a>(walked: ClassWalk<'a>, mark: MutexMark, sig: &Sig) -> Names<'
 }
 
 fn check_inner(
+    outer: &Names,
     walked: ClassWalk,
     place: usize,
     mark: MutexMark,
     routine: &Routine,
     found: &mut Found,
 ) -> Result<(), AllocError>
-    requires { Walks walked.tables.now walked.home walked.class.now walked.circular
+    requires outer { outer.now ≡ plain_env walked.tables.now (class_around walked.home) }
+    requires walks { Walks walked.tables.now walked.home walked.class.now walked.circular
         walked.holders.now walked.bound.known walked.bound.names.now }
     ensures { OnOk result (found.new
         ≡ with_visits found.old
@@ -240,19 +225,23 @@ fn check_inner(
         ∷ routine_visits
         (sig_env walked.entry.tables.now walked.entry.home mark routine.now.sig) routine.now)) }
 {
-    ask_inner(walked, false, &routine.sig, place, found)?;
+    ask_routine(outer, walked, false, &routine.sig, place, found)?;
     let mut names = inner_names(walked, mark, &routine.sig);
-    check_routine(&mut names, routine, found)
+    let checked = check_routine(&mut names, routine, found);
+    drop(names);
+    checked
 }
 
 fn check_proto(
+    outer: &Names,
     walked: ClassWalk,
     place: usize,
     mark: MutexMark,
     sig: &Sig,
     found: &mut Found,
 ) -> Result<(), AllocError>
-    requires { Walks walked.tables.now walked.home walked.class.now walked.circular
+    requires outer { outer.now ≡ plain_env walked.tables.now (class_around walked.home) }
+    requires walks { Walks walked.tables.now walked.home walked.class.now walked.circular
         walked.holders.now walked.bound.known walked.bound.names.now }
     ensures { OnOk result (found.new
         ≡ with_visits found.old
@@ -260,17 +249,21 @@ fn check_proto(
         walked.entry.class.now true sig.now place
         ∷ sig_visits (sig_env walked.entry.tables.now walked.entry.home mark sig.now) sig.now)) }
 {
-    ask_inner(walked, true, sig, place, found)?;
+    ask_routine(outer, walked, true, sig, place, found)?;
     let mut names = inner_names(walked, mark, sig);
-    check_sig(&mut names, sig, found)
+    let checked = check_sig(&mut names, sig, found);
+    drop(names);
+    checked
 }
 
 fn check_form(
+    outer: &Names,
     walked: ClassWalk,
     place: usize,
     member: &Member,
     found: &mut Found,
 ) -> Result<(), AllocError>
+    requires outer { outer.now ≡ plain_env walked.tables.now (class_around walked.home) }
     requires at { slice_get walked.class.now.members place ≡ Some member.now }
     requires walks { Walks walked.tables.now walked.home walked.class.now walked.circular
         walked.holders.now walked.bound.known walked.bound.names.now }
@@ -291,14 +284,14 @@ fn check_form(
                 base,
                 declarators,
             };
-            check_listed(walked, listed, *at, found)
+            check_listed(outer, walked, listed, *at, found)
         }
         MemberForm::Routine { routine } => {
-            check_inner(walked, place, member.mark, routine, found)?;
+            check_inner(outer, walked, place, member.mark, routine, found)?;
             Ok(())
         }
         MemberForm::Proto { sig } => {
-            check_proto(walked, place, member.mark, sig, found)?;
+            check_proto(outer, walked, place, member.mark, sig, found)?;
             Ok(())
         }
     }
@@ -326,7 +319,9 @@ fn check_member(
 {
     let outer = Names::new(walked.alloc, walked.tables, class_around(walked.home));
     ask_mark(&outer, walked.class, walked.numbered, member, found);
-    check_form(walked, place, member, found)
+    let checked = check_form(&outer, walked, place, member, found);
+    drop(outer);
+    checked
 }
 
 #[tactic(auto, using(uc_check_stmt::proofs::Joined::joining))]
@@ -389,7 +384,9 @@ fn ask_whole(
         (AtClass (plain_env tables.now (class_around home)) class.now home.class)) }
 {
     let outer = Names::new(alloc, tables, class_around(home));
-    ask_class(&outer, index, class, home.class, events, found)
+    let asked = ask_class(&outer, index, class, home.class, events, found);
+    drop(outer);
+    asked
 }
 
 // The members of a class, with the flags of the classes that have it in their fields.
@@ -424,7 +421,9 @@ fn check_held<'x>(
         },
         numbered: tables.mutex_members(home.class),
     };
-    check_members(walked, found)
+    let checked = check_members(walked, found);
+    drop(names);
+    checked
 }
 
 fn check_inside(

@@ -69,6 +69,7 @@ fn count_among<'x>(
         lengths,
     };
     let count = sum_of(&counted, conditions);
+    drop(names);
     Ok(count)
 }
 

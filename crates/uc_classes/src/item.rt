@@ -104,7 +104,9 @@ fn check_outer(
         ≡ with_visits found.old (routine_visits (outer_env tables.now routine.now.sig) routine.now)) }
 {
     let mut names = outer_names(alloc, tables, index, &routine.sig)?;
-    check_routine(&mut names, routine, found)
+    let checked = check_routine(&mut names, routine, found);
+    drop(names);
+    checked
 }
 
 #[tactic(auto, using(uc_check_stmt::proofs::Joined::joining))]
@@ -116,6 +118,7 @@ fn check_constant(alloc: Global, tables: &Tables, constant: &Constant, found: &m
     let names = Names::new(alloc, tables, no_around());
     let entity = check_expr(&names, &constant.value, found);
     ask_constant(&names, constant, entity, found);
+    drop(names);
 }
 
 fn check_proto(
@@ -128,7 +131,9 @@ fn check_proto(
         ≡ with_visits found.old (sig_visits (plain_env tables.now no_around) sig.now)) }
 {
     let mut names = Names::new(alloc, tables, no_around());
-    check_sig(&mut names, sig, found)
+    let checked = check_sig(&mut names, sig, found);
+    drop(names);
+    checked
 }
 
 // What stands before an item: so many classes, of which so many are events.
@@ -174,8 +179,7 @@ fn check_item(
             Ok(())
         }
         ItemForm::Proto { sig } => check_proto(alloc, tables, sig, found),
-        ItemForm::Forward { .. } => Ok(()),
-        ItemForm::Using { .. } => Ok(()),
+        ItemForm::Forward { .. } | ItemForm::Using { .. } => Ok(()),
     }
 }
 

@@ -84,7 +84,27 @@ impl Work {
         ensures ok { OnOk result (self.new ≡ called (plain_call routine) self.old) }
         ensures err { OnErr result (self.new ≡ self.old) }
     {
-        self.task.running.enter(Call {
+        let call = Call {
+            routine,
+            this: Cell::Nothing,
+            taken: u64::from(routine.params),
+            counts: true,
+        };
+        if !self.task.running.enter_in_place(call) {
+            self.call_with_room(routine)?;
+        }
+        Ok(())
+    }
+
+    // The same, where it may need more room. It stands apart and is handed no more than the routine, so that nothing is kept for it.
+    #[cold]
+    #[inline(never)]
+    fn call_with_room(&mut self, routine: RoutineCode) -> Result<(), AllocError>
+        requires { self.old.env.links.calls < CALLS }
+        ensures ok { OnOk result (self.new ≡ called (plain_call routine) self.old) }
+        ensures err { OnErr result (self.new ≡ self.old) }
+    {
+        self.task.running.enter_with_room(Call {
             routine,
             this: Cell::Nothing,
             taken: u64::from(routine.params),
@@ -100,8 +120,28 @@ impl Work {
         ensures ok { OnOk result (self.new ≡ called (object_call routine counts self.old) self.old) }
         ensures err { OnErr result (self.new ≡ self.old) }
     {
+        let call = Call {
+            routine,
+            this: self.below(routine.params),
+            taken: u64::from(routine.params) + 1,
+            counts,
+        };
+        if !self.task.running.enter_in_place(call) {
+            self.call_on_with_room(routine, counts)?;
+        }
+        Ok(())
+    }
+
+    // The same, where it may need more room.
+    #[cold]
+    #[inline(never)]
+    fn call_on_with_room(&mut self, routine: RoutineCode, counts: bool) -> Result<(), AllocError>
+        requires { counts ≡ true → self.old.env.links.calls < CALLS }
+        ensures ok { OnOk result (self.new ≡ called (object_call routine counts self.old) self.old) }
+        ensures err { OnErr result (self.new ≡ self.old) }
+    {
         let this = self.below(routine.params);
-        self.task.running.enter(Call {
+        self.task.running.enter_with_room(Call {
             routine,
             this,
             taken: u64::from(routine.params) + 1,

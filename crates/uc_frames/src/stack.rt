@@ -118,7 +118,7 @@ impl Stack {
     // Makes a call where that needs no more room and no more cells, and neither who calls nor what stands in its place says anything
     // exceptional. The answer is whether it does not; else all stays as it is.
     #[inline(always)]
-    fn enter_in_place(&mut self, call: Call) -> bool
+    pub(crate) fn enter_in_place(&mut self, call: Call) -> bool
         requires { call.counts ≡ true → self.old.links.calls < CALLS }
         ensures made { result ≡ true → self.new ≡ call_made call self.old }
         ensures stays { result ≡ false → self.new ≡ self.old }
@@ -143,7 +143,7 @@ impl Stack {
 
     // Makes a call, for which room is made where it needs more.
     #[inline(never)]
-    fn enter_with_room(&mut self, call: Call) -> Result<(), AllocError>
+    pub(crate) fn enter_with_room(&mut self, call: Call) -> Result<(), AllocError>
         requires { call.counts ≡ true → self.old.links.calls < CALLS }
         ensures ok { OnOk result (self.new ≡ call_made call self.old) }
         ensures err { OnErr result (self.new ≡ self.old) }

@@ -124,11 +124,11 @@ fn enter_member(
 {
     match &item.form {
         ItemForm::Class { class } => enter_class(names, class, classes, number, steps),
-        ItemForm::Routine { .. } => Ok(false),
-        ItemForm::Constant { .. } => Ok(false),
-        ItemForm::Proto { .. } => Ok(false),
-        ItemForm::Forward { .. } => Ok(false),
-        ItemForm::Using { .. } => Ok(false),
+        ItemForm::Routine { .. }
+        | ItemForm::Constant { .. }
+        | ItemForm::Proto { .. }
+        | ItemForm::Forward { .. }
+        | ItemForm::Using { .. } => Ok(false),
     }
 }
 
@@ -151,10 +151,10 @@ fn enter_outer(
             names.set_around(outer_around(names.tables(), &routine.sig));
             enter_routine(names, routine, steps)
         }
-        ItemForm::Constant { .. } => Ok(is_end(steps)),
         ItemForm::Proto { sig } => enter_sig(names, sig, steps),
-        ItemForm::Forward { .. } => Ok(is_end(steps)),
-        ItemForm::Using { .. } => Ok(is_end(steps)),
+        ItemForm::Constant { .. } | ItemForm::Forward { .. } | ItemForm::Using { .. } => Ok(is_end(
+            steps,
+        )),
     }
 }
 

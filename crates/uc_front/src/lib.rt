@@ -52,6 +52,9 @@ pub fn check(alloc: Global, program: &Program) -> Result<Checked<'_>, RuleFault>
     let tables = tables_of(alloc, program)?;
     match numbered(alloc, &tables) {
         Ok((sites, texts)) => Ok(Checked::new(tables, sites, texts)),
-        Err(fault) => Err(fault),
+        Err(fault) => {
+            drop(tables);
+            Err(fault)
+        }
     }
 }

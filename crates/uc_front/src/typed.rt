@@ -78,14 +78,14 @@ fn entity_type(alloc: Global, tables: &Tables, entity: Entity) -> Result<Ty, All
         Entity::Value { sort } => sort_type(alloc, tables, sort, None),
         Entity::Place { sort } => sort_type(alloc, tables, sort, None),
         Entity::Array { sort, len } => sort_type(alloc, tables, sort, Some(len)),
-        Entity::Input => Ok(type_with(Base::Void, None)),
-        Entity::Fail => Ok(type_with(Base::Void, None)),
-        Entity::Operation { .. } => Ok(type_with(Base::Void, None)),
-        Entity::Main => Ok(type_with(Base::Void, None)),
-        Entity::Routine { .. } => Ok(type_with(Base::Void, None)),
-        Entity::Method { .. } => Ok(type_with(Base::Void, None)),
-        Entity::ClassName => Ok(type_with(Base::Void, None)),
-        Entity::Missing => Ok(type_with(Base::Void, None)),
+        Entity::Input
+        | Entity::Fail
+        | Entity::Operation { .. }
+        | Entity::Main
+        | Entity::Routine { .. }
+        | Entity::Method { .. }
+        | Entity::ClassName
+        | Entity::Missing => Ok(type_with(Base::Void, None)),
     }
 }
 
@@ -160,7 +160,9 @@ fn is_there(alloc: Global, tables: &Tables, place: &Place) -> Result<bool, Alloc
         ≡ is_some (place_env tables.now place.now.item place.now.member place.now.steps.items)) }
 {
     let mut names = Names::new(alloc, tables, no_around());
-    enter_place(&mut names, place)
+    let there = enter_place(&mut names, place);
+    drop(names);
+    there
 }
 
 /// Whether a program has this place.
@@ -169,8 +171,10 @@ pub fn has_place(alloc: Global, program: &Program, place: &Place) -> Result<bool
         ≡ is_some (place_env program.now place.now.item place.now.member place.now.steps.items)) }
 {
     let tables = tables_of(alloc, program)?;
-    let there = is_there(alloc, &tables, place)?;
-    Ok(there)
+    let there = is_there(alloc, &tables, place);
+    // Tables are dropped by name: at the end of a function they would be taken apart there, table by table.
+    drop(tables);
+    Ok(there?)
 }
 
 fn type_at(alloc: Global, tables: &Tables, place: &Place, e: &Expr) -> Result<Ty, RuleFault>
@@ -186,7 +190,9 @@ fn type_at(alloc: Global, tables: &Tables, place: &Place, e: &Expr) -> Result<Ty
 {
     let mut names = Names::new(alloc, tables, no_around());
     let _there = enter_place(&mut names, place)?;
-    match type_in(&names, e) {
+    let ty = type_in(&names, e);
+    drop(names);
+    match ty {
         Ok(ty) => Ok(ty),
         Err(fault) => Err(fault),
     }
@@ -205,7 +211,9 @@ pub fn type_of(alloc: Global, program: &Program, place: &Place, e: &Expr) -> Res
         IfErr result (λ fault. IsTextFaultOf (statement_breaks env e.now) fault) }
 {
     let tables = tables_of(alloc, program)?;
-    match type_at(alloc, &tables, place, e) {
+    let ty = type_at(alloc, &tables, place, e);
+    drop(tables);
+    match ty {
         Ok(ty) => Ok(ty),
         Err(fault) => Err(fault),
     }

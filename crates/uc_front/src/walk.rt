@@ -43,30 +43,30 @@ fn pass(names: &mut Names, s: &Stmt) -> Result<(), AllocError>
             declare_all(names, base, declarators)?;
             Ok(())
         }
-        StmtForm::Block { .. } => Ok(()),
-        StmtForm::Empty => Ok(()),
-        StmtForm::Evaluate { .. } => Ok(()),
-        StmtForm::If { .. } => Ok(()),
-        StmtForm::While { .. } => Ok(()),
-        StmtForm::Do { .. } => Ok(()),
-        StmtForm::For { .. } => Ok(()),
-        StmtForm::Break => Ok(()),
-        StmtForm::Continue => Ok(()),
-        StmtForm::Return { .. } => Ok(()),
-        StmtForm::Try { .. } => Ok(()),
-        StmtForm::Throw { .. } => Ok(()),
-        StmtForm::Raise { .. } => Ok(()),
-        StmtForm::RaiseAt { .. } => Ok(()),
-        StmtForm::Enable { .. } => Ok(()),
-        StmtForm::Disable { .. } => Ok(()),
-        StmtForm::Accept { .. } => Ok(()),
-        StmtForm::Print { .. } => Ok(()),
-        StmtForm::PrintTogether { .. } => Ok(()),
-        StmtForm::Read { .. } => Ok(()),
-        StmtForm::Resume => Ok(()),
-        StmtForm::Suspend => Ok(()),
-        StmtForm::Yield => Ok(()),
-        StmtForm::Migrate { .. } => Ok(()),
+        StmtForm::Block { .. }
+        | StmtForm::Empty
+        | StmtForm::Evaluate { .. }
+        | StmtForm::If { .. }
+        | StmtForm::While { .. }
+        | StmtForm::Do { .. }
+        | StmtForm::For { .. }
+        | StmtForm::Break
+        | StmtForm::Continue
+        | StmtForm::Return { .. }
+        | StmtForm::Try { .. }
+        | StmtForm::Throw { .. }
+        | StmtForm::Raise { .. }
+        | StmtForm::RaiseAt { .. }
+        | StmtForm::Enable { .. }
+        | StmtForm::Disable { .. }
+        | StmtForm::Accept { .. }
+        | StmtForm::Print { .. }
+        | StmtForm::PrintTogether { .. }
+        | StmtForm::Read { .. }
+        | StmtForm::Resume
+        | StmtForm::Suspend
+        | StmtForm::Yield
+        | StmtForm::Migrate { .. } => Ok(()),
     }
 }
 
@@ -83,7 +83,6 @@ fn declare_start(names: &mut Names, start: &ForStart) -> Result<(), AllocError>
     ensures { OnOk result (names.new ≡ for_declared names.old start.now) }
 {
     match &start.form {
-        ForForm::Nothing => Ok(()),
         ForForm::Declare {
             base,
             declarators,
@@ -92,7 +91,7 @@ fn declare_start(names: &mut Names, start: &ForStart) -> Result<(), AllocError>
             declare_all(names, base, declarators)?;
             Ok(())
         }
-        ForForm::Evaluate { .. } => Ok(()),
+        ForForm::Nothing | ForForm::Evaluate { .. } => Ok(()),
     }
 }
 
@@ -140,13 +139,12 @@ fn enter_head(
         ≡ reached there names.new) }
 {
     match &start.form {
-        ForForm::Nothing => Ok(is_alone(number, steps)),
         ForForm::Declare {
             base,
             declarators,
             ..
         } => enter_behind(names, base, declarators, number, steps),
-        ForForm::Evaluate { .. } => Ok(is_alone(number, steps)),
+        ForForm::Nothing | ForForm::Evaluate { .. } => Ok(is_alone(number, steps)),
     }
 }
 
@@ -178,11 +176,8 @@ fn enter_body(
 {
     match step {
         Step::At { number } => enter_nth(names, body, number, steps),
-        Step::Head { .. } => Ok(false),
-        Step::Body => Ok(false),
-        Step::Other => Ok(false),
-        Step::Handler { .. } => Ok(false),
-        Step::Clause { .. } => Ok(false),
+        Step::Head { .. } | Step::Body | Step::Other | Step::Handler { .. } | Step::Clause { .. } =>
+            Ok(false),
     }
 }
 
@@ -238,21 +233,21 @@ fn enter_stmt(names: &mut Names, s: &Stmt, step: Step, steps: &[Step]) -> Result
         StmtForm::Enable { body, .. } => enter_masked(names, body, step, steps),
         StmtForm::Disable { body, .. } => enter_masked(names, body, step, steps),
         StmtForm::Accept { clauses, other } => enter_accept(names, clauses, other, step, steps),
-        StmtForm::Empty => Ok(false),
-        StmtForm::Evaluate { .. } => Ok(false),
-        StmtForm::Break => Ok(false),
-        StmtForm::Continue => Ok(false),
-        StmtForm::Return { .. } => Ok(false),
-        StmtForm::Throw { .. } => Ok(false),
-        StmtForm::Raise { .. } => Ok(false),
-        StmtForm::RaiseAt { .. } => Ok(false),
-        StmtForm::Print { .. } => Ok(false),
-        StmtForm::PrintTogether { .. } => Ok(false),
-        StmtForm::Read { .. } => Ok(false),
-        StmtForm::Resume => Ok(false),
-        StmtForm::Suspend => Ok(false),
-        StmtForm::Yield => Ok(false),
-        StmtForm::Migrate { .. } => Ok(false),
+        StmtForm::Empty
+        | StmtForm::Evaluate { .. }
+        | StmtForm::Break
+        | StmtForm::Continue
+        | StmtForm::Return { .. }
+        | StmtForm::Throw { .. }
+        | StmtForm::Raise { .. }
+        | StmtForm::RaiseAt { .. }
+        | StmtForm::Print { .. }
+        | StmtForm::PrintTogether { .. }
+        | StmtForm::Read { .. }
+        | StmtForm::Resume
+        | StmtForm::Suspend
+        | StmtForm::Yield
+        | StmtForm::Migrate { .. } => Ok(false),
     }
 }
 
@@ -268,15 +263,15 @@ fn enter_block(
         ≡ reached there names.new) }
 {
     match step {
-        Step::At { .. } => Ok(false),
-        Step::Head { .. } => Ok(false),
         Step::Body => {
             open_block(names);
             follow_body(names, body, steps)
         }
-        Step::Other => Ok(false),
-        Step::Handler { .. } => Ok(false),
-        Step::Clause { .. } => Ok(false),
+        Step::At { .. }
+        | Step::Head { .. }
+        | Step::Other
+        | Step::Handler { .. }
+        | Step::Clause { .. } => Ok(false),
     }
 }
 
@@ -293,11 +288,8 @@ fn enter_declaration(
 {
     match step {
         Step::At { number } => enter_behind(names, base, declarators, number, steps),
-        Step::Head { .. } => Ok(false),
-        Step::Body => Ok(false),
-        Step::Other => Ok(false),
-        Step::Handler { .. } => Ok(false),
-        Step::Clause { .. } => Ok(false),
+        Step::Head { .. } | Step::Body | Step::Other | Step::Handler { .. } | Step::Clause { .. } =>
+            Ok(false),
     }
 }
 
@@ -314,12 +306,11 @@ fn enter_if(
         ≡ reached there names.new) }
 {
     match step {
-        Step::At { .. } => Ok(false),
-        Step::Head { .. } => Ok(false),
         Step::Body => enter_inner(names, chosen, steps),
         Step::Other => enter_maybe(names, other, steps),
-        Step::Handler { .. } => Ok(false),
-        Step::Clause { .. } => Ok(false),
+        Step::At { .. } | Step::Head { .. } | Step::Handler { .. } | Step::Clause { .. } => Ok(
+            false,
+        ),
     }
 }
 
@@ -334,15 +325,15 @@ fn enter_loop(
         ≡ reached there names.new) }
 {
     match step {
-        Step::At { .. } => Ok(false),
-        Step::Head { .. } => Ok(false),
         Step::Body => {
             names.set_around(in_loop(names.around()));
             enter_inner(names, body, steps)
         }
-        Step::Other => Ok(false),
-        Step::Handler { .. } => Ok(false),
-        Step::Clause { .. } => Ok(false),
+        Step::At { .. }
+        | Step::Head { .. }
+        | Step::Other
+        | Step::Handler { .. }
+        | Step::Clause { .. } => Ok(false),
     }
 }
 
@@ -359,16 +350,13 @@ fn enter_for(
 {
     names.open();
     match step {
-        Step::At { .. } => Ok(false),
         Step::Head { number } => enter_head(names, start, number, steps),
         Step::Body => {
             declare_start(names, start)?;
             names.set_around(with_joins(true, in_loop(names.around())));
             follow_stmt(names, body, steps)
         }
-        Step::Other => Ok(false),
-        Step::Handler { .. } => Ok(false),
-        Step::Clause { .. } => Ok(false),
+        Step::At { .. } | Step::Other | Step::Handler { .. } | Step::Clause { .. } => Ok(false),
     }
 }
 
@@ -385,15 +373,12 @@ fn enter_try(
         ≡ reached there names.new) }
 {
     match step {
-        Step::At { .. } => Ok(false),
-        Step::Head { .. } => Ok(false),
         Step::Body => {
             names.open();
             follow_body(names, body, steps)
         }
-        Step::Other => Ok(false),
         Step::Handler { number } => enter_handlers(names, handlers, number, steps),
-        Step::Clause { .. } => Ok(false),
+        Step::At { .. } | Step::Head { .. } | Step::Other | Step::Clause { .. } => Ok(false),
     }
 }
 
@@ -408,12 +393,12 @@ fn enter_masked(
         ≡ reached there names.new) }
 {
     match step {
-        Step::At { .. } => Ok(false),
-        Step::Head { .. } => Ok(false),
         Step::Body => enter_inner(names, body, steps),
-        Step::Other => Ok(false),
-        Step::Handler { .. } => Ok(false),
-        Step::Clause { .. } => Ok(false),
+        Step::At { .. }
+        | Step::Head { .. }
+        | Step::Other
+        | Step::Handler { .. }
+        | Step::Clause { .. } => Ok(false),
     }
 }
 
@@ -430,11 +415,8 @@ fn enter_accept(
         ≡ reached there names.new) }
 {
     match step {
-        Step::At { .. } => Ok(false),
-        Step::Head { .. } => Ok(false),
-        Step::Body => Ok(false),
         Step::Other => enter_maybe(names, other, steps),
-        Step::Handler { .. } => Ok(false),
+        Step::At { .. } | Step::Head { .. } | Step::Body | Step::Handler { .. } => Ok(false),
         Step::Clause { number } => enter_clauses(names, clauses, number, steps),
     }
 }

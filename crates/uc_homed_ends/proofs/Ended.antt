@@ -51,10 +51,10 @@ use Rattle.uc_state_laws.proofs.StackWorlds.{law_frame_runs}
 use Rattle.uc_state_laws.proofs.Unreferring.{law_accepted}
 use Rattle.uc_life_laws.specs.Things.{Few, AtVariable, Nowhere, InTodo, Variables, IsFew, itself}
 use Rattle.uc_life_laws.specs.Belonging.{Belongs}
-use Rattle.uc_life_laws.specs.LifeStates.{LifeState}
+use Rattle.uc_life_laws.specs.Lives.{LivesState}
 use Rattle.uc_life_laws.specs.Lasting.{lasting, RunMeetsAt}
 use Rattle.uc_life_laws.proofs.Lasting.{not_gone}
-use Rattle.uc_life_laws.proofs.Scopes.{law_reading}
+use Rattle.uc_life_laws.proofs.LivesLemmas.{law_lives}
 use Rattle.uc_life_laws.proofs.Laying.{laid_out}
 use Rattle.uc_life_laws.proofs.Owned.{tasks_grow}
 use Rattle.uc_life_laws.proofs.Own.{law_own}
@@ -91,7 +91,7 @@ record Loaded (few : Few) (j : Journal) (n : Exec) (v : Value) : Type 0 where
 record Here (p : Program) (few : Few) (j : Journal) (s : State) : Type 0 where
   stands : Stands p (setting_of p few) s
   fair : Fair (setting_of p few) s
-  life : LifeState (table_of p) (lasting few j) s
+  life : LivesState (table_of p) (lasting few j) s
   loads : Loads j s
 
 -- a part of the object at hand is no variable
@@ -102,14 +102,14 @@ no_part Z s st k r written todo e =
     x.1.0
 
 -- what a variable in scope is bound to is not gone
-module _ (t : Table) (few : Few) (j : Journal) (s : State) (life : LifeState t (lasting few j) s) (k r c : ℕ) (written : Bool) (this : (t.routine r).this ≡ Some c) (whole : (t.routine r).whole ≡ true) where
+module _ (t : Table) (few : Few) (j : Journal) (s : State) (life : LivesState t (lasting few j) s) (k r c : ℕ) (written : Bool) (this : (t.routine r).this ≡ Some c) (whole : (t.routine r).whole ≡ true) where
   abbrev Marked : List Todo → Type 0
   Marked l = InTodo (AtVariable t (Frame s.env.exec s.run.frame) s.run.this) (Nowhere (Frame s.env.exec s.run.frame) s.run.this) l (variable_at k s) (Cell (Obj c))
 
   at_mark : (l : List Todo) → s.run.control ≡ l → Marked l → (o : ℕ) → loaded (variable_at k s) s.env ≡ Object o → is_gone o j ≡ false
   at_mark l e m o q =
       let v : Variables t s.env.exec (s.run ∷ s.callers) (variable_at k s) (Cell (Obj c)) = inl (subst Marked (sym e) m) in
-      let known = law_reading.places t (lasting few j) s life (variable_at k s) (Cell (Obj c)) v s.run.frame (Slot k ∷ []) (Obj c) itself tt in
+      let known = law_lives.reads t (lasting few j) s life (variable_at k s) (Cell (Obj c)) s.run.frame (Slot k ∷ []) (Obj c) tt v itself in
       let f : IsFew t (lasting few j) s.env.exec (Obj c) (Object o) = subst (λ v. IsFew t (lasting few j) s.env.exec (Obj c) v) q known.passes in
       not_gone few.numbers j c o f
 
@@ -212,7 +212,7 @@ module _ (p : Program) (formed : IsFormed p) (accepted : breaks_of p ≡ []) (fe
   FairHere s = Fair (setting_of p few) s
 
   abbrev Lives : Journal → State → Type 0
-  Lives j s = LifeState (table_of p) (lasting few j) s
+  Lives j s = LivesState (table_of p) (lasting few j) s
 
   at_ride : (j : Journal) {s u : State} {q k : ℕ} {a : Asked} (d : Rides source s q u k a) → RideMeets FairHere source s q u k a d → RideMeets (Loads j) source s q u k a d → RideMeets (Lives j) source s q u k a d → Stands p (setting_of p few) s → RideMeets (Here p few j) source s q u k a d
   at_ride j rides.slices f m l n = tt

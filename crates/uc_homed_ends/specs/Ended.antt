@@ -18,7 +18,7 @@ use Rattle.uc_state_laws.specs.Fitting.{RunFits}
 use Rattle.uc_state_laws.specs.RoomRuns.{Comes}
 use Rattle.uc_state_laws.specs.Opens.{RunMeets, LeadsMeet}
 use Rattle.uc_life_laws.specs.Things.{Few}
-use Rattle.uc_life_laws.specs.LifeStates.{LifeState}
+use Rattle.uc_life_laws.specs.Lives.{LivesState}
 use Rattle.uc_life_laws.specs.Lasting.{lasting, RunMeetsAt}
 use Rattle.uc_putting_laws.specs.Putting.{IsEnding}
 use Rattle.uc_putting_laws.specs.PuttingLaws.{setting_of, Fair}
@@ -43,10 +43,10 @@ LawEnded =
     (j : Journal) (w : World) (r : Runs (source_of p) input opts j w) → RunFits (source_of p) input opts j w r →
     is_over j ≡ false → RunLeft (table_of p) few (source_of p) input opts j w r →
     RunMeets (Fair (setting_of p few)) (source_of p) input opts j w r → RunMeetsAt Loads (source_of p) input opts j w r →
-    RunMeetsAt (λ i v. LifeState (table_of p) (lasting few i) v) (source_of p) input opts j w r →
+    RunMeetsAt (λ i v. LivesState (table_of p) (lasting few i) v) (source_of p) input opts j w r →
     (t : ℕ) (s : State) (c : Comes (source_of p) j w t s) →
     LeadsMeet (Fair (setting_of p few)) (source_of p) (answered (source_of p) c.given (drawn j w t)) s c.leads →
     LeadsMeet (Loads j) (source_of p) (answered (source_of p) c.given (drawn j w t)) s c.leads →
-    LeadsMeet (LifeState (table_of p) (lasting few j)) (source_of p) (answered (source_of p) c.given (drawn j w t)) s c.leads →
+    LeadsMeet (LivesState (table_of p) (lasting few j)) (source_of p) (answered (source_of p) c.given (drawn j w t)) s c.leads →
     (k i : ℕ) (todo : List Todo) → s.run.control ≡ EnterNow k i ∷ todo → ((table_of p).routine i).whole ≡ true →
     (o m : ℕ) (u : State) → quiet (source_of p) s ≡ Asks (ask.Call o m) u → is_gone o j ≡ false

@@ -42,30 +42,52 @@ fn tallest(heights: &[usize], held: &[FieldLayout], count: usize) -> usize
 
 // An order of the classes, so many, each behind those of its fields where there is one.
 fn order_of(alloc: Global, sizes: &Sizes, count: usize) -> Result<Vec<usize>, AllocError> {
-    let mut holders: Vec<Vec<usize>> = Vec::new(alloc);
-    let mut counts: Vec<usize> = Vec::new(alloc);
+    let mut holders = Vec::new(alloc);
+    let mut counts = Vec::new(alloc);
+    note_holders(alloc, sizes, count, &mut holders, &mut counts)?;
+    let mut order = Vec::new(alloc);
+    put_in_order(&holders, &mut counts, &mut order)?;
+    Ok(order)
+}
+
+// For each class, of which there are so many, which classes hold it, and how many it holds itself.
+fn note_holders(
+    alloc: Global,
+    sizes: &Sizes,
+    count: usize,
+    holders: &mut Vec<Vec<usize>>,
+    counts: &mut Vec<usize>,
+) -> Result<(), AllocError> {
     for _place in 0..count {
         holders.push(Vec::new(alloc))?;
     }
     for place in 0..count {
-        counts.push(note_holder(sizes.held_by_class(place), place, &mut holders)?)?;
+        counts.push(note_holder(sizes.held_by_class(place), place, holders)?)?;
     }
-    let mut order = Vec::new(alloc);
+    Ok(())
+}
+
+// The classes that hold none, and then each of which all that it holds are in the order.
+fn put_in_order(
+    holders: &[Vec<usize>],
+    counts: &mut [usize],
+    order: &mut Vec<usize>,
+) -> Result<(), AllocError> {
     for (place, count) in counts.iter().enumerate() {
         if *count == 0 {
             order.push(place)?;
         }
     }
-    for step in 0..count {
+    for step in 0..holders.len() {
         let place = match order.get(step) {
             Some(place) => *place,
-            None => return Ok(order),
+            None => return Ok(()),
         };
         if let Some(list) = holders.get(place) {
-            count_down(&mut counts, list, &mut order)?;
+            count_down(counts, list, order)?;
         }
     }
-    Ok(order)
+    Ok(())
 }
 
 // This class holds the classes of its fields; how many of them there are.
@@ -190,6 +212,5 @@ pub fn heights_of(alloc: Global, sizes: &Sizes, count: usize) -> Result<Vec<usiz
     if are_settled(sizes, &heights, count) {
         return Ok(heights);
     }
-    let heights = deep_heights(alloc, sizes, count)?;
-    Ok(heights)
+    deep_heights(alloc, sizes, count)
 }

@@ -73,6 +73,7 @@ pub fn numbers_of_classes(alloc: Global, program: &Program) -> Result<Vec<u32>, 
     let classes = classes_in(alloc, &program.items)?;
     let objects = objects_in(alloc, &classes)?;
     let places = places_of_classes(alloc, &objects)?;
-    let numbers = numbers_in(alloc, &classes, &places)?;
-    Ok(numbers)
+    let numbers = numbers_in(alloc, &classes, &places);
+    drop(places);
+    numbers
 }

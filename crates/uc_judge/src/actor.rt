@@ -5,7 +5,6 @@ ghost use Rattle.uc_tree.specs.declared.limits.TheConstants.{TICKS_MAX};
 ghost use Rattle.uc_entry.specs.declared.entry.EntryKind.TheVariants as variant;
 ghost use Rattle.uc_acts.specs.Fit.{IsFit, types_of};
 ghost use Rattle.uc_acts.specs.Journal.{entry, asking, begin};
-ghost use Rattle.uc_acts.specs.Pending.{signed_64};
 ghost use Rattle.uc_acts.specs.Acts.{truth, accept_entry, admit_failed, push, fault, raise_entry, poll_entry, read_entry, dispatch};
 ghost use Rattle.uc_judge.specs.Actors.{cost_of, cost_at, IsRead};
 ghost use Rattle.uc_judge.specs.Narrow.{IsNarrow};
@@ -180,7 +179,7 @@ impl Actor {
         ensures fit { IsFit result }
         ensures narrow { IsNarrow result.kind result }
     {
-        let mut e = self.entry(EntryKind::Poll, 0, 0, signed(mask));
+        let mut e = self.entry(EntryKind::Poll, 0, 0, mask.cast_signed());
         match event {
             Some((number, x, y)) => {
                 e.a = i64::from(number) + 1;
@@ -290,16 +289,6 @@ impl Actor {
             line: 0,
         }
     }
-}
-
-// A 64-bit pattern as a number with a sign.
-fn signed(bits: u64) -> i64
-    ensures { result ≡ signed_64 bits }
-{
-    if bits < 9223372036854775808 {
-        return bits as i64;
-    }
-    -((18446744073709551615 - bits) as i64) - 1
 }
 
 // The number of a truth.

@@ -70,10 +70,9 @@ impl<T: Drop, M: Drop> Kernel<T, M> {
         requires input { length input.items ≤ INPUT_BYTES }
         ensures { IfOk result (λ k. Opened shape.sites.items opts input.items first own (kept k)) }
     {
-        let Shape { sites } = shape;
-        let book = KernelCore::open(alloc, &opts, sites, input)?;
         let tasks = first_tasks(alloc, first, own)?;
         let loose = first_loose(alloc)?;
+        let book = KernelCore::open(alloc, &opts, shape.sites, input)?;
         Ok(Kernel {
             book,
             tasks,

@@ -2,7 +2,6 @@
 ghost use Rattle.std.specs.Prelude.{◌≡◌, ◌+◌, not, pos, if◌then◌else◌};
 ghost use Rattle.uc_acts.specs.Acts;
 ghost use Rattle.uc_acts.specs.Acts.{truth};
-ghost use Rattle.uc_acts.specs.Pending.{signed_64};
 ghost use Rattle.uc_acts.specs.Journal;
 ghost use Rattle.uc_acts.specs.Journal.{cost, no_cost};
 ghost use Rattle.uc_entry.specs.declared.entry.EntryKind.TheVariants as kind;
@@ -228,7 +227,7 @@ pub(crate) fn condition_entry(kind: EntryKind, who: Actor, object: u32, cond: u1
 pub(crate) fn poll_entry(who: Actor, mask: u64, found: Option<(u8, i64, i64)>) -> Entry
     ensures { result ≡ Acts.poll_entry who.processor who.task (cost who.ticks who.line) mask found }
 {
-    let mask = signed(mask);
+    let mask = mask.cast_signed();
     match found {
         None => asking(EntryKind::Poll, who, 0, 0, mask),
         Some((event, x, y)) => Entry {
@@ -237,16 +236,6 @@ pub(crate) fn poll_entry(who: Actor, mask: u64, found: Option<(u8, i64, i64)>) -
             ..asking(EntryKind::Poll, who, 0, i64::from(event) + 1, mask)
         },
     }
-}
-
-/// A 64-bit pattern as a number with a sign.
-fn signed(bits: u64) -> i64
-    ensures { result ≡ signed_64 bits }
-{
-    if bits < 9223372036854775808 {
-        return bits as i64;
-    }
-    -((18446744073709551615 - bits) as i64) - 1
 }
 
 /// Whether nobody waits on a condition.

@@ -1,5 +1,5 @@
 //! The journal and the parts, one act at a time.
-ghost use Rattle.std.specs.Prelude.{◌≡◌, ◌⊎◌, ◌<◌, ◌≤◌, ◌+◌, ◌++◌, ◌∷◌, [], ℕ, false, true, length, pos, ◌==◌, if◌then◌else◌, replicate, IfOk, Some};
+ghost use Rattle.std.specs.Prelude.{◌≡◌, ◌⊎◌, ◌<◌, ◌≤◌, ◌+◌, ◌++◌, ◌∷◌, [], ℕ, false, true, length, pos, ◌==◌, if◌then◌else◌, replicate, IfOk, Ok, Some};
 ghost use Rattle.uc_tree.specs.declared.limits.TheConstants.{TASKS, PROCESSORS};
 ghost use Rattle.uc_acts.specs.Journal;
 ghost use Rattle.uc_entry.specs.declared.entry.EntryKind.TheVariants as kind;
@@ -86,15 +86,15 @@ impl KernelCore {
               input = input.items;
             }) }
     {
-        let journal = KernelJournal::new(alloc, opts, sites, TASKS, opts.entries + 40)?;
-        let entries = first_entries(alloc)?;
-        let conditions = first_conditions(alloc)?;
-        let events = first_events(alloc)?;
-        let clusters = first_clusters(alloc, opts.processors)?;
-        let marks = no_marks(alloc, TASKS)?;
-        let inside_marks = no_marks(alloc, 1)?;
-        let owners = first_owners(alloc)?;
-        let own = first_objects(alloc, TASKS)?;
+        let queues = both(first_entries(alloc), first_conditions(alloc));
+        let places = both(first_events(alloc), first_clusters(alloc, opts.processors));
+        let by_task = both(no_marks(alloc, TASKS), first_objects(alloc, TASKS));
+        let by_object = both(no_marks(alloc, 1), first_owners(alloc));
+        let parts = both(both(queues, places), both(by_task, by_object));
+        let journal = KernelJournal::new(alloc, opts, sites, TASKS, opts.entries + 40);
+        let ((queues, tables), journal) = both(parts, journal)?;
+        let ((entries, conditions), (events, clusters)) = queues;
+        let ((marks, own), (inside_marks, owners)) = tables;
         Ok(KernelCore {
             journal,
             entries,
@@ -496,6 +496,18 @@ fn got_after(failed: bool, form: u8, used: usize, input: &[u8]) -> Got
     read_form(form, &[])
 }
 
+// Two parts, where there is memory for both.
+fn both<T: Drop, U: Drop>(
+    one: Result<T, AllocError>,
+    other: Result<U, AllocError>,
+) -> Result<(T, U), AllocError>
+    ensures { IfOk result (λ r. (one ≡ Ok r.0) × (other ≡ Ok r.1)) }
+{
+    let first = one?;
+    let second = other?;
+    Ok((first, second))
+}
+
 // Task 0 is inside object 0.
 fn first_entries(alloc: Global) -> Result<Entries, AllocError>
     ensures room { IfOk result (λ e. 1 ≤ e.tasks) }
@@ -537,8 +549,7 @@ fn first_clusters(alloc: Global, processors: u32) -> Result<Clusters, AllocError
 fn no_marks(alloc: Global, count: u32) -> Result<Vec<bool>, AllocError>
     ensures { IfOk result (λ v. v.items ≡ replicate count false) }
 {
-    let marks = vec![in alloc; false; count as usize]?;
-    Ok(marks)
+    vec![in alloc; false; count as usize]
 }
 
 fn first_owners(alloc: Global) -> Result<Vec<Option<u32>>, AllocError>
@@ -552,6 +563,5 @@ fn first_owners(alloc: Global) -> Result<Vec<Option<u32>>, AllocError>
 fn first_objects(alloc: Global, count: u32) -> Result<Vec<u32>, AllocError>
     ensures { IfOk result (λ v. v.items ≡ replicate count 0) }
 {
-    let own = vec![in alloc; 0u32; count as usize]?;
-    Ok(own)
+    vec![in alloc; 0u32; count as usize]
 }

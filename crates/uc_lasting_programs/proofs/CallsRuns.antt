@@ -26,7 +26,7 @@ use Rattle.uc_typing.specs.Typing.{Ty}
 use Rattle.uc_sound.specs.SoundFormed.{IsFormed}
 use Rattle.uc_sound.specs.Tables.{table_of}
 use Rattle.uc_life_laws.specs.Things.{Few, Base}
-use Rattle.uc_life_laws.specs.LifeStates.{LifeState}
+use Rattle.uc_life_laws.specs.Lives.{LivesState}
 use Rattle.uc_life_laws.specs.Knowing.{KnowsState}
 use Rattle.uc_life_laws.specs.KnownAnswers.{MainPasses}
 use Rattle.uc_life_laws.specs.KnownRuns.{PassesBelow, Meets, AllIsKnown}
@@ -49,7 +49,7 @@ use Rattle.uc_lasting_programs.proofs.LettingStates.{tells}
 -- what is known of a state on the way
 pub record IsKnownThere (p : Program) (few : Few) (s : State) : Type 0 where
   pub knows : KnowsState (table_of p) few [] s
-  pub life : LifeState (table_of p) few s
+  pub life : LivesState (table_of p) few s
 
 module _ (p : Program) (formed : IsFormed p) (accepted : breaks_of p ≡ []) (few : Few) (places : (n : Exec) (w : Value) (b : Ty) → Base few n w b → IsPlace w) where
   code : (n : ℕ) → CodeRoutine (setting_of p few) (special_of p n) (slice_get (source_of p).routines n)
@@ -87,7 +87,7 @@ module _ (p : Program) (formed : IsFormed p) (accepted : breaks_of p ≡ []) (fe
         let begins = start p accepted few (laid_out p formed accepted) main code input opts range (run_rests (source_of p) input opts range r f on) on (k.0 on) frames q t d.given d.runs d.told in
         ride_calls d.rides now fair_now (λ v l y.
         let c : way.Comes (source_of p) j w t v = record { given = d.given; processor = q; runs = d.runs; told = d.told; leads = l } in
-        record { knows = all.comes t v c y; life = all.scopes t v c y }) begins
+        record { knows = all.comes t v c y; life = all.lives t v c y }) begins
 
     run_calls : {j : Journal} {w : World} (r : Runs (source_of p) input opts j w) → RunFits (source_of p) input opts j w r → PassesBelow few opts j → RunMeets (Meets (table_of p) few) (source_of p) input opts j w r → RunMeets (Fair (setting_of p few)) (source_of p) input opts j w r → RunMeets (FindsThis (table_of p) few (source_of p)) (source_of p) input opts j w r
     run_calls begun f below m n = tt
@@ -111,7 +111,7 @@ module _ (p : Program) (formed : IsFormed p) (accepted : breaks_of p ≡ []) (fe
           run_told r f.0 before m.0 fair.0,
           ride_told d.rides m.1 fair.1 (λ v l y.
               let c : way.Comes (source_of p) j w t v = record { given = d.given; processor = q; runs = d.runs; told = d.told; leads = l } in
-              record { knows = all.comes t v c y; life = all.scopes t v c y }) begins,
+              record { knows = all.comes t v c y; life = all.lives t v c y }) begins,
         )
 
 pub law_calls_runs : LawCallsRuns

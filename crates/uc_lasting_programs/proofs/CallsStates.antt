@@ -22,7 +22,7 @@ use Rattle.uc_sound.specs.Tables.{table_of}
 use Rattle.uc_sound.proofs.SoundLemmas.{law_sound}
 use Rattle.uc_state_laws.specs.Counted.{params_at, params}
 use Rattle.uc_life_laws.specs.Things.{Few, Within, lies, inside, Base, Things, Stands, Held, LiesIn, Known}
-use Rattle.uc_life_laws.specs.LifeStates.{LifeState}
+use Rattle.uc_life_laws.specs.Lives.{LivesState}
 use Rattle.uc_life_laws.specs.Knowing as knowing
 use Rattle.uc_life_laws.specs.Knowing.{AtHand, InMaking, KnownAll, KnowsState, Finds, main_of}
 use Rattle.uc_life_laws.specs.KnownRuns.{Meets}
@@ -172,18 +172,20 @@ module _ (p : Program) (formed : IsFormed p) (accepted : breaks_of p ≡ []) (fe
             own_has (table_of p) few places s.env.exec (s.run ∷ s.callers) (top (drop x.params s.run.operands)) (called_own r todo x (is_special (special_of p r) refl w) f (ap params_at q))
 
     -- each step
-    on : (l : List Todo) → s.run.control ≡ l → (life : LifeState (table_of p) few s) → Meets (table_of p) few s → putting.Ok (setting_of p few) (here s) put.run.made put.run.marks l → Ok (table_of p) k.run.sig k.run.base k.run.scope l k.run.own → CallsAt (table_of p) few (source_of p) l s
+    on : (l : List Todo) → s.run.control ≡ l → (life : LivesState (table_of p) few s) → Meets (table_of p) few s → putting.Ok (setting_of p few) (here s) put.run.made put.run.marks l → Ok (table_of p) k.run.sig k.run.base k.run.scope l k.run.own → CallsAt (table_of p) few (source_of p) l s
     on (piece.CallOnNow r ∷ todo) e life m o h = λ x q. called true r todo x e q o.0 h.1 h.0 h.2.0
     on (piece.CallUnwrittenNow r ∷ todo) e life m o h = λ x q. called false r todo x e q o.0 h.1 h.0 h.2.0
     on (piece.SetUpNow r ∷ todo) e life m o h = λ n i.
-        let z = (m life k).1 in
-        let finds : Finds (table_of p) few z.0.sigs z.0.run.sig z.0.run.scope s (piece.SetUpNow r ∷ todo) z.0.run.own = subst (λ l. Finds (table_of p) few z.0.sigs z.0.run.sig z.0.run.scope s l z.0.run.own) e z.1 in
+        let y = m life in
+        let z = y.0 in
+        let finds : Finds (table_of p) few z.0.sigs z.0.run.sig z.0.run.scope s (piece.SetUpNow r ∷ todo) z.0.run.own = subst (λ l. Finds (table_of p) few z.0.sigs z.0.run.sig z.0.run.scope s l z.0.run.own) e y.1.0 in
         let ok : Ok (table_of p) z.0.run.sig z.0.run.base z.0.run.scope (piece.SetUpNow r ∷ todo) z.0.run.own = subst (λ l. Ok (table_of p) z.0.run.sig z.0.run.base z.0.run.scope l z.0.run.own) e z.0.run.ok in
         let at = ok.1 in
         based_value (table_of p) few places (new_exec (home_at s.run.this s.env) s.env) at.0 s.run.this ((finds n i).1 at.0 at.1)
     on (piece.SpawnNow r ∷ todo) e life m o h =
-        let z = (m life k).1 in
-        let finds : Finds (table_of p) few z.0.sigs z.0.run.sig z.0.run.scope s (piece.SpawnNow r ∷ todo) z.0.run.own = subst (λ l. Finds (table_of p) few z.0.sigs z.0.run.sig z.0.run.scope s l z.0.run.own) e z.1 in
+        let y = m life in
+        let z = y.0 in
+        let finds : Finds (table_of p) few z.0.sigs z.0.run.sig z.0.run.scope s (piece.SpawnNow r ∷ todo) z.0.run.own = subst (λ l. Finds (table_of p) few z.0.sigs z.0.run.sig z.0.run.scope s l z.0.run.own) e y.1.0 in
         let ok : Ok (table_of p) z.0.run.sig z.0.run.base z.0.run.scope (piece.SpawnNow r ∷ todo) z.0.run.own = subst (λ l. Ok (table_of p) z.0.run.sig z.0.run.base z.0.run.scope l z.0.run.own) e z.0.run.ok in
         let at = ok.1 in
         spawned at.0 (subst (λ i. knowing.HasObject (table_of p) few i (object_in s.run.this)) (ok.0.0 ∙ at.1) finds)
@@ -192,5 +194,5 @@ module _ (p : Program) (formed : IsFormed p) (accepted : breaks_of p ≡ []) (fe
         spawned c z = based_has (table_of p) few places (main_of (this_object s)) (this_object s) c z
     on l e life m o h = tt
 
-    pub calls : LifeState (table_of p) few s → Meets (table_of p) few s → Calls (table_of p) few (source_of p) s
+    pub calls : LivesState (table_of p) few s → Meets (table_of p) few s → Calls (table_of p) few (source_of p) s
     calls life m = on s.run.control refl life m put.run.ok k.run.ok

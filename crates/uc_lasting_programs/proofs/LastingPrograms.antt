@@ -30,7 +30,7 @@ use Rattle.uc_state_laws.specs.Endings.{RideHolds}
 use Rattle.uc_state_laws.specs.Opens.{RideMeets, RunMeets, LeadsMeet}
 use Rattle.uc_typing.specs.Typing.{Ty}
 use Rattle.uc_life_laws.specs.Things.{Few, Base}
-use Rattle.uc_life_laws.specs.LifeStates.{LifeState}
+use Rattle.uc_life_laws.specs.Lives.{LivesState}
 use Rattle.uc_life_laws.specs.Knowing.{KnowsState, main_of}
 use Rattle.uc_life_laws.specs.KnownAnswers.{MainPasses}
 use Rattle.uc_life_laws.specs.Marks.{Puts}
@@ -196,10 +196,10 @@ module _ (p : Program) (formed : IsFormed p) (ok : breaks_of p ≡ []) (within :
   raws_last i = λ c o h. tells.raws c o (passes (table_of p) few.numbers few.home few.base i c o h)
 
   met_so_far : RunHoldsAt (λ i. MeetsOutside (table_of p) (lasting few i)) source input opts j w r
-  met_so_far = run_remains (table_of p) (λ i. lasting few i) raws_last source input opts r x.met
+  met_so_far = run_remains p formed ok within input opts range few raws_last r f tells.below x.met
 
   met_next : RideHolds (MeetsOutside (table_of p) (lasting few j)) source 0 start (left opts j t) s n asked d.rides
-  met_next = ride_remains (table_of p) (lasting few j) (raws_last j) source 0 d.rides x.met_now
+  met_next = ride_remains p formed ok within input opts range (lasting few j) (raws_last j) j w r f on tells.below.clusters q t n s asked d x.met_now
 
   so : HasMet p formed ok few.numbers few.home few.base input opts j w r
   so =
@@ -244,7 +244,7 @@ module _ (p : Program) (formed : IsFormed p) (ok : breaks_of p ≡ []) (within :
   -- objects are at home where they are bound and loaded, what is loaded elsewhere is not gone, what is in scope holds what is not, and what
   -- executions have of others stands upwards where an event is raised
   abbrev Ends : State → Type 0
-  Ends v = Fair (setting_of p few) v × (Loads j v × (LifeState (table_of p) (lasting few j) v × Upwards v))
+  Ends v = Fair (setting_of p few) v × (Loads j v × (LivesState (table_of p) (lasting few j) v × Upwards v))
 
   -- the objects of calls are had
   abbrev Calls : State → Type 0
@@ -255,7 +255,7 @@ module _ (p : Program) (formed : IsFormed p) (ok : breaks_of p ≡ []) (within :
 
   ends_now : RideMeets Ends source start (left opts j t) s n asked d.rides
   ends_now =
-      ride_both (Fair (setting_of p few)) (λ v. Loads j v × (LifeState (table_of p) (lasting few j) v × Upwards v)) source d.rides fair_now (ride_both (Loads j) (λ v. LifeState (table_of p) (lasting few j) v × Upwards v) source d.rides x.loads_now (ride_both (LifeState (table_of p) (lasting few j)) Upwards source d.rides (ride_lives p formed ok few.numbers few.home few.base tells.raws tells.main input opts range j w r f on tells.below forgets so q t n s asked d met_next) on_way.1))
+      ride_both (Fair (setting_of p few)) (λ v. Loads j v × (LivesState (table_of p) (lasting few j) v × Upwards v)) source d.rides fair_now (ride_both (Loads j) (λ v. LivesState (table_of p) (lasting few j) v × Upwards v) source d.rides x.loads_now (ride_both (LivesState (table_of p) (lasting few j)) Upwards source d.rides (ride_lives p formed ok few.numbers few.home few.base tells.raws tells.main input opts range j w r f on tells.below forgets so q t n s asked d met_next) on_way.1))
 
   calls_now : RideMeets Calls source start (left opts j t) s n asked d.rides
   calls_now =
@@ -291,8 +291,8 @@ module _ (p : Program) (formed : IsFormed p) (ok : breaks_of p ≡ []) (within :
     loads_there : LeadsMeet (Loads j) source start a.state a.leads
     loads_there = leads_map All (Loads j) source (λ v h. h.1.1.1.1.0) a.leads a.meets
 
-    lives_there : LeadsMeet (LifeState (table_of p) (lasting few j)) source start a.state a.leads
-    lives_there = leads_map All (LifeState (table_of p) (lasting few j)) source (λ v h. h.1.1.1.1.1.0) a.leads a.meets
+    lives_there : LeadsMeet (LivesState (table_of p) (lasting few j)) source start a.state a.leads
+    lives_there = leads_map All (LivesState (table_of p) (lasting few j)) source (λ v h. h.1.1.1.1.1.0) a.leads a.meets
 
     puts_there : LeadsMeet (Puts (table_of p) few) source start a.state a.leads
     puts_there = law_puts.leads p formed ok few input opts range j w r f left_of.fair on t a.state comes fair_there

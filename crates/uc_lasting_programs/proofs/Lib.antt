@@ -12,6 +12,7 @@ pub mod Ways
 pub mod Telling
 pub mod Numbers
 pub mod Meeting
+pub mod Clusters
 pub mod Remaining
 pub mod Owning
 pub mod LastingPrograms

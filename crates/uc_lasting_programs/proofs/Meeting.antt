@@ -29,11 +29,12 @@ use Rattle.uc_state_laws.specs.Endings.{still_reading, RideHolds, RunHolds}
 use Rattle.uc_state_laws.specs.Opens.{RideMeets, RunMeets, LeadsMeet}
 use Rattle.uc_typing.specs.Typing.{Ty, Table}
 use Rattle.uc_life_laws.specs.Things.{Few}
-use Rattle.uc_life_laws.specs.LifeStates.{LifeState}
+use Rattle.uc_life_laws.specs.Lives.{Lives, LivesState}
 use Rattle.uc_life_laws.specs.KnownAnswers.{MainPasses}
 use Rattle.uc_life_laws.specs.KnownRuns.{PassesBelow, Meets, AllIsKnown}
 use Rattle.uc_life_laws.specs.Endings.{RawsPass, MeetsOutside}
 use Rattle.uc_life_laws.specs.Lasting.{lasting, RunForgets, RunMeetsAt}
+use Rattle.uc_life_laws.proofs.KindsLemmas.{plain}
 use Rattle.uc_life_laws.proofs.KnownWorlds.{earlier, law_known_runs}
 use Rattle.uc_life_laws.proofs.Endings as endings
 use Rattle.uc_life_laws.proofs.Endings.{goes_on, ticks_on, goes_met, ticks_met}
@@ -96,7 +97,7 @@ module _ (p : Program) (formed : IsFormed p) (ok : breaks_of p ≡ []) (numbers 
     pub all : RunMeets (Meets t few) source input opts j w r
     pub lasts : RunMeetsAt (λ i s. Meets t (lasting few i) s) source input opts j w r
     -- and what is in scope holds what is not gone
-    pub lives : RunMeetsAt (λ i s. LifeState t (lasting few i) s) source input opts j w r
+    pub lives : RunMeetsAt (λ i s. LivesState t (lasting few i) s) source input opts j w r
 
   module _ (raws : RawsPass few) (main : MainPasses t few (t.routine source.main).this 0) (input : List ℕ) (opts : Options) (range : InRange opts) where
     -- of a run in which nobody has at hand what has gone
@@ -110,15 +111,15 @@ module _ (p : Program) (formed : IsFormed p) (ok : breaks_of p ≡ []) (numbers 
 
         pub ride_lasts : RideMeets (Meets t (lasting few j)) source start (left opts j n) s k asked d.rides
         ride_lasts =
-            endings.ride_met t (lasting few j) source (λ c o h. raws c o (passes t numbers home base j c o h)) (Meets t (lasting few j)) (MeetsOutside t (lasting few j)) (endings.met t (lasting few j)) start (λ v l. known.scopes n v (record { given = d.given; processor = q; runs = d.runs; told = d.told; leads = l })) (λ v l. known.comes n v (record { given = d.given; processor = q; runs = d.runs; told = d.told; leads = l })) rooms.stays tt 0 d.rides h tt
+            endings.ride_met t (lasting few j) source (λ c o h. raws c o (passes t numbers home base j c o h)) (Meets t (lasting few j)) (MeetsOutside t (lasting few j)) (endings.met t (lasting few j)) start (λ v l. known.lives n v (record { given = d.given; processor = q; runs = d.runs; told = d.told; leads = l })) rooms.stays tt 0 d.rides h tt
 
-        pub ride_lives : RideMeets (LifeState t (lasting few j)) source start (left opts j n) s k asked d.rides
+        pub ride_lives : RideMeets (LivesState t (lasting few j)) source start (left opts j n) s k asked d.rides
         ride_lives =
-            ride_turned (Meets t (lasting few j)) (LifeState t (lasting few j)) source start (λ v l m h. known.scopes n v (record { given = d.given; processor = q; runs = d.runs; told = d.told; leads = l }) m) rooms.stays tt d.rides ride_lasts
+            ride_turned (Meets t (lasting few j)) (LivesState t (lasting few j)) source start (λ v l m h. known.lives n v (record { given = d.given; processor = q; runs = d.runs; told = d.told; leads = l }) m) rooms.stays tt d.rides ride_lasts
 
         pub ride_all : RideMeets (Meets t few) source start (left opts j n) s k asked d.rides
         ride_all =
-            ride_turned (Meets t (lasting few j)) (Meets t few) source start (λ v l m h. meets t numbers home base j raws v (known.scopes n v (record { given = d.given; processor = q; runs = d.runs; told = d.told; leads = l }) m) (known.comes n v (record { given = d.given; processor = q; runs = d.runs; told = d.told; leads = l }) m) h) rooms.stays tt d.rides ride_lasts
+            ride_turned (Meets t (lasting few j)) (Meets t few) source start (λ v l m h. meets t numbers home base j raws v (known.lives n v (record { given = d.given; processor = q; runs = d.runs; told = d.told; leads = l }) m) h) rooms.stays tt d.rides ride_lasts
 
     -- act by act, where what is left of runs shows of each that nobody has at hand what has gone
     module _ (Left : (j : Journal) (w : World) → Runs source input opts j w → Type 0) (shorter : (j : Journal) (w : World) (a : List Entry) (v : World) (r : Runs source input opts j w) (on : is_over j ≡ false) (m : May source opts input j w a v) → Left (j ++ a) v (more r on m) → Left j w r) (forgets : (j : Journal) (w : World) (r : Runs source input opts j w) → RunFits source input opts j w r → is_over j ≡ false → PassesBelow few opts j → HasMet input opts j w r → Left j w r → RunForgets t few source input opts j w r) where
@@ -149,7 +150,7 @@ module _ (p : Program) (formed : IsFormed p) (ok : breaks_of p ≡ []) (numbers 
 
       pub ride_reads : (q n k : ℕ) (s : State) (asked : Asked) (d : AsksIn source opts j w q n k s asked) → RideMeets (Meets t few) source (answered source d.given (drawn j w n)) (left opts j n) s k asked d.rides → RideMeets (KnowsReads t few) source (answered source d.given (drawn j w n)) (left opts j n) s k asked d.rides
       ride_reads q n k s asked d h =
-          ride_turned (Meets t few) (KnowsReads t few) source (answered source d.given (drawn j w n)) (λ v l m h. (h (all_known.scopes n v (record { given = d.given; processor = q; runs = d.runs; told = d.told; leads = l }) m) (all_known.comes n v (record { given = d.given; processor = q; runs = d.runs; told = d.told; leads = l }) m)).1) rooms.stays tt d.rides h
+          ride_turned (Meets t few) (KnowsReads t few) source (answered source d.given (drawn j w n)) (λ v l m h. let x = h (all_known.lives n v (record { given = d.given; processor = q; runs = d.runs; told = d.told; leads = l }) m) in (plain t few (Lives t few) [] v x.0.0, x.1.0)) rooms.stays tt d.rides h
 
     pub run_reads : {j : Journal} {w : World} (r : Runs source input opts j w) → RunFits source input opts j w r → PassesBelow few opts j → RunMeets (Meets t few) source input opts j w r → RunMeets (KnowsReads t few) source input opts j w r
     run_reads begun f below h = tt

@@ -1,5 +1,5 @@
 -- What a step finds where what is gone has no number any more, it finds where that has its number still.
-use Rattle.std.proofs.Common.{◌≡◌, ℕ, inr, Bool, true, false, List, [], ◌∷◌, Option, Some, None}
+use Rattle.std.proofs.Common.{◌≡◌, ℕ, inl, inr, Bool, true, false, List, [], ◌∷◌, Option, Some, None}
 use Rattle.std.specs.Prelude.{if◌then◌else◌}
 use Rattle.uc_tree.specs.Source as src
 use Rattle.uc_tree.specs.Source.{Expr, ObjectExpr}
@@ -10,18 +10,20 @@ use Rattle.uc_machine.specs.declared.exec.Stage.{Stage}
 use Rattle.uc_machine.specs.declared.exec.Stage.TheVariants.{Fresh, Started, Ended}
 use Rattle.uc_machine.specs.Executions.{Execution, others}
 use Rattle.uc_machine.specs.Quiet.{home_at}
-use Rattle.uc_machine.specs.Switches.{new_exec}
+use Rattle.uc_machine.specs.Switches.{new_exec, stopped}
 use Rattle.uc_machine.specs.Pieces as piece
 use Rattle.uc_machine.specs.Pieces.{Value, Number, Place, Running, Object, Nothing, Todo, Active, State, loaded, top, object_in}
 use Rattle.uc_typing.specs.Typing.{Ty, Num, Cell, Obj, Raw, Name, Sig, Table, object_ty}
 use Rattle.uc_life_laws.specs.Things.{Few, IsFew, Base, Known}
-use Rattle.uc_life_laws.specs.LifeStates.{LifeState, OpensAt, Outwards}
-use Rattle.uc_life_laws.specs.Knowing.{AtHand, KnownAll, KnownParams, KnownFrames, KnownThis, Knows, KnowsWaits, KnowsState, HasObject, Here, ReadsKnown, IsStill, FindsObject, FindsExpr, Finds}
+use Rattle.uc_life_laws.specs.LifeStates.{BehindMark, OpensAtBy, Outwards}
+use Rattle.uc_life_laws.specs.Lives.{OutwardsOrMade, LivesState, FindsLiving}
+use Rattle.uc_life_laws.specs.Knowing.{AtHand, KnownAll, KnownParams, KnownFrames, KnownThis, Knows, KnowsWaits, HasObject, Here, ReadsKnown, IsStill, FindsObject, FindsExpr, Finds}
 use Rattle.uc_life_laws.specs.KnownRuns.{Meets}
 use Rattle.uc_life_laws.specs.Endings.{RawsPass}
 use Rattle.uc_life_laws.specs.Fewer.{KeepsOthers, Lasts, HandLasts, ExLasts}
 use Rattle.uc_life_laws.specs.Lasting.{lasting, lasting_numbers}
-use Rattle.uc_life_laws.proofs.Fewer.{held_same, lies_same, known_fewer, env_fewer}
+use Rattle.uc_life_laws.proofs.Fewer.{held_same, lies_same, known_fewer, lives_fewer, env_lives}
+use Rattle.uc_life_laws.proofs.Knowns.{frames_length}
 use Rattle.uc_life_laws.proofs.Lasting.{each_env}
 
 few_by : (t : Table) (x y : Few) (n : Exec) (a b : Ty) (v : Value) → ((o : ℕ) → x.numbers a o ≡ true → y.numbers b o ≡ true) → IsFew t x n a v → IsFew t y n b v
@@ -57,16 +59,16 @@ module _ (t : Table) (numbers : Ty → ℕ → Bool) (home : ℕ → Value) (bas
   hand_lasts Ended n x = tt
 
   ex_lasts : (n : Exec) (x : Execution (List Todo) Value) → ExLasts t less numbers n x
-  ex_lasts n x = record { scopes = λ w a v. lasts _; hand = hand_lasts x.links.stage n x }
+  ex_lasts n x = hand_lasts x.links.stage n x
 
   known : (n : Exec) (K : Value → Ty → Type 0) (a : Ty) (v : Value) → Known t less n K a v → Known t few n K a v
   known n K a v h = known_fewer t less numbers keeps n K (lasts K) a v h
 
   -- where a scope opens
 
-  opens : (s : State) (l : List Todo) → OpensAt t less l s → OpensAt t few l s
-  opens s (piece.Rest (src.Scoped c rest) ∷ todo) h = λ k a x p b w bind. known s.env.exec (Outwards t few s.env.exec s.run.frame s.run.this s.callers c todo) b _ (h k a x p b w bind)
-  opens s l h = tt
+  opens : (K : BehindMark) (s : State) (l : List Todo) → OpensAtBy t less K l s → OpensAtBy t few K l s
+  opens K s (piece.Rest (src.Scoped c rest) ∷ todo) h = λ k a x p b w bind. known s.env.exec (K (Outwards t few s.env.exec s.run.frame s.run.this s.callers c todo) s.env.exec s.run.frame s.run.this s.callers) b _ (h k a x p b w bind)
+  opens K s l h = tt
 
   -- what is read, and what is at hand
 
@@ -149,20 +151,24 @@ module _ (t : Table) (numbers : Ty → ℕ → Bool) (home : ℕ → Value) (bas
   waits n gs [] h = tt
   waits n gs (c ∷ cs) h = (knows n gs (Num ∷ []) cs c h.0, waits n (others gs) cs h.1)
 
-  same : (raws : RawsPass few) (s : State) (x : KnowsState t less [] s) → Finds t less x.sigs x.run.sig x.run.scope s s.run.control x.run.own → (y : KnowsState t few [] s) × Finds t few y.sigs y.run.sig y.run.scope s s.run.control y.run.own
+  -- so does what variables in scope hold, by the same kinds
+  same : (raws : RawsPass few) (s : State) (x : LivesState t less s) → FindsLiving t less s x → (y : LivesState t few s) × FindsLiving t few s y
   unfolding knows
   same raws s x h = (
-    record {
-      sigs = x.sigs;
-      frames = frames s.env.exec x.sigs s.env.frames (s.run ∷ s.callers) x.frames;
-      run = knows s.env.exec x.sigs [] s.callers s.run x.run;
-      callers = waits s.env.exec (others x.sigs) s.callers x.callers;
-      env = env_fewer t less numbers keeps s.env x.env (each_env (ExLasts t less numbers) (λ n y. ex_lasts n y) s.env);
-    },
-    finds raws x.sigs x.run.sig x.run.scope s s.run.control x.run.own h,
+    (
+      record {
+        sigs = x.0.sigs;
+        frames = frames s.env.exec x.0.sigs s.env.frames (s.run ∷ s.callers) x.0.frames;
+        run = knows s.env.exec x.0.sigs [] s.callers s.run x.0.run;
+        callers = waits s.env.exec (others x.0.sigs) s.callers x.0.callers;
+        env = env_lives t less numbers keeps s.env x.0.env (each_env (ExLasts t less numbers) (λ n y. ex_lasts n y) s.env);
+      },
+      lives_fewer t less numbers keeps s.env.exec x.0.sigs (stopped s) (frames_length t less s.env.exec x.0.sigs s.env.frames (s.run ∷ s.callers) x.0.frames) x.1 (inl (lasts _)),
+    ),
+    (finds raws x.0.sigs x.0.run.sig x.0.run.scope s s.run.control x.0.run.own h.0, opens (OutwardsOrMade x.0.sigs) s s.run.control h.1),
   )
 
-  pub meets : RawsPass few → (s : State) → LifeState t less s → KnowsState t less [] s → Meets t less s → Meets t few s
-  meets raws s life x m = λ st y.
-      let z = m life x in
-      (opens s s.run.control z.0, same raws s z.1.0 z.1.1)
+  pub meets : RawsPass few → (s : State) → LivesState t less s → Meets t less s → Meets t few s
+  meets raws s x m = λ y.
+      let z = m x in
+      same raws s z.0 z.1

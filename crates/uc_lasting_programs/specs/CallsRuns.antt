@@ -19,7 +19,7 @@ use Rattle.uc_typing.specs.Typing.{Ty}
 use Rattle.uc_sound.specs.SoundFormed.{IsFormed}
 use Rattle.uc_sound.specs.Tables.{table_of}
 use Rattle.uc_life_laws.specs.Things.{Few, Base}
-use Rattle.uc_life_laws.specs.LifeStates.{LifeState}
+use Rattle.uc_life_laws.specs.Lives.{LivesState}
 use Rattle.uc_life_laws.specs.Knowing.{KnowsState}
 use Rattle.uc_life_laws.specs.KnownAnswers.{MainPasses}
 use Rattle.uc_life_laws.specs.KnownRuns.{PassesBelow, Meets}
@@ -38,7 +38,7 @@ pub record LawCallsRuns : Type 0 where
   pub special : (p : Program) (r : ℕ) → special_of p r ≡ false → ((table_of p).routine r).whole ≡ false
   pub state : (p : Program) → IsFormed p → breaks_of p ≡ [] → (few : Few) →
       ((n : Exec) (w : Value) (b : Ty) → Base few n w b → IsPlace w) →
-      (s : State) → PutState (setting_of p few) s → LifeState (table_of p) few s → KnowsState (table_of p) few [] s →
+      (s : State) → PutState (setting_of p few) s → LivesState (table_of p) few s → KnowsState (table_of p) few [] s →
       Meets (table_of p) few s → FindsThis (table_of p) few (source_of p) s
   pub runs : (p : Program) → IsFormed p → breaks_of p ≡ [] → (few : Few) →
       ((n : Exec) (w : Value) (b : Ty) → Base few n w b → IsPlace w) →

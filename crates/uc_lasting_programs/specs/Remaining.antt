@@ -1,15 +1,17 @@
 -- What a step is still to find where all is known, but what a state in order tells: of the object at hand it is asked alone that it is not gone while
 -- it is being built or destroyed.
 use Rattle.std.specs.Prelude.{◌≡◌, ℕ, zero, suc, true, List, [], ◌∷◌, Some}
-use Rattle.uc_tree.specs.Source.{Expr, ObjectExpr, OfObject, GetOwn, This}
+use Rattle.uc_tree.specs.Source.{Expr, ObjectExpr, Variable, OfObject, GetOwn, This, Scoped}
+use Rattle.uc_machine.specs.declared.exec.Owner.TheVariants.{Frame}
 use Rattle.uc_machine.specs.Executions.{members_at}
 use Rattle.uc_machine.specs.Quiet.{home_at}
 use Rattle.uc_machine.specs.Switches.{new_exec}
-use Rattle.uc_machine.specs.Pieces.{FieldAt, Todo, Eval, LoadNow, SetUpNow, SpawnNow, State, Members, further, top, object_in}
-use Rattle.uc_typing.specs.Typing.{Ty, Cell, Obj, Raw, Name, Sig, Table, Yields}
-use Rattle.uc_life_laws.specs.Things.{Few, Base, IsFew, LiesIn}
-use Rattle.uc_life_laws.specs.LifeStates.{LifeState, Opens}
-use Rattle.uc_life_laws.specs.Knowing.{KnowsState, HasObject, ReadsKnown}
+use Rattle.uc_machine.specs.Pieces.{Slot, FieldAt, Place, Rest, Todo, Eval, LoadNow, SetUpNow, SpawnNow, State, Members, further, top, object_in}
+use Rattle.uc_typing.specs.Typing.{Ty, Cell, Obj, Raw, Clu, Name, Sig, Table, CleansAt, Yields}
+use Rattle.uc_life_laws.specs.Things.{Few, Base, Holds, IsFew, LiesIn}
+use Rattle.uc_life_laws.specs.LifeStates.{BehindMark, Outwards, frame_at}
+use Rattle.uc_life_laws.specs.Lives.{OutwardsOrMade, LivesState}
+use Rattle.uc_life_laws.specs.Knowing.{HasObject, ReadsKnown}
 
 module _ (t : Table) (few : Few) (gs : List Sig) (g : Sig) (sc : List Name) (s : State) where
   -- the object at hand has the number of one that is whole, where it is being built or destroyed
@@ -35,11 +37,17 @@ module _ (t : Table) (few : Few) (gs : List Sig) (g : Sig) (sc : List Name) (s :
   FindsLeft (SpawnNow r ∷ todo) own = HasObject t few (t.routine r).this (object_in s.run.this)
   FindsLeft todo own = Unit {0}
 
--- a step finds what it is to find: where a scope opens, what that is of holds what is known; and by some typing what is left
+-- where a scope opens, but that of a cluster that is a variable, what it is of holds what is known
+abbrev pub OpensLeftAt : Table → Few → BehindMark → List Todo → State → Type 0
+OpensLeftAt t few K (Rest (Scoped c rest) ∷ todo) s = (k : ℕ) (a : Ty) → CleansAt t a (Variable k) c → (a ≡ Cell Clu → ⊥) →
+    Holds t few s.env.exec (K (Outwards t few s.env.exec s.run.frame s.run.this s.callers c todo) s.env.exec s.run.frame s.run.this s.callers) (Frame s.env.exec s.run.frame) (frame_at s.run.frame s.env.frames) (Place (Frame s.env.exec s.run.frame) (Slot k ∷ [])) a
+OpensLeftAt t few K todo s = Unit {0}
+
+-- a step finds what it is to find, in a state in which all is known by kinds by which variables in scope hold what is known: by some such kinds what is left,
+-- and where a scope opens, what that is of holds what is known
 abbrev pub MeetsLeft : Table → Few → State → Type 0
-MeetsLeft t few s = LifeState t few s → KnowsState t few [] s →
-    Opens t few s ×
-    ((x : KnowsState t few [] s) × FindsLeft t few x.sigs x.run.sig x.run.scope s s.run.control x.run.own)
+MeetsLeft t few s = LivesState t few s → (x : LivesState t few s) ×
+    (FindsLeft t few x.0.sigs x.0.run.sig x.0.run.scope s s.run.control x.0.run.own × OpensLeftAt t few (OutwardsOrMade x.0.sigs) s.run.control s)
 
 -- but in the states in which a clean-up finds and reads the variable that it ends
 abbrev pub LeftOutside : Table → Few → ℕ → State → Type 0

@@ -30,20 +30,20 @@ use Rattle.uc_running_laws.specs.OtherNames.{ReadsOthers}
 use Rattle.uc_putting_laws.specs.PuttingLaws.{setting_of, Fair}
 use Rattle.uc_request_laws.specs.ApartRuns.{StepApart}
 use Rattle.uc_rooted_runs.specs.OutlastRuns.{with_homes, run_made}
-use Rattle.uc_parts_laws.specs.PartsRuns.{RideKeepsBeside, RunKeepsBeside}
+use Rattle.uc_rooted_runs.specs.Still.{way_still}
+use Rattle.uc_parts_laws.specs.Naming.{RideNamesOwn, RunNamesOwn}
 use Rattle.uc_making_laws.specs.Upheld.{way_makers}
 use Rattle.uc_making_laws.specs.BeforeRides.{RootedOnWay, RaisesUpwards}
 use Rattle.uc_making_laws.specs.ForgetsThis.{RunGoes, IsLeftNowhere}
 
 module _ (t : Table) (few : Few) (own : Exec → Value → Ty → Bool) (yet : Exec → List Active → Value → Ty → Bool) (source : Source) (input : List ℕ) (opts : Options) where
   -- what no law gives of the way to what task u asks next, behind a run, by those whom both tell to have made others, and the homes of mutex objects that
-  -- the run tells: of some executions what was to be cleaned up as they were made stays, as far as no law gives it, and what those that live have of
-  -- others was among it, where an object goes or is given up, or an event is raised at one
+  -- the run tells: of the executions that are still there at the end of that way what was to be cleaned up as they were made stays, as far as no law gives
+  -- it, where coroutines that are forgotten name their executions, and what those that live have of others was among it, where an object goes or is given up, or an event is raised at one
   pub record IsKeptTo (j : Journal) (w : World) (r : Runs source input opts j w) (p u n : ℕ) (s : State) (q : Asked) (d : AsksIn source opts j w p u n s q) : Type 0 where
-    pub asked : Exec → Bool
-    pub kept : RunKeepsBeside (with_homes (home_of source input opts j w r) (way_makers source input opts r d)) asked source input opts r
-    pub keeps : RideKeepsBeside (with_homes (home_of source input opts j w r) (way_makers source input opts r d)) asked source (run_made source input opts r) d.rides
-    pub rooted : RideMeets (λ v. RootedOnWay t few own yet (with_homes (home_of source input opts j w r) (way_makers source input opts r d)) asked j w u v source) source (answered source d.given (drawn j w u)) (left opts j u) s n q d.rides
+    pub kept : RunNamesOwn (with_homes (home_of source input opts j w r) (way_makers source input opts r d)) (way_still source input opts r d) source input opts r
+    pub keeps : RideNamesOwn (with_homes (home_of source input opts j w r) (way_makers source input opts r d)) (way_still source input opts r d) source (run_made source input opts r) d.rides
+    pub rooted : RideMeets (λ v. RootedOnWay t few own yet (with_homes (home_of source input opts j w r) (way_makers source input opts r d)) j w u v source) source (answered source d.given (drawn j w u)) (left opts j u) s n q d.rides
 
   abbrev pub MayKeepTo : {j : Journal} {w : World} {a : List Entry} {x : World} → Runs source input opts j w → May source opts input j w a x → Type 0
   MayKeepTo r (gives p u s h) = Unit {0}

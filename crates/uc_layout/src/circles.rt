@@ -193,8 +193,7 @@ fn circle_of(
     if flag_at(&settled.flags, class) {
         return Ok(false);
     }
-    let found = has_itself(alloc, rows, holders, class)?;
-    Ok(found)
+    has_itself(alloc, rows, holders, class)
 }
 
 /// For each class whether it has itself in its fields, directly or through others.

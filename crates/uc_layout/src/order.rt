@@ -26,8 +26,7 @@ fn push_uses(uses: &mut Vec<usize>, constants: &Constants, e: &Expr) -> Result<(
         }
         ExprForm::Chain { first, rest } => {
             push_uses(uses, constants, first)?;
-            push_link_uses(uses, constants, rest)?;
-            Ok(())
+            push_link_uses(uses, constants, rest)
         }
         ExprForm::Assign { .. } => Ok(()),
     }

@@ -1,11 +1,12 @@
 // The cells of a program's classes and routines.
 
-ghost use Rattle.std.specs.Prelude.{◌≡◌, ℕ, IfOk, false, map, option_map, slice_get};
+ghost use Rattle.std.specs.Prelude.{◌≡◌, ℕ, IfOk, false, length, map, option_map, slice_get};
 ghost use Rattle.uc_tree.specs.Capped.{capped};
 ghost use Rattle.uc_tree.specs.Cells.{class_cells, classes_of, declared_cells, held_by, object_of, param_cells, rows_of, seen_in};
 ghost use Rattle.uc_tree.specs.Objects.{class_at, plain_class, plain_in, making, making_by, class_made, is_numbered, event_from, event_place};
 ghost use Rattle.uc_tree.specs.Rows.{element_cells, has_itself, held_cells, reaches, row_at};
-ghost use Rattle.uc_layout.specs.ContainmentProgress.{IsCircle, Reaching};
+ghost use Rattle.uc_layout.specs.CellTables.{Counted};
+ghost use Rattle.uc_layout.specs.ContainmentProgress.{AreCircles, IsCircle, Reaching};
 ghost use Rattle.uc_layout.specs.Known.{known_by};
 ghost use Rattle.uc_layout.specs.Places.{IsPlaces};
 ghost use Rattle.uc_layout.specs.FieldContents.{rows_by};
@@ -84,8 +85,23 @@ fn rows_in<'x, 'y>(
         places: constant_places,
         values,
     };
-    let rows = rows_of(alloc, &classes, &known)?;
-    Ok(rows)
+    rows_of(alloc, &classes, &known)
+}
+
+// Which of these classes have themselves in their fields, and the cells of each.
+fn circles_and_cells(
+    alloc: Global,
+    rows: &[ClassLayout],
+) -> Result<(Vec<bool>, Vec<u64>), AllocError>
+    ensures full { IfOk result (λ r. length r.0.items ≡ length rows.now) }
+    ensures flags { IfOk result (λ r. AreCircles rows.now r.0.items (length rows.now)) }
+    ensures counted { IfOk result (λ r. Counted (length rows.now) rows.now r.1.items) }
+{
+    let holders = holders_of(alloc, rows)?;
+    let settled = settle_classes(alloc, rows, &holders)?;
+    let circles = circles_of(alloc, rows, &holders, &settled)?;
+    let cells = cells_of(alloc, rows, &circles, settled)?;
+    Ok((circles, cells))
 }
 
 fn class_at<'a>(classes: &[&'a Class], place: usize) -> Option<&'a Class>
@@ -140,11 +156,11 @@ impl<'a> Sizes<'a> {
     pub fn new(alloc: Global, program: &'a Program) -> Result<Sizes<'a>, AllocError>
         ensures { IfOk result (λ s. s ≡ program.now) }
     {
-        let classes = classes_in(alloc, &program.items)?;
         let constants = constants_in(alloc, &program.items)?;
-        let class_places = places_of_classes(alloc, &classes)?;
         let constant_places = places_of_constants(alloc, &constants)?;
         let values = values_of(alloc, &constants, &constant_places)?;
+        let classes = classes_in(alloc, &program.items)?;
+        let class_places = places_of_classes(alloc, &classes)?;
         let rows = rows_in(
             alloc,
             &classes,
@@ -153,10 +169,7 @@ impl<'a> Sizes<'a> {
             &constant_places,
             &values,
         )?;
-        let holders = holders_of(alloc, &rows)?;
-        let settled = settle_classes(alloc, &rows, &holders)?;
-        let circles = circles_of(alloc, &rows, &holders, &settled)?;
-        let cells = cells_of(alloc, &rows, &circles, settled)?;
+        let counted = circles_and_cells(alloc, &rows)?;
         Ok(Sizes {
             program,
             classes,
@@ -165,8 +178,8 @@ impl<'a> Sizes<'a> {
             constant_places,
             values,
             rows,
-            circles,
-            cells,
+            circles: counted.0,
+            cells: counted.1,
         })
     }
 
@@ -218,8 +231,7 @@ impl<'a> Sizes<'a> {
     pub fn holders(&self, alloc: Global, place: usize) -> Result<Vec<bool>, AllocError>
         ensures { IfOk result (λ v. Reaching (rows_of self.now) place v.items) }
     {
-        let flags = reaching(alloc, &self.rows, place)?;
-        Ok(flags)
+        reaching(alloc, &self.rows, place)
     }
 
     /// The value of a constant, none where no constant of the name has one.

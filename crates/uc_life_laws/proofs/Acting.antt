@@ -21,8 +21,7 @@ use Rattle.uc_typing.specs.States.{IsNumbered, IsObjectBy, IsBase, IsOfTask, Sou
 use Rattle.uc_typing.proofs.Frames.{replaced_onto}
 use Rattle.uc_typing.proofs.Control.{left, turn_ok, clean_ok, fill_ok}
 use Rattle.uc_life_laws.specs.Things.{Few, IsFew, Known, LiesIn, Base}
-use Rattle.uc_life_laws.specs.LifeStates.{LifeState}
-use Rattle.uc_life_laws.specs.Knowing.{AtHand, KnownAll, KnownFrames, KnownThis, KnowsWaits, ClaimsEx, ClaimsEnv, StepBy, Finds, IsStill}
+use Rattle.uc_life_laws.specs.Knowing.{AtHand, KnownAll, KnownFrames, KnownThis, KnowsWaits, ClaimsEx, ClaimsEnv, StepBy, VariablesKnown, Finds, IsStill}
 use Rattle.uc_life_laws.specs.Kinds.{IsKept, BeginsAt, Turned, stays, begins, goes_back, no_sig, Parks, GoesOn, FollowsOn, Claimed, KeepsClaims, IsTold, LawKinds}
 use Rattle.uc_life_laws.proofs.Parked.{Ex}
 use Rattle.uc_life_laws.proofs.Cells.{either}
@@ -118,7 +117,7 @@ module _ (t : Table) (g : Sig) (base sc : List Name) where
   turned [] todo n o = o
   turned (a ∷ own) todo n o = absurd n
 
-module _ (t : Table) (few : Few) (Q : Exec → List Sig → Ex → Type 0) (kept : IsKept Q) (source : Source) (sound : Sound t source) (s : State) (st : LifeState t few s) (sigs : List Sig) (g : Sig) (base sc : List Name) (frames : KnownFrames t few s.env.exec sigs s.env.frames (s.run ∷ s.callers)) (frame : at_depth sigs s.run.frame ≡ Some g) (this : KnownThis t few s.env.exec (AtHand t few s.env.exec (others sigs) s.callers) g g.this s.run.this) (callers : KnowsWaits t few s.env.exec (others sigs) s.callers) (env : ClaimsEnv t few Q s.env) (ends : IsBase t g s.run.handles base s.run.frame s.callers) where
+module _ (t : Table) (few : Few) (Q : Exec → List Sig → Ex → Type 0) (kept : IsKept Q) (source : Source) (sound : Sound t source) (s : State) (sigs : List Sig) (st : VariablesKnown t few sigs s) (g : Sig) (base sc : List Name) (frames : KnownFrames t few s.env.exec sigs s.env.frames (s.run ∷ s.callers)) (frame : at_depth sigs s.run.frame ≡ Some g) (this : KnownThis t few s.env.exec (AtHand t few s.env.exec (others sigs) s.callers) g g.this s.run.this) (callers : KnowsWaits t few s.env.exec (others sigs) s.callers) (env : ClaimsEnv t few Q s.env) (ends : IsBase t g s.run.handles base s.run.frame s.callers) where
   abbrev After : Step → Type 0
   After x = StepBy t few (FollowsOn Q t few source s sigs) (ClaimsEnv t few Q) source x
 
@@ -316,9 +315,9 @@ module _ (t : Table) (few : Few) (Q : Exec → List Sig → Ex → Type 0) (kept
   delivers (Object i) todo own o r h = run sc (Num ∷ (Num ∷ (Num ∷ own))) _ _ o h
 
   acts : (p : Todo) (todo : List Todo) (own : List Ty) → s.run.control ≡ p ∷ todo → Finds t few sigs g sc s (p ∷ todo) own → Ok t g base sc (p ∷ todo) own → All (p ∷ todo) own s.run.operands → Parks Q t source sigs s (p ∷ todo) → GoesOn (p ∷ todo) s.run.raised → After (q.act source p todo s)
-  acts (pc.Eval x) todo own e l o h parks calm = evaluating.eval t few Q kept source sound s st sigs g base sc frames frame this callers env ends x o.0 todo own e (l o.0 o.1) o.1 o.2 h
+  acts (pc.Eval x) todo own e l o h parks calm = evaluating.eval t few Q kept source sound s sigs st g base sc frames frame this callers env ends x o.0 todo own e (l o.0 o.1) o.1 o.2 h
   acts pc.LoadNow todo (Cell a ∷ own) e l o h parks calm =
-      run sc (a ∷ own) todo _ o.1 (evaluating.read_at t few Q kept source sound s st sigs g base sc frames frame this callers env ends todo (evaluating.to t few Q kept source sound s st sigs g base sc frames frame this callers env ends (pc.LoadNow ∷ todo) e) (evaluating.from t few Q kept source sound s st sigs g base sc frames frame this callers env ends (pc.LoadNow ∷ todo) e) a (top s.run.operands) (newest t few s.env.exec (With t few s sigs todo) (Cell a) own s.run.operands h) l, rest_of t few s.env.exec (With t few s sigs todo) (Cell a) own s.run.operands h)
+      run sc (a ∷ own) todo _ o.1 (evaluating.read_at t few Q kept source sound s sigs st g base sc frames frame this callers env ends todo (evaluating.to t few Q kept source sound s sigs st g base sc frames frame this callers env ends (pc.LoadNow ∷ todo) e) (evaluating.from t few Q kept source sound s sigs st g base sc frames frame this callers env ends (pc.LoadNow ∷ todo) e) a (top s.run.operands) (newest t few s.env.exec (With t few s sigs todo) (Cell a) own s.run.operands h) l, rest_of t few s.env.exec (With t few s sigs todo) (Cell a) own s.run.operands h)
   acts pc.LoadNow todo _ e l o h parks calm = absurd o
   acts (pc.ElementNow n k) todo (Num ∷ (Row m a ∷ own)) e l o h parks calm =
       calls.element t few Q kept source sound s sigs g base sc frames frame this callers env ends n (index_in n (number (top s.run.operands))) k a todo (top (below s.run.operands)) own (below (below s.run.operands)) (in_range n (number (top s.run.operands))) o.1 (kept_tracked t k a o.3) (subst (λ m. Known t few s.env.exec (With t few s sigs todo) (Row m a) (top (below s.run.operands))) o.0 (next t few s.env.exec (With t few s sigs todo) Num (Row m a) own s.run.operands h)) o.2 (rest_behind t few s.env.exec (With t few s sigs todo) Num (Row m a) own s.run.operands h)
@@ -519,10 +518,10 @@ module _ (t : Table) (few : Few) (Q : Exec → List Sig → Ex → Type 0) (kept
 -- whatever is claimed
 pub law_claims : (Q : Exec → List Sig → Ex → Type 0) → IsKept Q → KeepsClaims Q
 law_claims Q kept = record {
-  goes = λ t few source sound s st x l parks calm.
-      todos t few Q kept source sound s st x.sigs x.run.sig x.run.base x.run.scope x.frames x.run.frame x.run.this x.callers x.env x.run.ends s.run.control x.run.own refl l x.run.ok x.run.values parks calm;
-  stops = λ t few source sound s st x l parks n.
-      stops t few Q kept source sound s st x.sigs x.run.sig x.run.base x.run.scope x.frames x.run.frame x.run.this x.callers x.env x.run.ends s.run.control x.run.own x.run.ok x.run.values parks n;
+  goes = λ t few source sound s x st l parks calm.
+      todos t few Q kept source sound s x.sigs st x.run.sig x.run.base x.run.scope x.frames x.run.frame x.run.this x.callers x.env x.run.ends s.run.control x.run.own refl l x.run.ok x.run.values parks calm;
+  stops = λ t few source sound s x st l parks n.
+      stops t few Q kept source sound s x.sigs st x.run.sig x.run.base x.run.scope x.frames x.run.frame x.run.this x.callers x.env x.run.ends s.run.control x.run.own x.run.ok x.run.values parks n;
 }
 
 pub law_kinds : LawKinds

@@ -10,7 +10,7 @@ use Rattle.uc_machine.specs.Pieces.{Value, Number, Place, Running, Object, Nothi
 use Rattle.uc_typing.specs.Typing.{Ty, Num, Cell, Obj, Raw, Row, Clu, Pro, Table}
 use Rattle.uc_typing.specs.States.{whole, IsAt, IsNumbered, IsObjectBy}
 use Rattle.uc_life_laws.specs.Things.{Few, IsBinding, IsKnown, IsMade, Known, Holds, LiesBefore}
-use Rattle.uc_life_laws.specs.LifeStates.{frame_at, MarkHolds, AllHold, LifeStack, MarkBefore, AllBefore, FrameBefore}
+use Rattle.uc_life_laws.specs.LifeStates.{BehindMark, frame_at, MarkHoldsBy, AllHoldBy, LifeStackBy, MarkBefore, AllBefore, FrameBefore}
 
 -- the first of two by a test
 pub either : {A : Type 0} (P : A → Type 0) (b : Bool) (x y : A) → P x → P y → P (if b then x else y)
@@ -126,17 +126,17 @@ others_length (x ∷ xs) n h = omega (arith, h)
 
 -- to-do lists and activations
 
-module _ (t : Table) (few : Few) (n : Exec) where
-  holds_stored : (K : Value → Ty → Type 0) (o : Owner) (vs : List Value) (k : ℕ) (v w : Value) (a : Ty) → Holds t few n K o vs w a → Holds t few n K o (value_changed k (stored v) nought vs) w a
-  holds_stored K o vs k v w a h p b i binds =
-      cell_stored (Known t few n K b) v (λ x y. known_stored t few n K b v x y) vs (address p) k (h p b i binds)
+module _ (t : Table) (few : Few) (K : BehindMark) (n : Exec) where
+  holds_stored : (R : Value → Ty → Type 0) (o : Owner) (vs : List Value) (k : ℕ) (v w : Value) (a : Ty) → Holds t few n R o vs w a → Holds t few n R o (value_changed k (stored v) nought vs) w a
+  holds_stored R o vs k v w a h p b i binds =
+      cell_stored (Known t few n R b) v (λ x y. known_stored t few n R b v x y) vs (address p) k (h p b i binds)
 
-  holds_cleared : (K : Value → Ty → Type 0) (o : Owner) (vs : List Value) (k m : ℕ) (w : Value) (a : Ty) → LiesBefore t k o w a → Holds t few n K o vs w a → Holds t few n K o (values_cleared k m nought vs) w a
-  holds_cleared K o vs k m w a l h p b i binds =
-      cell_taken (Known t few n K b) (λ y. known_nought t few n K b binds y) vs _ (address p) k (l p b i) (h p b i binds)
+  holds_cleared : (R : Value → Ty → Type 0) (o : Owner) (vs : List Value) (k m : ℕ) (w : Value) (a : Ty) → LiesBefore t k o w a → Holds t few n R o vs w a → Holds t few n R o (values_cleared k m nought vs) w a
+  holds_cleared R o vs k m w a l h p b i binds =
+      cell_taken (Known t few n R b) (λ y. known_nought t few n R b binds y) vs _ (address p) k (l p b i) (h p b i binds)
 
   module _ (f : ℕ) (this : Value) (older : List Active) where
-    mark_stored : (vs : List Value) (k : ℕ) (v : Value) (s : Sort) (todo : List Todo) (R Q : Type 0) → (R → Q) → MarkHolds t few n vs f this older s todo R → MarkHolds t few n (value_changed k (stored v) nought vs) f this older s todo Q
+    mark_stored : (vs : List Value) (k : ℕ) (v : Value) (s : Sort) (todo : List Todo) (R Q : Type 0) → (R → Q) → MarkHoldsBy t few K n vs f this older s todo R → MarkHoldsBy t few K n (value_changed k (stored v) nought vs) f this older s todo Q
     mark_stored vs k v (piece.IsClean c) todo R Q more h = ((λ j a x. holds_stored _ _ vs k v _ a (h.0 j a x)), more h.1)
     mark_stored vs k v piece.Simple todo R Q more h = more h
     mark_stored vs k v (piece.IsLoop o e s b) todo R Q more h = more h
@@ -148,11 +148,11 @@ module _ (t : Table) (few : Few) (n : Exec) where
     mark_stored vs k v piece.IsFinish todo R Q more h = more h
     mark_stored vs k v piece.IsFinishCoroutine todo R Q more h = more h
 
-    all_stored : (k : ℕ) (v : Value) (todo : List Todo) (vs : List Value) → AllHold t few n vs f this older todo → AllHold t few n (value_changed k (stored v) nought vs) f this older todo
+    all_stored : (k : ℕ) (v : Value) (todo : List Todo) (vs : List Value) → AllHoldBy t few K n vs f this older todo → AllHoldBy t few K n (value_changed k (stored v) nought vs) f this older todo
     all_stored k v [] vs h = tt
     all_stored k v (p ∷ todo) vs h = mark_stored vs k v (piece.sort p) todo _ _ (all_stored k v todo vs) h
 
-    mark_cleared : (vs : List Value) (k m : ℕ) (s : Sort) (todo : List Todo) (B R Q : Type 0) → (B → R → Q) → MarkBefore t n k f s B → MarkHolds t few n vs f this older s todo R → MarkHolds t few n (values_cleared k m nought vs) f this older s todo Q
+    mark_cleared : (vs : List Value) (k m : ℕ) (s : Sort) (todo : List Todo) (B R Q : Type 0) → (B → R → Q) → MarkBefore t n k f s B → MarkHoldsBy t few K n vs f this older s todo R → MarkHoldsBy t few K n (values_cleared k m nought vs) f this older s todo Q
     mark_cleared vs k m (piece.IsClean c) todo B R Q more b h = ((λ j a x. holds_cleared _ _ vs k m _ a (b.0 j a x) (h.0 j a x)), more b.1 h.1)
     mark_cleared vs k m piece.Simple todo B R Q more b h = more b h
     mark_cleared vs k m (piece.IsLoop o e s x) todo B R Q more b h = more b h
@@ -164,28 +164,28 @@ module _ (t : Table) (few : Few) (n : Exec) where
     mark_cleared vs k m piece.IsFinish todo B R Q more b h = more b h
     mark_cleared vs k m piece.IsFinishCoroutine todo B R Q more b h = more b h
 
-    all_cleared : (k m : ℕ) (todo : List Todo) (vs : List Value) → AllBefore t n k f todo → AllHold t few n vs f this older todo → AllHold t few n (values_cleared k m nought vs) f this older todo
+    all_cleared : (k m : ℕ) (todo : List Todo) (vs : List Value) → AllBefore t n k f todo → AllHoldBy t few K n vs f this older todo → AllHoldBy t few K n (values_cleared k m nought vs) f this older todo
     all_cleared k m [] vs b h = tt
     all_cleared k m (p ∷ todo) vs b h = mark_cleared vs k m (piece.sort p) todo _ _ _ (λ b h. all_cleared k m todo vs b h) b h
 
-  pub stack_stored : (d k : ℕ) (v : Value) (fs : List (List Value)) (cs : List Active) → LifeStack t few n fs cs → LifeStack t few n (frame_changed d (value_changed k (stored v) nought) fs) cs
+  pub stack_stored : (d k : ℕ) (v : Value) (fs : List (List Value)) (cs : List Active) → LifeStackBy t few K n fs cs → LifeStackBy t few K n (frame_changed d (value_changed k (stored v) nought) fs) cs
   stack_stored d k v fs [] h = tt
   stack_stored d k v fs (a ∷ older) h =
-      (h.0, set_at (λ vs. AllHold t few n vs a.frame a.this older a.control) fs d a.frame _ (λ e. all_stored a.frame a.this older k v a.control (frame_at d fs) (subst (λ f. AllHold t few n (frame_at f fs) a.frame a.this older a.control) e h.1)) h.1, stack_stored d k v fs older h.2)
+      (h.0, set_at (λ vs. AllHoldBy t few K n vs a.frame a.this older a.control) fs d a.frame _ (λ e. all_stored a.frame a.this older k v a.control (frame_at d fs) (subst (λ f. AllHoldBy t few K n (frame_at f fs) a.frame a.this older a.control) e h.1)) h.1, stack_stored d k v fs older h.2)
 
-  pub stack_cleared : (d k m : ℕ) (fs : List (List Value)) (cs : List Active) → FrameBefore t n k d cs → LifeStack t few n fs cs → LifeStack t few n (frame_changed d (values_cleared k m nought) fs) cs
+  pub stack_cleared : (d k m : ℕ) (fs : List (List Value)) (cs : List Active) → FrameBefore t n k d cs → LifeStackBy t few K n fs cs → LifeStackBy t few K n (frame_changed d (values_cleared k m nought) fs) cs
   stack_cleared d k m fs [] b h = tt
   stack_cleared d k m fs (a ∷ older) b h =
-      (h.0, set_at (λ vs. AllHold t few n vs a.frame a.this older a.control) fs d a.frame _ (λ e. all_cleared a.frame a.this older k m a.control (frame_at d fs) (subst (λ f. AllBefore t n k f a.control) (sym e) (b.0 e)) (subst (λ f. AllHold t few n (frame_at f fs) a.frame a.this older a.control) e h.1)) h.1, stack_cleared d k m fs older b.1 h.2)
+      (h.0, set_at (λ vs. AllHoldBy t few K n vs a.frame a.this older a.control) fs d a.frame _ (λ e. all_cleared a.frame a.this older k m a.control (frame_at d fs) (subst (λ f. AllBefore t n k f a.control) (sym e) (b.0 e)) (subst (λ f. AllHoldBy t few K n (frame_at f fs) a.frame a.this older a.control) e h.1)) h.1, stack_cleared d k m fs older b.1 h.2)
 
-  pub stack_newer : (x : List Value) (fs : List (List Value)) (cs : List Active) → length cs ≤ length fs → LifeStack t few n fs cs → LifeStack t few n (x ∷ fs) cs
+  pub stack_newer : (x : List Value) (fs : List (List Value)) (cs : List Active) → length cs ≤ length fs → LifeStackBy t few K n fs cs → LifeStackBy t few K n (x ∷ fs) cs
   stack_newer x fs [] l h = tt
   stack_newer x fs (a ∷ older) l h =
       let le = h.0 in
-      (h.0, newer_at (λ vs. AllHold t few n vs a.frame a.this older a.control) x fs a.frame (omega (arith, le, l)) h.1, stack_newer x fs older (omega (arith, l)) h.2)
+      (h.0, newer_at (λ vs. AllHoldBy t few K n vs a.frame a.this older a.control) x fs a.frame (omega (arith, le, l)) h.1, stack_newer x fs older (omega (arith, l)) h.2)
 
-  pub stack_older : (fs : List (List Value)) (cs : List Active) → length cs ≤ length (others fs) → LifeStack t few n fs cs → LifeStack t few n (others fs) cs
+  pub stack_older : (fs : List (List Value)) (cs : List Active) → length cs ≤ length (others fs) → LifeStackBy t few K n fs cs → LifeStackBy t few K n (others fs) cs
   stack_older fs [] l h = tt
   stack_older fs (a ∷ older) l h =
       let le = h.0 in
-      (h.0, older_at (λ vs. AllHold t few n vs a.frame a.this older a.control) fs a.frame (omega (arith, le, l)) h.1, stack_older fs older (omega (arith, l)) h.2)
+      (h.0, older_at (λ vs. AllHoldBy t few K n vs a.frame a.this older a.control) fs a.frame (omega (arith, le, l)) h.1, stack_older fs older (omega (arith, l)) h.2)

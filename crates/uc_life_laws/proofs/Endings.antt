@@ -29,15 +29,16 @@ use Rattle.uc_sound.proofs.Ties.{some_same}
 use Rattle.uc_sound.specs.SoundFormed.{IsFormed}
 use Rattle.uc_sound.specs.Tables.{table_of}
 use Rattle.uc_life_laws.specs.Things.{Few, IsBinding, AtVariable, Nowhere, InTodo, Variables, itself, IsFew, IsMade, Known}
-use Rattle.uc_life_laws.specs.LifeStates.{LifeState, OpensAt, Opens}
-use Rattle.uc_life_laws.specs.Knowing.{KnowsState, Here, Finds}
+use Rattle.uc_life_laws.specs.LifeStates.{BehindMark, OpensAtBy, OpensBy}
+use Rattle.uc_life_laws.specs.Lives.{OutwardsOrMade, LivesState}
+use Rattle.uc_life_laws.proofs.LivesLemmas.{law_lives}
+use Rattle.uc_life_laws.specs.Knowing.{Here, Finds}
 use Rattle.uc_life_laws.specs.KnownRuns.{PassesBelow, Meets, AllIsKnown, made_by, is_made}
 use Rattle.uc_life_laws.specs.KnownAnswers.{MainPasses}
 use Rattle.uc_life_laws.specs.Opened.{any}
 use Rattle.uc_life_laws.specs.OpenedRuns.{MeetsObjects, IsFollowed}
 use Rattle.uc_life_laws.specs.Endings.{RawsPass, MeetsOutside, AllIsMet, ObjectsOutside, ObjectsAreMet, LawEndings}
 use Rattle.uc_life_laws.proofs.Knowns.{known_more}
-use Rattle.uc_life_laws.proofs.Reading as reads
 use Rattle.uc_life_laws.proofs.NewNumbers.{some_object}
 use Rattle.uc_life_laws.proofs.OpenedRuns.{law_opened_runs}
 use Rattle.uc_life_laws.proofs.KnownWorlds.{earlier, law_known_runs, all_made, main_numbered}
@@ -82,11 +83,11 @@ module _ (t : Table) (few : Few) where
 
   module _ (source : Source) (raws : RawsPass few) where
     -- at the mark of such a clean-up its variable is in scope
-    starts : (s : State) → LifeState t few s → KnowsState t few [] s → EndingStep (reading s.run.control) (quiet source s)
-    starts s st x = by s.run.control refl (λ l c. subst (λ l. Ok t x.run.sig x.run.base x.run.scope l x.run.own) c x.run.ok)
+    starts : (s : State) → LivesState t few s → EndingStep (reading s.run.control) (quiet source s)
+    starts s x = by s.run.control refl (λ l c. subst (λ l. Ok t x.0.run.sig x.0.run.base x.0.run.scope l x.0.run.own) c x.0.run.ok)
       where
         g : Sig
-        g = x.run.sig
+        g = x.0.run.sig
 
         popped : (c : CleanUp) (sc : List Name) (next : List Name → Type 0) → Popped t g c sc next → (inner : List Name) × FineClean t g inner c × ((y : Name) × Cleans t g y c)
         popped c [] next h = absurd h
@@ -110,10 +111,10 @@ module _ (t : Table) (few : Few) where
         few_raw c Nothing h = tt
 
         -- what its mark is for stands at a variable
-        read : (k : ℕ) (a : Ty) (l : List Todo) → IsBinding a → s.run.control ≡ l → InTodo (AtVariable t (Frame s.env.exec s.run.frame) s.run.this) (Nowhere (Frame s.env.exec s.run.frame) s.run.this) l (variable_at k s) (Cell a) → Known t few s.env.exec (Here t few x.sigs s) a (loaded (variable_at k s) s.env)
+        read : (k : ℕ) (a : Ty) (l : List Todo) → IsBinding a → s.run.control ≡ l → InTodo (AtVariable t (Frame s.env.exec s.run.frame) s.run.this) (Nowhere (Frame s.env.exec s.run.frame) s.run.this) l (variable_at k s) (Cell a) → Known t few s.env.exec (Here t few x.0.sigs s) a (loaded (variable_at k s) s.env)
         read k a l i c m =
             let v : Variables t s.env.exec (s.run ∷ s.callers) (variable_at k s) (Cell a) = inl (subst (λ l. InTodo (AtVariable t (Frame s.env.exec s.run.frame) s.run.this) (Nowhere (Frame s.env.exec s.run.frame) s.run.this) l (variable_at k s) (Cell a)) (sym c) m) in
-            reads.variable_read t few s st x.sigs (variable_at k s) (Cell a) s.run.frame (Slot k ∷ []) a i v itself
+            law_lives.reads t few s x (variable_at k s) (Cell a) s.run.frame (Slot k ∷ []) a i v itself
 
         object : (r k : ℕ) (written : Bool) (l : List Todo) → s.run.control ≡ l → (inner : List Name) × FineClean t g inner (Destroys (OfObject (EndOn r written (Load (Variable k))))) × ((y : Name) × Cleans t g y (Destroys (OfObject (EndOn r written (Load (Variable k)))))) → ((c : ℕ) → CleansAt t (Cell (Obj c)) (Variable k) (Destroys (OfObject (EndOn r written (Load (Variable k))))) → InTodo (AtVariable t (Frame s.env.exec s.run.frame) s.run.this) (Nowhere (Frame s.env.exec s.run.frame) s.run.this) l (variable_at k s) (Cell (Obj c))) → Held (OnObject r written) k s
         object r k written l q f m =
@@ -123,12 +124,12 @@ module _ (t : Table) (few : Few) where
             let h = read k (Obj c) l tt q (m c (refl, this, w)) in
             (c, this, f.1.1.2, record { is = h.is; passes = few_raw c (loaded (variable_at k s) s.env) h.passes }, w)
 
-        number : (a : Ty) (k : ℕ) (l : List Todo) → IsBinding a → s.run.control ≡ l → InTodo (AtVariable t (Frame s.env.exec s.run.frame) s.run.this) (Nowhere (Frame s.env.exec s.run.frame) s.run.this) l (variable_at k s) (Cell a) → Known t few s.env.exec (Here t few x.sigs s) a (loaded (variable_at k s) s.env)
+        number : (a : Ty) (k : ℕ) (l : List Todo) → IsBinding a → s.run.control ≡ l → InTodo (AtVariable t (Frame s.env.exec s.run.frame) s.run.this) (Nowhere (Frame s.env.exec s.run.frame) s.run.this) l (variable_at k s) (Cell a) → Known t few s.env.exec (Here t few x.0.sigs s) a (loaded (variable_at k s) s.env)
         number a k l i q m = read k a l i q m
 
-        by : (l : List Todo) → s.run.control ≡ l → ((l : List Todo) → s.run.control ≡ l → Ok t g x.run.base x.run.scope l x.run.own) → EndingStep (reading l) (act_todo source l s)
+        by : (l : List Todo) → s.run.control ≡ l → ((l : List Todo) → s.run.control ≡ l → Ok t g x.0.run.base x.0.run.scope l x.0.run.own) → EndingStep (reading l) (act_todo source l s)
         by (Clean (Destroys (OfObject (EndOn r written (Load (Variable k))))) ∷ todo) c o =
-            (OnObject r written, k, DropNow ∷ todo, refl, object r k written _ c (popped _ x.run.scope _ (o _ c).0) (λ d m. inl (k, m, refl)))
+            (OnObject r written, k, DropNow ∷ todo, refl, object r k written _ c (popped _ x.0.run.scope _ (o _ c).0) (λ d m. inl (k, m, refl)))
         by (Clean (Destroys (OfObject (EndCluster (Load (Variable k))))) ∷ todo) c o =
             let h = number Clu k _ tt c (inl (k, refl, refl)) in
             (OfCluster, k, DropNow ∷ todo, refl, record { is = h.is; passes = h.passes; rooted = λ i. absurd i; held = λ i. absurd i; seated = λ i. absurd i })
@@ -136,7 +137,7 @@ module _ (t : Table) (few : Few) where
             let h = number Pro k _ tt c (inl (k, refl, refl)) in
             (OfProcessor, k, DropNow ∷ todo, refl, record { is = h.is; passes = h.passes; rooted = λ i. absurd i; held = λ i. absurd i; seated = λ i. absurd i })
         by (Unwind ∷ (Clean (Destroys (OfObject (EndOn r written (Load (Variable k))))) ∷ todo)) c o =
-            (OnObject r written, k, DropNow ∷ (Unwind ∷ todo), refl, object r k written _ c (popped _ x.run.scope _ (o _ c)) (λ d m. inl (k, m, refl)))
+            (OnObject r written, k, DropNow ∷ (Unwind ∷ todo), refl, object r k written _ c (popped _ x.0.run.scope _ (o _ c)) (λ d m. inl (k, m, refl)))
         by (Unwind ∷ (Clean (Destroys (OfObject (EndCluster (Load (Variable k))))) ∷ todo)) c o =
             let h = number Clu k _ tt c (inl (k, refl, refl)) in
             (OfCluster, k, DropNow ∷ (Unwind ∷ todo), refl, record { is = h.is; passes = h.passes; rooted = λ i. absurd i; held = λ i. absurd i; seated = λ i. absurd i })
@@ -158,9 +159,9 @@ module _ (t : Table) (few : Few) where
     onward (suc (suc (suc zero))) s h = subst (λ l. EndingStep 3 (act_todo source l s)) (sym h.3) (found s h.0 h.1 h.2 h.4)
     onward (suc (suc (suc (suc n)))) s h = absurd h
 
-    ending : (n : ℕ) (s : State) → LifeState t few s → KnowsState t few [] s → Ending n s → EndingStep (still_reading n s.run.control) (quiet source s)
-    ending zero s st x h = starts s st x
-    ending (suc n) s st x h = onward n s h
+    ending : (n : ℕ) (s : State) → LivesState t few s → Ending n s → EndingStep (still_reading n s.run.control) (quiet source s)
+    ending zero s x h = starts s x
+    ending (suc n) s x h = onward n s h
 
   -- what is read is what the end of it asks for
 
@@ -191,21 +192,21 @@ module _ (t : Table) (few : Few) where
       record { untracked = λ i no. f; seated = λ i l. f; foreign = λ i. f; field = λ w b m i. f; making = λ w b m i. f }
   place gs g base sc s e k todo _ o h q = tt
 
-  opens : (n : ℕ) (s : State) → Ending (suc n) s → Opens t few s
-  opens zero s h = subst (λ l. OpensAt t few l s) (sym h.3) tt
-  opens (suc zero) s h = subst (λ l. OpensAt t few l s) (sym h.3) tt
-  opens (suc (suc zero)) s h = subst (λ l. OpensAt t few l s) (sym h.3) tt
-  opens (suc (suc (suc zero))) s h = subst (λ l. OpensAt t few l s) (sym h.3) tt
-  opens (suc (suc (suc (suc n)))) s h = absurd h
+  opens : (K : BehindMark) (n : ℕ) (s : State) → Ending (suc n) s → OpensBy t few K s
+  opens K zero s h = subst (λ l. OpensAtBy t few K l s) (sym h.3) tt
+  opens K (suc zero) s h = subst (λ l. OpensAtBy t few K l s) (sym h.3) tt
+  opens K (suc (suc zero)) s h = subst (λ l. OpensAtBy t few K l s) (sym h.3) tt
+  opens K (suc (suc (suc zero))) s h = subst (λ l. OpensAtBy t few K l s) (sym h.3) tt
+  opens K (suc (suc (suc (suc n)))) s h = absurd h
 
-  finds : (n : ℕ) (s : State) (x : KnowsState t few [] s) → Ending (suc n) s → Finds t few x.sigs x.run.sig x.run.scope s s.run.control x.run.own
+  finds : (n : ℕ) (s : State) (x : LivesState t few s) → Ending (suc n) s → Finds t few x.0.sigs x.0.run.sig x.0.run.scope s s.run.control x.0.run.own
   finds zero s x h =
-      subst (λ l. Finds t few x.sigs x.run.sig x.run.scope s l x.run.own) (sym h.3) (place x.sigs x.run.sig x.run.base x.run.scope s h.0 h.1 h.2 x.run.own (subst (λ l. Ok t x.run.sig x.run.base x.run.scope l x.run.own) h.3 x.run.ok) h.4 h.5)
-  finds (suc zero) s x h = subst (λ l. Finds t few x.sigs x.run.sig x.run.scope s l x.run.own) (sym h.3) (λ a y. tt)
-  finds (suc (suc zero)) s x h = subst (λ l. Finds t few x.sigs x.run.sig x.run.scope s l x.run.own) (sym h.3) (λ a y. tt)
-  finds (suc (suc (suc zero))) s x h = subst (λ l. Finds t few x.sigs x.run.sig x.run.scope s l x.run.own) (sym h.3) (expr h.0)
+      subst (λ l. Finds t few x.0.sigs x.0.run.sig x.0.run.scope s l x.0.run.own) (sym h.3) (place x.0.sigs x.0.run.sig x.0.run.base x.0.run.scope s h.0 h.1 h.2 x.0.run.own (subst (λ l. Ok t x.0.run.sig x.0.run.base x.0.run.scope l x.0.run.own) h.3 x.0.run.ok) h.4 h.5)
+  finds (suc zero) s x h = subst (λ l. Finds t few x.0.sigs x.0.run.sig x.0.run.scope s l x.0.run.own) (sym h.3) (λ a y. tt)
+  finds (suc (suc zero)) s x h = subst (λ l. Finds t few x.0.sigs x.0.run.sig x.0.run.scope s l x.0.run.own) (sym h.3) (λ a y. tt)
+  finds (suc (suc (suc zero))) s x h = subst (λ l. Finds t few x.0.sigs x.0.run.sig x.0.run.scope s l x.0.run.own) (sym h.3) (expr h.0)
     where
-      expr : (e : End) → Finds t few x.sigs x.run.sig x.run.scope s (Eval (end_expr e h.1) ∷ h.2) x.run.own
+      expr : (e : End) → Finds t few x.0.sigs x.0.run.sig x.0.run.scope s (Eval (end_expr e h.1) ∷ h.2) x.0.run.own
       expr (OnObject r written) = λ a y. tt
       expr OfCluster = λ a y. tt
       expr OfProcessor = λ a y. tt
@@ -213,7 +214,7 @@ module _ (t : Table) (few : Few) where
 
   pub met : (n : ℕ) (s : State) → MeetsOutside t few n s → Ending n s → Meets t few s
   met zero s m h = m
-  met (suc n) s m h = λ st x. (opens n s h, (x, finds n s x h))
+  met (suc n) s m h = λ x. (x, (finds n s x h, opens (OutwardsOrMade x.0.sigs) n s h))
 
 -- on the way
 
@@ -240,9 +241,9 @@ module _ (P : State → Type 0) (source : Source) where
   ticks_met (runs.goes e l) q m h = (m.0, ticks_met l q m.1 h)
   ticks_met (runs.ticks e l) q m h = (m.0, ticks_met l q m.1 h)
 
-module _ (t : Table) (few : Few) (source : Source) (raws : RawsPass few) (P : State → Type 0) (Q : ℕ → State → Type 0) (meets : (n : ℕ) (s : State) → Q n s → Ending t few n s → P s) (start : State) (life : (s : State) (l : Leads source start s) → LeadsMeet P source start s l → LifeState t few s) (known : (s : State) (l : Leads source start s) → LeadsMeet P source start s l → KnowsState t few [] s) where
+module _ (t : Table) (few : Few) (source : Source) (raws : RawsPass few) (P : State → Type 0) (Q : ℕ → State → Type 0) (meets : (n : ℕ) (s : State) → Q n s → Ending t few n s → P s) (start : State) (lives : (s : State) (l : Leads source start s) → LeadsMeet P source start s l → LivesState t few s) where
   next : (n : ℕ) (s : State) (l : Leads source start s) → LeadsMeet P source start s l → Ending t few n s → EndingStep t few (still_reading n s.run.control) (quiet source s)
-  next n s l m h = ending t few source raws n s (life s l m) (known s l m) h
+  next n s l m h = ending t few source raws n s (lives s l m) h
 
   goes_next : (n : ℕ) (s v : State) (l : Leads source start s) → LeadsMeet P source start s l → Ending t few n s → quiet source s ≡ Goes v → Ending t few (still_reading n s.run.control) v
   goes_next n s v l m h q = at_goes t few (still_reading n s.run.control) v (subst (EndingStep t few (still_reading n s.run.control)) q (next n s l m h))
@@ -283,13 +284,13 @@ module _ (p : Program) (formed : IsFormed p) (accepted : breaks_of p ≡ []) (fe
   runs_met (more {j} {w} {a} r on (acts q n k s asked d)) f below o =
       let m = runs_met r f.0 (earlier few opts j a below) o.0 in
       let all : AllIsKnown t few source j w = law_known_runs p formed accepted few input opts range j w r f.0 on (earlier few opts j a below) first m in
-      (m, ride_met t few source raws (Meets t few) (MeetsOutside t few) (met t few) (answered source d.given (drawn j w n)) (λ s l. all.scopes n s (record { given = d.given; processor = q; runs = d.runs; told = d.told; leads = l })) (λ s l. all.comes n s (record { given = d.given; processor = q; runs = d.runs; told = d.told; leads = l })) runs.stays tt 0 d.rides o.1 tt)
+      (m, ride_met t few source raws (Meets t few) (MeetsOutside t few) (met t few) (answered source d.given (drawn j w n)) (λ s l. all.lives n s (record { given = d.given; processor = q; runs = d.runs; told = d.told; leads = l })) runs.stays tt 0 d.rides o.1 tt)
 
 tested : (p : Program) (formed : IsFormed p) (accepted : breaks_of p ≡ []) (few : Few) (raws : RawsPass few) (input : List ℕ) (opts : Options) (range : InRange opts) (j : Journal) (w : World) (r : Runs (source_of p) input opts j w) → RunFits (source_of p) input opts j w r → is_over j ≡ false → PassesBelow few opts j → MainPasses (table_of p) few ((table_of p).routine (source_of p).main).this 0 → RunHolds (MeetsOutside (table_of p) few) (source_of p) input opts j w r → AllIsMet (table_of p) few (source_of p) input opts j w r
 tested p formed accepted few raws input opts range j w r fits on below first outside = record {
   runs = met_so_far;
-  leads = λ n s c o. lead_met (table_of p) few (source_of p) raws (Meets (table_of p) few) (MeetsOutside (table_of p) few) (met (table_of p) few) (answered (source_of p) c.given (drawn j w n)) (λ s l. all.scopes n s (record { given = c.given; processor = c.processor; runs = c.runs; told = c.told; leads = l })) (λ s l. all.comes n s (record { given = c.given; processor = c.processor; runs = c.runs; told = c.told; leads = l })) runs.stays tt 0 c.leads o tt;
-  rides = λ q n k s asked d o. ride_met (table_of p) few (source_of p) raws (Meets (table_of p) few) (MeetsOutside (table_of p) few) (met (table_of p) few) (answered (source_of p) d.given (drawn j w n)) (λ s l. all.scopes n s (record { given = d.given; processor = q; runs = d.runs; told = d.told; leads = l })) (λ s l. all.comes n s (record { given = d.given; processor = q; runs = d.runs; told = d.told; leads = l })) runs.stays tt 0 d.rides o tt;
+  leads = λ n s c o. lead_met (table_of p) few (source_of p) raws (Meets (table_of p) few) (MeetsOutside (table_of p) few) (met (table_of p) few) (answered (source_of p) c.given (drawn j w n)) (λ s l. all.lives n s (record { given = c.given; processor = c.processor; runs = c.runs; told = c.told; leads = l })) runs.stays tt 0 c.leads o tt;
+  rides = λ q n k s asked d o. ride_met (table_of p) few (source_of p) raws (Meets (table_of p) few) (MeetsOutside (table_of p) few) (met (table_of p) few) (answered (source_of p) d.given (drawn j w n)) (λ s l. all.lives n s (record { given = d.given; processor = q; runs = d.runs; told = d.told; leads = l })) runs.stays tt 0 d.rides o tt;
 }
   where
     met_so_far : RunMeets (Meets (table_of p) few) (source_of p) input opts j w r
@@ -341,7 +342,7 @@ module _ (p : Program) (formed : IsFormed p) (accepted : breaks_of p ≡ []) (in
   runs_objects (more {j} {w} r on (acts q n k s asked d)) f o =
       let m = runs_objects r f.0 o.0 in
       let all : IsFollowed (table_of p) (source_of p) j w = followed r f.0 on m in
-      (m, ride_met (table_of p) any (source_of p) (λ c o h. h) P (ObjectsOutside (table_of p) (source_of p)) (objects_met (table_of p) (source_of p)) (answered (source_of p) d.given (drawn j w n)) (λ s l. all.scopes n s (record { given = d.given; processor = q; runs = d.runs; told = d.told; leads = l })) (λ s l. all.comes n s (record { given = d.given; processor = q; runs = d.runs; told = d.told; leads = l })) runs.stays tt 0 d.rides o.1 tt)
+      (m, ride_met (table_of p) any (source_of p) (λ c o h. h) P (ObjectsOutside (table_of p) (source_of p)) (objects_met (table_of p) (source_of p)) (answered (source_of p) d.given (drawn j w n)) (λ s l. all.lives n s (record { given = d.given; processor = q; runs = d.runs; told = d.told; leads = l })) runs.stays tt 0 d.rides o.1 tt)
 
   objects_are_met : (j : Journal) (w : World) (r : Runs (source_of p) input opts j w) → RunFits (source_of p) input opts j w r → is_over j ≡ false → RunHolds (ObjectsOutside (table_of p) (source_of p)) (source_of p) input opts j w r → ObjectsAreMet (table_of p) (source_of p) input opts j w r
   objects_are_met j w r f on o =
@@ -349,7 +350,7 @@ module _ (p : Program) (formed : IsFormed p) (accepted : breaks_of p ≡ []) (in
       let all : IsFollowed (table_of p) (source_of p) j w = followed r f on m in
       record {
         runs = m;
-        leads = λ n s c o. lead_met (table_of p) any (source_of p) (λ c o h. h) P (ObjectsOutside (table_of p) (source_of p)) (objects_met (table_of p) (source_of p)) (answered (source_of p) c.given (drawn j w n)) (λ s l. all.scopes n s (record { given = c.given; processor = c.processor; runs = c.runs; told = c.told; leads = l })) (λ s l. all.comes n s (record { given = c.given; processor = c.processor; runs = c.runs; told = c.told; leads = l })) runs.stays tt 0 c.leads o tt;
+        leads = λ n s c o. lead_met (table_of p) any (source_of p) (λ c o h. h) P (ObjectsOutside (table_of p) (source_of p)) (objects_met (table_of p) (source_of p)) (answered (source_of p) c.given (drawn j w n)) (λ s l. all.lives n s (record { given = c.given; processor = c.processor; runs = c.runs; told = c.told; leads = l })) runs.stays tt 0 c.leads o tt;
       }
 
 pub law_endings : LawEndings

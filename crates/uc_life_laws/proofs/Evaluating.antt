@@ -12,8 +12,7 @@ use Rattle.uc_typing.specs.Pieces.{onto, Ok}
 use Rattle.uc_typing.specs.States.{IsObjectBy, Is, IsBase, Sound}
 use Rattle.uc_typing.proofs.Control.{converted_ok}
 use Rattle.uc_life_laws.specs.Things.{Few, IsTracked, itself, LiesIn, Variables, Known, lies, IsFew}
-use Rattle.uc_life_laws.specs.LifeStates.{LifeState}
-use Rattle.uc_life_laws.specs.Knowing.{AtHand, KnownAll, KnownParams, KnownFrames, KnownThis, KnowsWaits, ClaimsEnv, StepBy, Here, ReadsKnown, FindsObject, FindsExpr}
+use Rattle.uc_life_laws.specs.Knowing.{AtHand, KnownAll, KnownParams, KnownFrames, KnownThis, KnowsWaits, ClaimsEnv, StepBy, Here, ReadsKnown, VariablesKnown, FindsObject, FindsExpr}
 use Rattle.uc_life_laws.specs.Kinds.{IsKept, FollowsOn}
 use Rattle.uc_life_laws.proofs.Parked.{Ex}
 use Rattle.uc_life_laws.proofs.Knowns as known
@@ -27,7 +26,7 @@ cell_min : (k : ℕ) → k ≤ LAST_ADDRESS → address (Slot k ∷ []) ≡ k
 cell_min k l = omega (arith, l)
 
 -- what a clean-up takes out of scope at a variable is no binding of what is being built
-module _ (t : Table) (few : Few) (Q : Exec → List Sig → Ex → Type 0) (kept : IsKept Q) (source : Source) (sound : Sound t source) (s : State) (st : LifeState t few s) (sigs : List Sig) (g : Sig) (base sc : List Name) (frames : KnownFrames t few s.env.exec sigs s.env.frames (s.run ∷ s.callers)) (frame : at_depth sigs s.run.frame ≡ Some g) (this : KnownThis t few s.env.exec (AtHand t few s.env.exec (others sigs) s.callers) g g.this s.run.this) (callers : KnowsWaits t few s.env.exec (others sigs) s.callers) (env : ClaimsEnv t few Q s.env) (ends : IsBase t g s.run.handles base s.run.frame s.callers) where
+module _ (t : Table) (few : Few) (Q : Exec → List Sig → Ex → Type 0) (kept : IsKept Q) (source : Source) (sound : Sound t source) (s : State) (sigs : List Sig) (st : VariablesKnown t few sigs s) (g : Sig) (base sc : List Name) (frames : KnownFrames t few s.env.exec sigs s.env.frames (s.run ∷ s.callers)) (frame : at_depth sigs s.run.frame ≡ Some g) (this : KnownThis t few s.env.exec (AtHand t few s.env.exec (others sigs) s.callers) g g.this s.run.this) (callers : KnowsWaits t few s.env.exec (others sigs) s.callers) (env : ClaimsEnv t few Q s.env) (ends : IsBase t g s.run.handles base s.run.frame s.callers) where
   go : (inner : List Name) (own : List Ty) (todo : List Todo) (vs : List Value) → Ok t g base inner todo own → KnownAll t few s.env.exec (With t few s sigs todo) own vs → FollowsOn Q t few source s sigs [] (at todo vs s)
   go = going.go t few Q kept source s sigs g base frames frame this callers env ends
 
@@ -85,7 +84,7 @@ module _ (t : Table) (few : Few) (Q : Exec → List Sig → Ex → Type 0) (kept
 
     pub read_at : known.Less t few s.env.exec (Here t few sigs s) (With t few s sigs todo) → known.Less t few s.env.exec (With t few s sigs todo) (Here t few sigs s) → (a : Ty) (v : Value) → Known t few s.env.exec (With t few s sigs todo) (Cell a) v → ReadsKnown t few sigs s a v → Known t few s.env.exec (With t few s sigs todo) a (loaded v s.env)
     read_at more back a v h r =
-        known_more t few s.env.exec (Here t few sigs s) (With t few s sigs todo) more a (loaded v s.env) (reading.load_known t few s st sigs a v (known_more t few s.env.exec (With t few s sigs todo) (Here t few sigs s) back (Cell a) v h) r)
+        known_more t few s.env.exec (Here t few sigs s) (With t few s sigs todo) more a (loaded v s.env) (reading.load_known t few s sigs st a v (known_more t few s.env.exec (With t few s sigs todo) (Here t few sigs s) back (Cell a) v h) r)
 
     -- a variable
 
@@ -124,7 +123,7 @@ module _ (t : Table) (few : Few) (Q : Exec → List Sig → Ex → Type 0) (kept
     held_known k a tys o more back (inr (inl h)) = subst (λ a. Known t few s.env.exec (With t few s sigs todo) a (loaded (variable_at k s) s.env)) (sym h) tt
     held_known k a tys o more back (inr (inr h)) =
         let m : Variables t s.env.exec (s.run ∷ s.callers) (variable_at k s) (Cell a) = back (variable_at k s) (Cell a) (scoped k (Cell a) tys o h.0) in
-        known_more t few s.env.exec (Here t few sigs s) (With t few s sigs todo) more a (loaded (variable_at k s) s.env) (reading.variable_read t few s st sigs (variable_at k s) (Cell a) s.run.frame (Slot k ∷ []) a (reading.is_binding t s.env.exec (variable_at k s) a (s.run ∷ s.callers) m) m itself)
+        known_more t few s.env.exec (Here t few sigs s) (With t few s sigs todo) more a (loaded (variable_at k s) s.env) (st (variable_at k s) (Cell a) s.run.frame (Slot k ∷ []) a (reading.is_binding t s.env.exec (variable_at k s) a (s.run ∷ s.callers) m) m itself)
 
   -- the same to do for a number
   num : (todo : List Todo) (own : List Ty) (a : Ty) → a ≡ Num → Ok t g base sc todo (a ∷ own) → Ok t g base sc todo (Num ∷ own)

@@ -1,24 +1,33 @@
 -- With fewer numbers all stays known, where nobody has at hand what had the others.
-use Rattle.std.proofs.Common.{◌≡◌, ℕ, ◌⊎◌, inl, inr, ⊎_elim, Bool, true, false, List, [], ◌∷◌, Option, Some, None, refl, sym, subst, ℤ}
+use Rattle.std.proofs.Common.{◌≡◌, ℕ, zero, suc, ◌≤◌, ◌⊎◌, inl, inr, ⊎_elim, Bool, true, false, List, [], ◌∷◌, length, Option, Some, None, refl, sym, subst, ℤ, arith}
+use Rattle.std.specs.Prelude.{nat_eq, slice_index_or}
 use Rattle.uc_machine.specs.declared.exec.Exec.{Exec}
 use Rattle.uc_machine.specs.declared.exec.Home.{Home}
 use Rattle.uc_machine.specs.declared.exec.Home.TheVariants as home
 use Rattle.uc_machine.specs.declared.exec.Owner.TheVariants.{Frame}
 use Rattle.uc_machine.specs.declared.exec.Stage.{Stage}
 use Rattle.uc_machine.specs.declared.exec.Stage.TheVariants.{Fresh, Started, Ended}
-use Rattle.uc_machine.specs.Executions.{Execution, others}
+use Rattle.uc_machine.specs.Executions.{Execution, at_depth, list_in, others}
+use Rattle.uc_machine.specs.Switches.{stopped}
 use Rattle.uc_machine.specs.Pieces as piece
-use Rattle.uc_machine.specs.Pieces.{Slot, Value, Number, Place, Running, Object, Nothing, Todo, Sort, Active, State, Env, Members}
-use Rattle.uc_tree.specs.Source.{Way, ToBreak, ToContinue, ToReturn, ToEnd}
+use Rattle.uc_machine.specs.Pieces.{address, nought, Value, Number, Place, Running, Object, Nothing, Todo, Sort, Active, State, Env, Members}
+use Rattle.uc_tree.specs.Source.{CleanUp, Way, ToBreak, ToContinue, ToReturn, ToEnd}
 use Rattle.uc_typing.specs.Typing.{Ty, Num, Cell, Obj, Raw, Row, Clu, Pro, Name, Sig, Table, object_ty}
 use Rattle.uc_typing.specs.Pieces.{IsNone, onto, Exits, Ok}
 use Rattle.uc_typing.specs.States.{IsAt, IsObjectBy}
-use Rattle.uc_life_laws.specs.Things.{Few, AtVariable, AtField, IsFor, Nowhere, Marks, InTodo, Outer, Around, Stands, lies, inside, Held, LiesIn, IsFew, IsKnown, Known}
-use Rattle.uc_life_laws.specs.LifeStates.{SlotBy, ParkedBy, HandBy, MembersBy, EnvBy, Outwards, MarkHolds, AllHold, LifeStack, LifeEx, LifeState}
-use Rattle.uc_life_laws.specs.Knowing.{AtHand, KnownAll, KnownParams, KnownThis, KnownFrames, Knows, KnowsWaits, KnowsEx, KnowsBy, KnowsSlot, KnowsState}
-use Rattle.uc_life_laws.proofs.Knowns.{Less, held_more, older_hand, around_outer}
+use Rattle.uc_life_laws.specs.Things.{Few, AtField, IsFor, Marks, InTodo, Outer, Around, Stands, lies, inside, Held, LiesIn, IsFew, IsKnown, Known}
+use Rattle.uc_life_laws.specs.LifeStates.{SlotBy, ParkedBy, HandBy, MembersBy, EnvBy, BehindMark, Outwards, frame_at, MarkHoldsBy, AllHoldBy, LifeStackBy}
+use Rattle.uc_life_laws.specs.Knowing.{AtHand, KnownAll, KnownParams, KnownThis, KnownFrames, Knows, KnowsWaits, Anything, ClaimsBy, ClaimsEx, ClaimsSlot, ClaimsEnv, KnowsSlot, KnowsState}
+use Rattle.uc_life_laws.specs.Kinds.{Claimed}
+use Rattle.uc_life_laws.specs.Lives.{OutwardsOrMade, Lives}
+use Rattle.uc_life_laws.proofs.Cells.{either}
+use Rattle.uc_life_laws.proofs.Parked.{Ex}
+use Rattle.uc_life_laws.proofs.Reading.{AllBehind}
+use Rattle.uc_life_laws.proofs.KindsLemmas.{ex_plain, plain}
+use Rattle.uc_life_laws.proofs.LivesLemmas.{below, in_older, others_le, making_here, made_behind}
+use Rattle.uc_life_laws.proofs.Knowns.{Less, held_more, older_hand, around_outer, around_hand, frames_length}
 use Rattle.uc_life_laws.specs.Silent.{AllSilent}
-use Rattle.uc_life_laws.specs.Fewer.{with_numbers, KeepsOthers, Lasts, ScopesLast, HandLasts, ExLasts, RunLasts, TaskLasts, LawFewer, AllNumbers, FramesNumbers, FreshLasts}
+use Rattle.uc_life_laws.specs.Fewer.{with_numbers, KeepsOthers, Lasts, HandLasts, ExLasts, RunLasts, LawFewer, AllNumbers, FramesNumbers, FreshLasts}
 
 -- two facts of each execution that does not run
 module _ (P Q R : Exec → Execution (List Todo) Value → Type 0) (both : (n : Exec) (x : Execution (List Todo) Value) → P n x → Q n x → R n x) where
@@ -89,6 +98,10 @@ renumber t g base sc (p ∷ todo) s given own h = absurd s
 module _ (t : Table) (few : Few) (numbers : Ty → ℕ → Bool) where
   abbrev less : Few
   less = with_numbers numbers few
+
+  -- what is claimed by the kinds of an execution that does not run, where all that it has at hand lasts, or it has not begun
+  abbrev pub Turns : (Exec → List Sig → Ex → Type 0) → (Exec → List Sig → Ex → Type 0) → Type 0
+  Turns Q R = (n : Exec) (gs : List Sig) (x : Ex) → length x.frames ≡ length gs → Q n gs x → Lasts t few numbers (AtHand t few n gs (x.run ∷ x.callers)) ⊎ FreshLasts t few numbers x → R n gs x
 
   -- what is held at homes is, whatever the numbers
   stands_same : (K : Value → Ty → Type 0) (b : Ty) (v : Value) → Stands t few K b v → Stands t less K b v
@@ -216,13 +229,13 @@ module _ (t : Table) (few : Few) (numbers : Ty → ℕ → Bool) where
     waits_fewer gs (c ∷ cs) l h =
         (active_fewer gs (Num ∷ []) cs c h.0 (older gs c cs l) (inl l), waits_fewer (others gs) cs (older gs c cs l) h.1)
 
-    ex_fewer : (x : Execution (List Todo) Value) (k : KnowsEx t few n x) → Lasts t few numbers (AtHand t few n k.sigs (x.run ∷ x.callers)) → KnowsEx t less n x
-    ex_fewer x k l = record {
+    ex_fewer : (Q R : Exec → List Sig → Ex → Type 0) → Turns Q R → (x : Ex) (k : ClaimsEx t few Q n x) → Lasts t few numbers (AtHand t few n k.sigs (x.run ∷ x.callers)) → ClaimsEx t less R n x
+    ex_fewer Q R turns x k l = record {
       sigs = k.sigs;
       frames = frames_fewer k.sigs x.frames (x.run ∷ x.callers) l k.frames;
       run = active_fewer k.sigs [] x.callers x.run k.run (older k.sigs x.run x.callers l) (inl l);
       callers = waits_fewer (others k.sigs) x.callers (older k.sigs x.run x.callers l) k.callers;
-      claim = tt;
+      claim = turns n k.sigs x (frames_length t few n k.sigs x.frames (x.run ∷ x.callers) k.frames) k.claim (inl l);
     }
 
     -- an execution that has not begun
@@ -279,8 +292,8 @@ module _ (t : Table) (few : Few) (numbers : Ty → ℕ → Bool) where
     no_waits gs [] e = tt
     no_waits gs (c ∷ cs) e = absurd (cc)
 
-    fresh_fewer : (x : Execution (List Todo) Value) → KnowsEx t few n x → FreshLasts t few numbers x → KnowsEx t less n x
-    fresh_fewer x k l = record {
+    fresh_fewer : (Q R : Exec → List Sig → Ex → Type 0) → Turns Q R → (x : Ex) → ClaimsEx t few Q n x → FreshLasts t few numbers x → ClaimsEx t less R n x
+    fresh_fewer Q R turns x k l = record {
       sigs = k.sigs;
       frames = blank_frames k.sigs x.frames (x.run ∷ x.callers) l.frames k.frames;
       run = record {
@@ -295,21 +308,24 @@ module _ (t : Table) (few : Few) (numbers : Ty → ℕ → Bool) where
         ends = k.run.ends;
       };
       callers = no_waits (others k.sigs) x.callers l.callers;
-      claim = tt;
+      claim = turns n k.sigs x (frames_length t few n k.sigs x.frames (x.run ∷ x.callers) k.frames) k.claim (inr l);
     }
 
-    by_fewer : (g : Stage) (x : Execution (List Todo) Value) → KnowsBy t few n g x → HandLasts t few numbers g n x → KnowsBy t less n g x
-    by_fewer Fresh x k (inl l) = fresh_fewer x k l
-    by_fewer Fresh x k (inr l) = ex_fewer x k (l k)
-    by_fewer Started x k l = ex_fewer x k (l k)
-    by_fewer Ended x k l = tt
+    by_fewer : (Q R : Exec → List Sig → Ex → Type 0) → Turns Q R → (g : Stage) (x : Ex) → ClaimsBy t few Q n g x → HandLasts t few numbers g n x → ClaimsBy t less R n g x
+    by_fewer Q R turns Fresh x k (inl l) = fresh_fewer Q R turns x k l
+    by_fewer Q R turns Fresh x k (inr l) = ex_fewer Q R turns x k (l (ex_plain t few Q n x k))
+    by_fewer Q R turns Started x k l = ex_fewer Q R turns x k (l (ex_plain t few Q n x k))
+    by_fewer Q R turns Ended x k l = tt
 
   module _ (keeps : KeepsOthers t few numbers) where
-    pub slot_fewer : (n : Exec) (x : Execution (List Todo) Value) → KnowsSlot t few n x → ExLasts t few numbers n x → KnowsSlot t less n x
-    slot_fewer n x k l = by_fewer keeps n x.links.stage x k l.hand
+    slot_claims : (Q R : Exec → List Sig → Ex → Type 0) → Turns Q R → (n : Exec) (x : Ex) → ClaimsSlot t few Q n x → ExLasts t few numbers n x → ClaimsSlot t less R n x
+    slot_claims Q R turns n x k l = by_fewer keeps n Q R turns x.links.stage x k l
+
+    env_claims : (Q R : Exec → List Sig → Ex → Type 0) → Turns Q R → (e : Env) → ClaimsEnv t few Q e → EnvBy (ExLasts t few numbers) e → ClaimsEnv t less R e
+    env_claims Q R turns e k l = both_env (ClaimsSlot t few Q) (ExLasts t few numbers) (ClaimsSlot t less R) (λ n x h i. slot_claims Q R turns n x h i) e k l
 
     pub env_fewer : (e : Env) → EnvBy (KnowsSlot t few) e → EnvBy (ExLasts t few numbers) e → EnvBy (KnowsSlot t less) e
-    env_fewer e k l = both_env (KnowsSlot t few) (ExLasts t few numbers) (KnowsSlot t less) (λ n x h i. slot_fewer n x h i) e k l
+    env_fewer e k l = env_claims Anything Anything (λ n gs x same h i. tt) e k l
 
     pub state_fewer : (given : List Ty) (s : State) → EnvBy (ExLasts t few numbers) s.env → (x : KnowsState t few given s) → RunLasts t few numbers given s x → KnowsState t less given s
     state_fewer given s e x l = record {
@@ -322,58 +338,133 @@ module _ (t : Table) (few : Few) (numbers : Ty → ℕ → Bool) where
 
   -- what is in scope
 
-  module _ (keeps : KeepsOthers t few numbers) (n : Exec) (f : ℕ) (this : Value) (cs : List Active) where
-    abbrev Before : List Todo → Value → Ty → Type 0
-    Before todo v c = InTodo (IsFor t (Frame n f) this) (AtField t (Frame n f) this) todo v c ⊎ Outer t few n cs v c
+  module _ (keeps : KeepsOthers t few numbers) (K : BehindMark) (n : Exec) (L : Value → Ty → Type 0) (lasts : Lasts t few numbers L) where
+    module _ (f : ℕ) (this : Value) (cs : List Active) (others : (c : CleanUp) (todo : List Todo) (v : Value) (e : Ty) → K (Outwards t few n f this cs c todo) n f this cs v e → Outwards t few n f this cs c todo v e ⊎ L v e) where
+      abbrev Before : List Todo → Value → Ty → Type 0
+      Before todo v e = InTodo (IsFor t (Frame n f) this) (AtField t (Frame n f) this) todo v e ⊎ Outer t few n cs v e
 
-    abbrev ScopesIn : List Todo → Type 0
-    ScopesIn todo = (w : Value) (a : Ty) → InTodo (AtVariable t (Frame n f) this) (Nowhere (Frame n f) this) todo w a → Lasts t few numbers (Before todo)
+      mark_fewer : (vs : List Value) (k : Sort) (todo : List Todo) (A B : Type 0) → ((v : Value) (e : Ty) → Marks (IsFor t (Frame n f) this) (AtField t (Frame n f) this) k v e (InTodo (IsFor t (Frame n f) this) (AtField t (Frame n f) this) todo v e) ⊎ Outer t few n cs v e → L v e) → (Less t few n (Before todo) L → A → B) → MarkHoldsBy t few K n vs f this cs k todo A → MarkHoldsBy t less K n vs f this cs k todo B
+      mark_fewer vs (piece.IsClean c) todo A B more next h =
+          ((λ j a x p b w i. known_fewer keeps n (K (Outwards t few n f this cs c todo) n f this cs) (lasts_less n (K (Outwards t few n f this cs c todo) n f this cs) L (λ v e y. ⊎_elim (λ z. more v e z) (λ z. z) (others c todo v e y)) lasts) b _ (h.0 j a x p b w i)), next (λ v e y. more v e (⊎_elim (λ z. inl (inr z)) (λ z. inr z) y)) h.1)
+      mark_fewer vs (piece.IsPart c) todo A B more next h = next (λ v e y. more v e (⊎_elim (λ z. inl (inr z)) (λ z. inr z) y)) h
+      mark_fewer vs piece.Simple todo A B more next h = next more h
+      mark_fewer vs (piece.IsLoop o e x b) todo A B more next h = next more h
+      mark_fewer vs piece.IsWhole todo A B more next h = next more h
+      mark_fewer vs (piece.IsFill m b d) todo A B more next h = next more h
+      mark_fewer vs (piece.IsSweep e) todo A B more next h = next more h
+      mark_fewer vs (piece.IsGuard hs) todo A B more next h = next more h
+      mark_fewer vs piece.IsFinish todo A B more next h = next more h
+      mark_fewer vs piece.IsFinishCoroutine todo A B more next h = next more h
 
-    mark_fewer : (vs : List Value) (s : Sort) (todo : List Todo) → ((w : Value) (a : Ty) → Marks (AtVariable t (Frame n f) this) (Nowhere (Frame n f) this) s w a (InTodo (AtVariable t (Frame n f) this) (Nowhere (Frame n f) this) todo w a) → Lasts t few numbers (λ v c. Marks (IsFor t (Frame n f) this) (AtField t (Frame n f) this) s v c (InTodo (IsFor t (Frame n f) this) (AtField t (Frame n f) this) todo v c) ⊎ Outer t few n cs v c)) → (ScopesIn todo → AllHold t few n vs f this cs todo → AllHold t less n vs f this cs todo) → MarkHolds t few n vs f this cs s todo (AllHold t few n vs f this cs todo) → MarkHolds t less n vs f this cs s todo (AllHold t less n vs f this cs todo)
-    mark_fewer vs (piece.IsClean c) todo l next h =
-        ((λ k a x p b w i. known_fewer keeps n (Outwards t few n f this cs c todo) (lasts_less n (Outwards t few n f this cs c todo) _ (λ v e y. outer v e y) (l (Place (Frame n f) (Slot k ∷ [])) a (inl (k, x, refl)))) b _ (h.0 k a x p b w i)), next (λ w a m. lasts_less n (Before todo) _ (λ v e y. inner v e y) (l w a (inr m))) h.1)
-      where
-        outer : (v : Value) (e : Ty) → Outwards t few n f this cs c todo v e → (IsFor t (Frame n f) this c v e ⊎ InTodo (IsFor t (Frame n f) this) (AtField t (Frame n f) this) todo v e) ⊎ Outer t few n cs v e
-        outer v e y = y
+      holds_fewer : (vs : List Value) (todo : List Todo) → Less t few n (Before todo) L → AllHoldBy t few K n vs f this cs todo → AllHoldBy t less K n vs f this cs todo
+      holds_fewer vs [] more h = tt
+      holds_fewer vs (p ∷ todo) more h = mark_fewer vs (piece.sort p) todo _ _ more (λ more h. holds_fewer vs todo more h) h
 
-        inner : (v : Value) (e : Ty) → Before todo v e → (IsFor t (Frame n f) this c v e ⊎ InTodo (IsFor t (Frame n f) this) (AtField t (Frame n f) this) todo v e) ⊎ Outer t few n cs v e
-        inner v e (inl y) = inl (inr y)
-        inner v e (inr y) = inr y
-    mark_fewer vs (piece.IsPart c) todo l next h = next (λ w a m. lasts_less n (Before todo) _ (λ v e y. inner v e y) (l w a (inr m))) h
-      where
-        inner : (v : Value) (e : Ty) → Before todo v e → (AtField t (Frame n f) this c v e ⊎ InTodo (IsFor t (Frame n f) this) (AtField t (Frame n f) this) todo v e) ⊎ Outer t few n cs v e
-        inner v e (inl y) = inl (inr y)
-        inner v e (inr y) = inr y
-    mark_fewer vs piece.Simple todo l next h = next l h
-    mark_fewer vs (piece.IsLoop o e x b) todo l next h = next l h
-    mark_fewer vs piece.IsWhole todo l next h = next l h
-    mark_fewer vs (piece.IsFill m b d) todo l next h = next l h
-    mark_fewer vs (piece.IsSweep e) todo l next h = next l h
-    mark_fewer vs (piece.IsGuard hs) todo l next h = next l h
-    mark_fewer vs piece.IsFinish todo l next h = next l h
-    mark_fewer vs piece.IsFinishCoroutine todo l next h = next l h
+    stack_fewer : (fs : List (List Value)) (cs : List Active) → AllBehind t n few K L cs → Less t few n (Around t few n cs) L → LifeStackBy t few K n fs cs → LifeStackBy t less K n fs cs
+    stack_fewer fs [] others more h = tt
+    stack_fewer fs (c ∷ older) others more h =
+        (h.0, holds_fewer c.frame c.this older others.0 (frame_at c.frame fs) c.control more h.1, stack_fewer fs older others.1 (λ v e y. more v e (inr (around_outer t few n older v e y))) h.2)
 
-    holds_fewer : (vs : List Value) (todo : List Todo) → ScopesIn todo → AllHold t few n vs f this cs todo → AllHold t less n vs f this cs todo
-    holds_fewer vs [] l h = tt
-    holds_fewer vs (p ∷ todo) l h = mark_fewer vs (piece.sort p) todo l (λ l h. holds_fewer vs todo l h) h
+  -- where nothing but numbers stands in frames nothing is bound
 
-  stack_fewer : KeepsOthers t few numbers → (n : Exec) (fs : List (List Value)) (cs : List Active) → ScopesLast t few numbers n cs → LifeStack t few n fs cs → LifeStack t less n fs cs
-  stack_fewer keeps n fs [] l h = tt
-  stack_fewer keeps n fs (a ∷ older) l h =
-      (h.0, holds_fewer keeps n a.frame a.this older _ a.control (λ w b m. l w b (inl m)) h.1, stack_fewer keeps n fs older (λ w b m. lasts_less n (Around t few n older) (Around t few n (a ∷ older)) (λ v e x. inr (around_outer t few n older v e x)) (l w b (inr m))) h.2)
+  frame_numbers : (fs : List (List Value)) (f : ℕ) → FramesNumbers fs → AllNumbers (frame_at f fs)
+  frame_numbers [] f z = tt
+  frame_numbers (x ∷ fs) f z = either (λ o. AllNumbers (list_in o)) (nat_eq f (length fs)) (Some x) (at_depth fs f) z.0 (frame_numbers fs f z.1)
 
-  pub life_ex_fewer : KeepsOthers t few numbers → (n : Exec) (x : Execution (List Todo) Value) → LifeEx t few n x → ExLasts t few numbers n x → LifeEx t less n x
-  life_ex_fewer keeps n x h l = record { frames = h.frames; stack = stack_fewer keeps n x.frames (x.run ∷ x.callers) l.scopes h.stack }
+  at_number : (P : Value → Type 0) → ((i : ℤ) → P (Number i)) → (vs : List Value) (k : ℕ) → AllNumbers vs → P (slice_index_or vs k nought)
+  at_number P f [] k z = f _
+  at_number P f (Number i ∷ vs) zero z = f i
+  at_number P f (Number i ∷ vs) (suc k) z = at_number P f vs k z
+  at_number P f (Place o p ∷ vs) k z = absurd z
+  at_number P f (Running x ∷ vs) k z = absurd z
+  at_number P f (Object o ∷ vs) k z = absurd z
+  at_number P f (Nothing ∷ vs) k z = absurd z
 
-  pub life_fewer : KeepsOthers t few numbers → (s : State) → TaskLasts t few numbers s → LifeState t few s → LifeState t less s
-  life_fewer keeps s l h = record {
-    frames = h.frames;
-    stack = stack_fewer keeps s.env.exec s.env.frames (s.run ∷ s.callers) l.scopes h.stack;
-    env = both_env (LifeEx t few) (ExLasts t few numbers) (LifeEx t less) (λ n x h i. life_ex_fewer keeps n x h i) s.env h.env l.env;
-  }
+  module _ (keeps : KeepsOthers t few numbers) (K : BehindMark) (n : Exec) where
+    module _ (f : ℕ) (this : Value) (cs : List Active) (vs : List Value) (z : AllNumbers vs) where
+      mark_blank : (k : Sort) (todo : List Todo) (A B : Type 0) → (A → B) → MarkHoldsBy t few K n vs f this cs k todo A → MarkHoldsBy t less K n vs f this cs k todo B
+      mark_blank (piece.IsClean c) todo A B next h =
+          ((λ j a x p b w i. at_number (λ v. Known t few n (K (Outwards t few n f this cs c todo) n f this cs) b v → Known t less n (K (Outwards t few n f this cs c todo) n f this cs) b v) (λ y. number_fewer keeps n (K (Outwards t few n f this cs c todo) n f this cs) b y) vs (address p) z (h.0 j a x p b w i)), next h.1)
+      mark_blank (piece.IsPart c) todo A B next h = next h
+      mark_blank piece.Simple todo A B next h = next h
+      mark_blank (piece.IsLoop o e x b) todo A B next h = next h
+      mark_blank piece.IsWhole todo A B next h = next h
+      mark_blank (piece.IsFill m b d) todo A B next h = next h
+      mark_blank (piece.IsSweep e) todo A B next h = next h
+      mark_blank (piece.IsGuard hs) todo A B next h = next h
+      mark_blank piece.IsFinish todo A B next h = next h
+      mark_blank piece.IsFinishCoroutine todo A B next h = next h
+
+      holds_blank : (todo : List Todo) → AllHoldBy t few K n vs f this cs todo → AllHoldBy t less K n vs f this cs todo
+      holds_blank [] h = tt
+      holds_blank (p ∷ todo) h = mark_blank (piece.sort p) todo _ _ (holds_blank todo) h
+
+    stack_blank : (fs : List (List Value)) (cs : List Active) → FramesNumbers fs → LifeStackBy t few K n fs cs → LifeStackBy t less K n fs cs
+    stack_blank fs [] z h = tt
+    stack_blank fs (c ∷ older) z h =
+        (h.0, holds_blank c.frame c.this older (frame_at c.frame fs) (frame_numbers fs c.frame z) c.control h.1, stack_blank fs older z h.2)
+
+    -- no scope is open where an activation only comes to its end
+    silent : (vs : List Value) (f : ℕ) (this : Value) (cs : List Active) (todo : List Todo) → AllSilent todo → AllHoldBy t less K n vs f this cs todo
+    silent vs f this cs [] s = tt
+    silent vs f this cs (piece.Within line ∷ todo) s = silent vs f this cs todo s
+    silent vs f this cs (piece.Exit w ∷ todo) s = silent vs f this cs todo s
+    silent vs f this cs (piece.NoReturnNow ∷ todo) s = silent vs f this cs todo s
+    silent vs f this cs (piece.Unwind ∷ todo) s = silent vs f this cs todo s
+    silent vs f this cs (piece.ChildNow r ∷ todo) s = silent vs f this cs todo s
+    silent vs f this cs (piece.Finish ∷ todo) s = silent vs f this cs todo s
+    silent vs f this cs (piece.FinishCoroutine ∷ todo) s = silent vs f this cs todo s
+    silent vs f this cs (p ∷ todo) s = absurd s
+
+  -- what variables in scope hold, by the kinds of frames
+
+  module _ (keeps : KeepsOthers t few numbers) where
+    at_hand_fewer : (n : Exec) (gs : List Sig) (fs : List (List Value)) (cs : List Active) → length cs ≤ length gs → Lasts t few numbers (AtHand t few n gs cs) → LifeStackBy t few (OutwardsOrMade gs) n fs cs → LifeStackBy t less (OutwardsOrMade gs) n fs cs
+    at_hand_fewer n gs fs cs l lasts h =
+        stack_fewer keeps (OutwardsOrMade gs) n (AtHand t few n gs cs) lasts fs cs (made_behind t few n gs (AtHand t few n gs cs) cs (λ w a m. inr (inl (making_here t few gs cs w a (below t few (OutwardsOrMade gs) n fs cs h) l m)))) (around_hand t few n gs cs) h
+
+    -- of those that wait, by what they have at hand
+    waits_lives : (n : Exec) (gs : List Sig) (fs : List (List Value)) (cs : List Active) → length cs ≤ length (others gs) → Lasts t few numbers (AtHand t few n (others gs) cs) → LifeStackBy t few (OutwardsOrMade gs) n fs cs → LifeStackBy t less (OutwardsOrMade gs) n fs cs
+    waits_lives n gs fs cs l lasts h =
+        let b = below t few (OutwardsOrMade gs) n fs cs h in
+        stack_fewer keeps (OutwardsOrMade gs) n (AtHand t few n (others gs) cs) lasts fs cs (made_behind t few n gs (AtHand t few n (others gs) cs) cs (λ w a m. inr (inl (making_here t few (others gs) cs w a b l (in_older t few gs cs w a b l m))))) (around_hand t few n (others gs) cs) h
+
+    pub lives_fewer : Turns (Lives t few) (Lives t less)
+    lives_fewer n gs x same h (inl l) = record {
+      frames = h.frames;
+      stack = let f = h.frames in at_hand_fewer n gs x.frames (x.run ∷ x.callers) (omega (arith, same, f)) l h.stack;
+    }
+    lives_fewer n gs x same h (inr l) = record { frames = h.frames; stack = stack_blank keeps (OutwardsOrMade gs) n x.frames (x.run ∷ x.callers) l.frames h.stack }
+
+    running_lives : (n : Exec) (gs : List Sig) (x : Ex) → length x.frames ≡ length gs → Lives t few n gs x → Lasts t few numbers (AtHand t few n (others gs) x.callers) → Lasts t few numbers (AtHand t few n gs (x.run ∷ x.callers)) ⊎ AllSilent x.run.control → Lives t less n gs x
+    running_lives n gs x same h w (inl l) = lives_fewer n gs x same h (inl l)
+    running_lives n gs x same h w (inr s) = record {
+      frames = h.frames;
+      stack = let f = h.frames in (h.stack.0, silent keeps (OutwardsOrMade gs) n (frame_at x.run.frame x.frames) x.run.frame x.run.this x.callers x.run.control s, waits_lives n gs x.frames x.callers (others_le gs (length x.callers) (omega (arith, same, f))) w h.stack.2);
+    }
+
+    -- all is known then by kinds by which they hold what is known
+    pub slot_lives : (n : Exec) (x : Ex) → ClaimsSlot t few (Lives t few) n x → ExLasts t few numbers n x → ClaimsSlot t less (Lives t less) n x
+    slot_lives n x k l = slot_claims keeps (Lives t few) (Lives t less) lives_fewer n x k l
+
+    pub env_lives : (e : Env) → ClaimsEnv t few (Lives t few) e → EnvBy (ExLasts t few numbers) e → ClaimsEnv t less (Lives t less) e
+    env_lives e k l = env_claims keeps (Lives t few) (Lives t less) lives_fewer e k l
+
+    pub state_lives : (given : List Ty) (s : State) → EnvBy (ExLasts t few numbers) s.env → ((k : KnowsState t few given s) → RunLasts t few numbers given s k) → Claimed (Lives t few) t few given s → Claimed (Lives t less) t less given s
+    state_lives given s e l x =
+        let r = l (plain t few (Lives t few) given s x.0) in (
+          record {
+            sigs = x.0.sigs;
+            frames = top_frames keeps s.env.exec x.0.sigs s.env.frames s.run s.callers r.waiting x.0.frames;
+            run = active_fewer keeps s.env.exec x.0.sigs given s.callers s.run x.0.run r.waiting r.operands;
+            callers = waits_fewer keeps s.env.exec (others x.0.sigs) s.callers r.waiting x.0.callers;
+            env = env_lives s.env x.0.env e;
+          },
+          running_lives s.env.exec x.0.sigs (stopped s) (frames_length t few s.env.exec x.0.sigs s.env.frames (s.run ∷ s.callers) x.0.frames) x.1 r.waiting r.operands,
+        )
 
 pub law_fewer : LawFewer
 law_fewer = record {
-  life = λ t few numbers keeps s l h. life_fewer t few numbers keeps s l h;
-  knows = λ t few numbers keeps given s l x r. state_fewer t few numbers keeps given s l.env x r;
+  lives = λ t few numbers keeps given s l x r. state_lives t few numbers keeps given s l r x;
+  knows = λ t few numbers keeps given s l x r. state_fewer t few numbers keeps given s l x r;
 }

@@ -13,8 +13,8 @@ use Rattle.uc_typing.specs.Typing.{Ty, Num, Cell, Sig, Table, object_ty, InScope
 use Rattle.uc_typing.specs.Pieces.{Ok}
 use Rattle.uc_typing.specs.States.{Is, IsObject, IsThis, Values, Bound, Framed, Active_is, Waits, Rests, RestsBy, MaybeRests, Parked, Inhand, Typed, ReadsVariable, ReadsPlace, Sound}
 use Rattle.uc_life_laws.specs.Things.{Few, itself, Variables, Known}
-use Rattle.uc_life_laws.specs.LifeStates.{SlotBy, ParkedBy, HandBy, LifeState}
-use Rattle.uc_life_laws.specs.Knowing.{Anything, AtHand, KnownAll, KnownParams, KnownFrames, KnownThis, Knows, KnowsWaits, KnowsEx, KnowsBy, KnowsSlot, KnowsState, Here, FindsExpr, Finds}
+use Rattle.uc_life_laws.specs.LifeStates.{SlotBy, ParkedBy, HandBy}
+use Rattle.uc_life_laws.specs.Knowing.{Anything, AtHand, KnownAll, KnownParams, KnownFrames, KnownThis, Knows, KnowsWaits, KnowsEx, KnowsBy, KnowsSlot, KnowsState, Here, VariablesKnown, FindsExpr, Finds}
 use Rattle.uc_life_laws.specs.Following.{LawFollowing}
 use Rattle.uc_life_laws.proofs.Parked.{Ex}
 use Rattle.uc_life_laws.proofs.Knowns.{known_is, newest}
@@ -105,14 +105,14 @@ module _ (t : Table) (few : Few) where
 
   -- what is read
 
-  module _ (source : Source) (sound : Sound t source) (s : State) (st : LifeState t few s) (x : KnowsState t few [] s) where
+  module _ (source : Source) (sound : Sound t source) (s : State) (x : KnowsState t few [] s) (st : VariablesKnown t few x.sigs s) where
     K : Value → Ty → Type 0
     K = Here t few x.sigs s
 
     of_variable : (k : ℕ) (a : Ty) → InScope x.run.scope k (Cell a) → Is t a (loaded (variable_at k s) s.env)
     of_variable k a i =
         let m : Variables t s.env.exec (s.run ∷ s.callers) (variable_at k s) (Cell a) = reading.scope_at t s.env.exec x.run.sig k (Cell a) s.run s.callers x.run.base x.run.scope x.run.own x.run.ok x.run.ends i in
-        known_is t few s.env.exec (Here t few x.sigs s) a (loaded (variable_at k s) s.env) (reading.variable_read t few s st x.sigs (variable_at k s) (Cell a) s.run.frame (Slot k ∷ []) a (reading.is_binding t s.env.exec (variable_at k s) a (s.run ∷ s.callers) m) m itself)
+        known_is t few s.env.exec (Here t few x.sigs s) a (loaded (variable_at k s) s.env) (st (variable_at k s) (Cell a) s.run.frame (Slot k ∷ []) a (reading.is_binding t s.env.exec (variable_at k s) a (s.run ∷ s.callers) m) m itself)
 
     by_name : (todo : List Todo) → ReadsVariable t x.run.scope s todo
     by_name [] = tt
@@ -129,10 +129,10 @@ module _ (t : Table) (few : Few) where
         let same : y.0 ≡ c = cc in
         let same_ty : b ≡ a = cell_same b a (y.3 ∙ (ap (λ d. t.fields d i) same ∙ sym e)) in
         let placed : IsPlaced t (t.fields y.0 i) = subst (IsPlaced t) y.3 tt in
-        let to = evaluating.to t few Anything anything_kept source sound s st x.sigs x.run.sig x.run.base x.run.scope x.frames x.run.frame x.run.this x.callers x.env x.run.ends (pc.Eval (OfObject (GetOwn k i)) ∷ todo) q in
-        let from = evaluating.from t few Anything anything_kept source sound s st x.sigs x.run.sig x.run.base x.run.scope x.frames x.run.frame x.run.this x.callers x.env x.run.ends (pc.Eval (OfObject (GetOwn k i)) ∷ todo) q in
-        let place = subst (λ d. Known t few s.env.exec (With t few s x.sigs todo) d (further (FieldAt k i) s.run.this)) (sym y.3) (evaluating.own_field t few Anything anything_kept source sound s st x.sigs x.run.sig x.run.base x.run.scope x.frames x.run.frame x.run.this x.callers x.env x.run.ends todo y.0 k i y.1 y.2 placed) in
-        subst (λ d. Is t d (loaded (further (FieldAt k i) s.run.this) s.env)) same_ty (known_is t few s.env.exec (With t few s x.sigs todo) b (loaded (further (FieldAt k i) s.run.this) s.env) (evaluating.read_at t few Anything anything_kept source sound s st x.sigs x.run.sig x.run.base x.run.scope x.frames x.run.frame x.run.this x.callers x.env x.run.ends todo to from b (further (FieldAt k i) s.run.this) place (f b y)))
+        let to = evaluating.to t few Anything anything_kept source sound s x.sigs st x.run.sig x.run.base x.run.scope x.frames x.run.frame x.run.this x.callers x.env x.run.ends (pc.Eval (OfObject (GetOwn k i)) ∷ todo) q in
+        let from = evaluating.from t few Anything anything_kept source sound s x.sigs st x.run.sig x.run.base x.run.scope x.frames x.run.frame x.run.this x.callers x.env x.run.ends (pc.Eval (OfObject (GetOwn k i)) ∷ todo) q in
+        let place = subst (λ d. Known t few s.env.exec (With t few s x.sigs todo) d (further (FieldAt k i) s.run.this)) (sym y.3) (evaluating.own_field t few Anything anything_kept source sound s x.sigs st x.run.sig x.run.base x.run.scope x.frames x.run.frame x.run.this x.callers x.env x.run.ends todo y.0 k i y.1 y.2 placed) in
+        subst (λ d. Is t d (loaded (further (FieldAt k i) s.run.this) s.env)) same_ty (known_is t few s.env.exec (With t few s x.sigs todo) b (loaded (further (FieldAt k i) s.run.this) s.env) (evaluating.read_at t few Anything anything_kept source sound s x.sigs st x.run.sig x.run.base x.run.scope x.frames x.run.frame x.run.this x.callers x.env x.run.ends todo to from b (further (FieldAt k i) s.run.this) place (f b y)))
 
     of_own : (e : Expr) (todo : List Todo) (own : List Ty) → s.run.control ≡ pc.Eval e ∷ todo → ((a : Ty) → Yields t x.run.sig x.run.scope e a → FindsExpr t few x.sigs x.run.sig x.run.scope s e a) → (b : Ty) → Yields t x.run.sig x.run.scope e b → ReadsPlace t x.run.sig s (pc.Eval e ∷ todo) own
     of_own (OfObject (GetOwn k i)) todo own q f b y = λ r c a n e. of_field k i todo q f b y c a n e
@@ -142,7 +142,7 @@ module _ (t : Table) (few : Few) where
     at_place : (todo : List Todo) (own : List Ty) → s.run.control ≡ todo → Finds t few x.sigs x.run.sig x.run.scope s todo own → Ok t x.run.sig x.run.base x.run.scope todo own → KnownAll t few s.env.exec (Here t few x.sigs s) own s.run.operands → ReadsPlace t x.run.sig s todo own
     at_place [] own q f o h = tt
     at_place (pc.LoadNow ∷ todo) (Cell a ∷ own) q f o h =
-        λ r. known_is t few s.env.exec (Here t few x.sigs s) a (loaded (top s.run.operands) s.env) (reading.load_known t few s st x.sigs a (top s.run.operands) (newest t few s.env.exec (Here t few x.sigs s) (Cell a) own s.run.operands h) f)
+        λ r. known_is t few s.env.exec (Here t few x.sigs s) a (loaded (top s.run.operands) s.env) (reading.load_known t few s x.sigs st a (top s.run.operands) (newest t few s.env.exec (Here t few x.sigs s) (Cell a) own s.run.operands h) f)
     at_place (pc.LoadNow ∷ todo) own q f o h = tt
     at_place (pc.Eval e ∷ todo) own q f o h = of_own e todo own q f o.0 o.1
     at_place (p ∷ todo) own q f o h = tt
@@ -151,6 +151,6 @@ pub law_following : LawFollowing
 unfolding state_typed active_typed
 law_following = record {
   typed = λ t few given s x. state_typed t few given s x;
-  reads = λ t few source sound s st x f y.
-      (state_typed t few [] s x, (by_name t few source sound s st x s.run.control, at_place t few source sound s st x s.run.control x.run.own refl f x.run.ok x.run.values));
+  reads = λ t few source sound s x st f y.
+      (state_typed t few [] s x, (by_name t few source sound s x st s.run.control, at_place t few source sound s x st s.run.control x.run.own refl f x.run.ok x.run.values));
 }

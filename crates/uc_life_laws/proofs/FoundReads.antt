@@ -24,7 +24,8 @@ use Rattle.uc_life_laws.specs.NamedRuns.{ComesNamed}
 use Rattle.uc_life_laws.specs.Things.{Few, numbered, is_outside, Within, itself, field, element, AtVariable, AtField, IsFor, Marks, InTodo, InStack, NoBase, Base, Things, OwnFields, LiesIn, IsFew, Known, Holds, Held, lies}
 use Rattle.uc_life_laws.specs.LifeStates.{frame_at, Outwards, OpensAt}
 use Rattle.uc_life_laws.specs.Opened.{ObjectsHold}
-use Rattle.uc_life_laws.specs.Knowing.{IsOwn, Here, KnowsState, ReadsKnown, IsStill, FindsObject, FindsExpr, Finds, HasObject}
+use Rattle.uc_life_laws.specs.Lives.{LivesState}
+use Rattle.uc_life_laws.specs.Knowing.{IsOwn, Here, ReadsKnown, IsStill, FindsObject, FindsExpr, Finds, HasObject}
 use Rattle.uc_life_laws.proofs.Reading.{exec_is}
 use Rattle.uc_life_laws.proofs.LifeSteps.{exec_same}
 use Rattle.uc_life_laws.specs.FoundReads.{OwnMarks, IsRightAs, HoldsRight, VariableRight, OpensRightAt, ObjectsRight, IsFound, ReadsFound, ReadsAt, Reads}
@@ -253,10 +254,10 @@ module _ (t : Table) (numbers : Ty → ℕ → Bool) where
       finds control own e o h = tt
 
   -- by some typing, then, a step finds what it is to find
-  pub found : (source : Source) (sound : Sound t source) (s : State) → SetsUpNew source s → Reads t few s → (x : KnowsState t few [] s) × Finds t few x.sigs x.run.sig x.run.scope s s.run.control x.run.own
+  pub found : (source : Source) (sound : Sound t source) (s : State) → SetsUpNew source s → Reads t few s → (x : LivesState t few s) × Finds t few x.0.sigs x.0.run.sig x.0.run.scope s s.run.control x.0.run.own
   found source sound s new h =
       let x = h.0 in
-      (x, finds x.sigs s source sound new x.run.sig x.run.base x.run.scope s.run.control x.run.own refl x.run.ok h.1)
+      (x, finds x.0.sigs s source sound new x.0.run.sig x.0.run.base x.0.run.scope s.run.control x.0.run.own refl x.0.run.ok h.1)
 
 -- where numbers are not tested, objects hold what is known
 pub objects_hold : (t : Table) (c : CleanUp) (todo : List Todo) (s : State) → ObjectsRight t c todo s → ObjectsHold t c todo s

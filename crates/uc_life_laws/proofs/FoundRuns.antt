@@ -19,11 +19,15 @@ use Rattle.uc_life_laws.proofs.NamedAsks.{asked_by}
 use Rattle.uc_life_laws.specs.FoundReads.{FoundOutside, ObjectsFoundOutside}
 use Rattle.uc_life_laws.specs.FoundRuns.{AllIsFound, LawFound, LawFoundObjects, LawNamesMade}
 use Rattle.uc_life_laws.proofs.FoundReads.{SetsUpNew, opens_at, objects_hold, found}
+use Rattle.uc_life_laws.proofs.LivesLemmas.{opens_lives}
 use Rattle.uc_life_laws.proofs.Walking.{all_found}
 
 module _ (t : Table) (source : Source) (sound : Sound t source) where
   meets : (numbers : Ty → ℕ → Bool) (n : ℕ) (s : State) → SetsUpNew source s → FoundOutside t numbers n s → MeetsOutside t (numbered numbers) n s
-  meets numbers zero s new h = λ life x. let f = h life x in (opens_at t numbers s s.run.control f.0, found t numbers source sound s new f.1)
+  meets numbers zero s new h = λ x.
+      let f = h x in
+      let y = found t numbers source sound s new f.1 in
+      (y.0, (y.1, opens_lives t (numbered numbers) y.0.0.sigs s s.run.control (opens_at t numbers s s.run.control f.0)))
   meets numbers (suc n) s new h = tt
 
   objects : (n : ℕ) (s : State) → SetsUpNew source s → ObjectsFoundOutside t source n s → ObjectsOutside t source n s

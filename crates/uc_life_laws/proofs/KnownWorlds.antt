@@ -1,16 +1,21 @@
 -- In every run in which each step finds what it is to find, all is known that each execution can come by.
-use Rattle.std.proofs.Common.{◌≡◌, ℕ, ◌<◌, inl, Bool, true, false, Option, Some, None, refl, subst}
+use Rattle.std.proofs.Common.{◌≡◌, ℕ, ◌<◌, inl, Bool, true, false, List, [], ◌∷◌, Option, Some, None, refl, sym, subst}
+use Rattle.std.specs.Prelude.{slice_get}
 use Rattle.std.proofs.lemmas.Bool.{lt-ltb, ltb-true}
-use Rattle.uc_tree.specs.Source.{Source}
+use Rattle.uc_tree.specs.Source.{Source, Routine}
 use Rattle.uc_entry.specs.declared.entry.Options.{Options}
 use Rattle.uc_entry.specs.declared.request.Request.{Request}
 use Rattle.uc_entry.specs.declared.request.Request.TheVariants as ask
 use Rattle.uc_acts.specs.Journal.{Journal}
 use Rattle.uc_acts.specs.Known.{object_count}
 use Rattle.uc_acts.specs.Queues.{cluster_count, processor_count}
-use Rattle.uc_machine.specs.Quiet.{State}
-use Rattle.uc_machine.specs.Answering.{answered}
-use Rattle.uc_meaning.specs.Runs.{drawn}
+use Rattle.uc_machine.specs.declared.exec.Exec.{Exec}
+use Rattle.uc_machine.specs.declared.exec.Home.TheVariants as home
+use Rattle.uc_machine.specs.Switches.{stopped}
+use Rattle.uc_machine.specs.Pieces.{Value, Object}
+use Rattle.uc_machine.specs.Quiet.{State, Members, fresh, quiet}
+use Rattle.uc_machine.specs.Answering.{answered, child_main, with_operand, entered}
+use Rattle.uc_meaning.specs.Runs.{World, drawn}
 use Rattle.uc_state_laws.proofs.Others.{run_rests}
 use Rattle.uc_resolve.specs.Resolve.{source_of}
 use Rattle.uc_state_laws.specs.Layout.{Sized}
@@ -19,47 +24,88 @@ use Rattle.uc_state_laws.specs.RoomRuns.{Comes}
 use Rattle.uc_state_laws.proofs.StackWorlds as stacked
 use Rattle.uc_state_laws.proofs.Unreferring.{law_accepted}
 use Rattle.uc_state_laws.specs.Opens.{LeadsMeet}
-use Rattle.uc_typing.specs.Typing.{Ty, Obj, Table, object_ty}
+use Rattle.uc_typing.specs.Typing.{Ty, Obj, Sig, Table, object_ty}
 use Rattle.uc_typing.specs.States.{Sound, IsTask}
 use Rattle.uc_sound.specs.Sounds.{of_program}
 use Rattle.uc_sound.specs.Tables.{table_of}
 use Rattle.uc_sound.proofs.MainLemmas.{law_mains}
 use Rattle.uc_sound.proofs.SoundLemmas.{law_sound}
+use Rattle.uc_life_laws.specs.LifeStates.{MembersBy, EnvBy}
 use Rattle.uc_life_laws.specs.LifeRuns.{IsLaidOut}
-use Rattle.uc_life_laws.specs.Knowing.{KnowsSlot, KnowsState, KnowsStep, Names}
+use Rattle.uc_life_laws.specs.Kinds.{Claimed}
+use Rattle.uc_life_laws.specs.Lives.{OutwardsOrMade, Lives}
+use Rattle.uc_life_laws.specs.Knowing.{AtHand, ClaimsSlot, KnowsEnv, KnowsState, StepBy, Names, main_of}
 use Rattle.uc_life_laws.specs.KnownAnswers.{MainPasses}
-use Rattle.uc_life_laws.specs.KnownRuns.{PassesBelow, Meets, LawKnownRuns, is_made, NamesMade, LawNamed, made_by}
-use Rattle.uc_life_laws.proofs.KnownAnswers.{law_answers}
+use Rattle.uc_life_laws.specs.KnownRuns.{PassesBelow, Meets, RestBy, KnowsRest, LawKnownRuns, is_made, NamesMade, LawNamed, made_by}
+use Rattle.uc_life_laws.proofs.Parked.{Ex}
+use Rattle.uc_life_laws.proofs.KnownAnswers as answers
+use Rattle.uc_life_laws.proofs.KindsLemmas.{asked_more, env_plain, members_plain, plain}
+use Rattle.uc_life_laws.proofs.LifeSteps.{life_kept}
+use Rattle.uc_life_laws.proofs.LivesLemmas.{lives_kept, all_there, law_lives}
 use Rattle.uc_life_laws.proofs.WorldsBy as by
-use Rattle.uc_life_laws.proofs.WorldsBy.{KeepsBy}
+use Rattle.uc_life_laws.proofs.WorldsBy.{Beside, KeepsBy}
 pub use Rattle.uc_life_laws.proofs.WorldsBy.{earlier}
-use Rattle.uc_life_laws.proofs.KindsLemmas.{law_known}
 use Rattle.uc_life_laws.proofs.Laying.{laid_out}
-use Rattle.uc_life_laws.proofs.LifeWorlds.{stack_told}
+use Rattle.uc_life_laws.proofs.LifeWorlds.{stack_told, stack_led}
 use Rattle.uc_life_laws.proofs.NewNumbers.{some_object}
-use Rattle.uc_life_laws.specs.Things.{Few, numbered, lies, itself}
+use Rattle.uc_life_laws.specs.Things.{Few, Known, numbered, lies, itself}
+
+-- nothing stands beside what is known
+pub nothing_beside : (t : Table) (source : Source) (S : List Ty → State → Type 0) (M : State → Type 0) → Beside t source (λ s. Unit {0}) (λ w. Unit {0}) S M
+nothing_beside t source S M = record { steps = λ s clear m l x. all_there (quiet source s); acted = λ w a n s l k. tt; begun = tt; told = λ given j w n l. tt }
 
 -- all that is known
 
-module _ (t : Table) (few : Few) (source : Source) (sound : Sound t source) (main : IsTask t source.main) where
-  pub keeps_known : KeepsBy t few source (KnowsState t few) (KnowsSlot t few) (Meets t few)
-  keeps_known = record {
-    hand = λ given s x. x.env.hand;
-    handed = λ given hand s x h. record { sigs = x.sigs; frames = x.frames; run = x.run; callers = x.callers; env = record { house = x.env.house; hand = h } };
-    told = λ q a s x h p. law_answers.told t few source q a s x h p;
-    spawned = λ o n s x p. law_answers.spawned t few source sound o n s x p;
-    begins = λ p. law_answers.begins t few source sound source.main 0 main p;
-    opens = λ s m st x. (m st x).0;
-    steps = λ s m st x. let y = (m st x).1 in law_known t few source sound s st y.0 y.1;
+module _ (t : Table) (few : Few) where
+  abbrev pub S : List Ty → State → Type 0
+  S given s = Claimed (Lives t few) t few given s
+
+  abbrev pub P : Exec → Ex → Type 0
+  P n x = ClaimsSlot t few (Lives t few) n x
+
+  operand : (a : Ty) (given : List Ty) (v : Value) (s : State) → S (a ∷ given) s → ((gs : List Sig) → Known t few s.env.exec (AtHand t few s.env.exec gs (s.run ∷ s.callers)) a v) → S given (with_operand v s)
+  operand a given v s x i =
+      let y = answers.brought_claims t few (Lives t few) a given v s x.0 i in
+      (y.0, subst (λ gs. Lives t few s.env.exec gs (stopped (with_operand v s))) (sym y.1) (record { frames = x.1.frames; stack = (x.1.stack.0, x.1.stack.1, x.1.stack.2) }))
+
+  member : (given : List Ty) (m : Option Members) (o : ℕ) (s : State) → MembersBy P (home.Object o) m → S given s → S given (entered m o s)
+  member given None o s k x = x
+  member given (Some m) o s k x =
+      let y = answers.entered_claims t few (Lives t few) given (Some m) o s k x.0 in
+      (y.0, subst (λ gs. Lives t few s.env.exec gs (stopped (entered (Some m) o s))) (sym y.1) x.1)
+
+  -- what is claimed of a task at rest is forgotten
+  pub rest_plain : (source : Source) (j : Journal) (n : ℕ) (s : State) → RestBy t few S (EnvBy P) source j n s → KnowsRest t few source j n s
+  rest_plain source j n s h = record {
+    request = h.request;
+    asked = asked_more t few source S (KnowsState t few) (EnvBy P) (KnowsEnv t few) (λ e k. env_plain t few (Lives t few) e k) s (λ given k. plain t few (Lives t few) given s k.0) h.request h.asked;
+    asks_for = h.asks_for;
+    no_end = h.no_end;
+    no_fault = h.no_fault;
+    told = h.told;
   }
+
+  module _ (source : Source) (sound : Sound t source) (main : IsTask t source.main) where
+    fresh_lives : (r : ℕ) (x : Routine) (n : ℕ) → slice_get source.routines r ≡ Some x → IsTask t r → Lives t few (main_of n) (t.routine r ∷ []) (fresh x (Object n))
+    fresh_lives r x n e h = (life_kept t few (OutwardsOrMade (t.routine r ∷ []))).begins (main_of n) x (Object n)
+
+    pub keeps_known : KeepsBy t few source (λ s. Unit {0}) S P (Meets t few)
+    keeps_known = record {
+      hand = λ given s x. x.0.env.hand;
+      handed = λ given hand s x h. (record { sigs = x.0.sigs; frames = x.0.frames; run = x.0.run; callers = x.0.callers; env = record { house = x.0.env.house; hand = h } }, x.1);
+      told = λ q a s x h p. answers.told t few S P operand member source q a s x h p;
+      spawned = λ o n s x p. answers.begins t few (Lives t few) (lives_kept t few) source sound fresh_lives (child_main source s.run.control) n x.0 p;
+      begins = λ p. answers.begins t few (Lives t few) (lives_kept t few) source sound fresh_lives source.main 0 main p;
+      steps = λ s clear m l x. let y = m x in law_lives.steps t few source sound s y.0 y.1 clear;
+    }
 
 pub law_known_runs : LawKnownRuns
 law_known_runs p formed accepted few input opts range j w r fits on below first meets = record {
-  tasks = h.tasks;
-  homes = h.homes;
-  comes = λ n s c l. (there n s c l).known;
-  scopes = λ n s c l. (there n s c l).life;
-  names = λ n s c l m q u e. (subst (KnowsStep t few source) e (by.knows_to t few source Z laid known (KnowsState t few) (KnowsSlot t few) (Meets t few) (keeps_known t few source sound main) s m (there n s c l))).0;
+  tasks = λ n e. rest_plain t few source j n (w.tasks n) (h.tasks n e);
+  homes = λ o. members_plain t few (Lives t few) (home.Object o) (w.homes o) (h.homes o);
+  comes = λ n s c l. plain t few (Lives t few) [] s (there n s c l).known.0;
+  lives = λ n s c l. (there n s c l).known;
+  names = λ n s c l m q u e. (subst (StepBy t few (S t few) (EnvBy (P t few)) source) e (by.knows_to t few source Z laid known (λ s. Unit {0}) (λ w. Unit {0}) (S t few) (P t few) (Meets t few) (nothing_beside t source (S t few) (Meets t few)) (keeps_known t few source sound main) s (stack_led t few Z laid source known c.leads (stack_told t few Z laid source known c.given j w n (stacked.world_rests Z source known input opts r))) m (there n s c l))).0;
 }
   where
     t : Table
@@ -83,12 +129,12 @@ law_known_runs p formed accepted few input opts range j w r fits on below first 
     known : SourceIn Z source
     known = law_accepted p accepted
 
-    h : by.KnownWorld t few source Z laid known (KnowsState t few) (KnowsSlot t few) (Meets t few) (keeps_known t few source sound main) j w
-    h = by.run_known t few source Z laid known (KnowsState t few) (KnowsSlot t few) (Meets t few) (keeps_known t few source sound main) input opts range r fits meets on below first
+    h : by.KnownWorld t few source Z laid known (λ s. Unit {0}) (λ w. Unit {0}) (S t few) (P t few) (Meets t few) (nothing_beside t source (S t few) (Meets t few)) (keeps_known t few source sound main) j w
+    h = by.run_known t few source Z laid known (λ s. Unit {0}) (λ w. Unit {0}) (S t few) (P t few) (Meets t few) (nothing_beside t source (S t few) (Meets t few)) (keeps_known t few source sound main) input opts range r fits meets on below first
 
-    there : (n : ℕ) (s : State) (c : Comes source j w n s) → LeadsMeet (Meets t few) source (answered source c.given (drawn j w n)) s c.leads → by.There t few source Z laid known (KnowsState t few) (KnowsSlot t few) (Meets t few) (keeps_known t few source sound main) s
+    there : (n : ℕ) (s : State) (c : Comes source j w n s) → LeadsMeet (Meets t few) source (answered source c.given (drawn j w n)) s c.leads → by.There t few source Z laid known (λ s. Unit {0}) (λ w. Unit {0}) (S t few) (P t few) (Meets t few) (nothing_beside t source (S t few) (Meets t few)) (keeps_known t few source sound main) s
     there n s c l =
-        by.led t few source Z laid known (KnowsState t few) (KnowsSlot t few) (Meets t few) (keeps_known t few source sound main) c.leads l (stack_told t few Z laid source known c.given j w n (stacked.world_rests Z source known input opts r)) (by.starts t few source Z laid known (KnowsState t few) (KnowsSlot t few) (Meets t few) (keeps_known t few source sound main) input opts range (run_rests source input opts range r fits on).kernel on h c.processor n c.given c.runs c.told)
+        by.led t few source Z laid known (λ s. Unit {0}) (λ w. Unit {0}) (S t few) (P t few) (Meets t few) (nothing_beside t source (S t few) (Meets t few)) (keeps_known t few source sound main) c.leads l (stack_told t few Z laid source known c.given j w n (stacked.world_rests Z source known input opts r)) (by.starts t few source Z laid known (λ s. Unit {0}) (λ w. Unit {0}) (S t few) (P t few) (Meets t few) (nothing_beside t source (S t few) (Meets t few)) (keeps_known t few source sound main) input opts range (run_rests source input opts range r fits on).kernel on h c.processor n c.given c.runs c.told)
 
 -- where numbers alone are told, each task has its object at hand
 pub main_numbered : (t : Table) (numbers : Ty → ℕ → Bool) (c : Option ℕ) (o : ℕ) → ((c : ℕ) → numbers (Obj c) o ≡ true) → MainPasses t (numbered numbers) c o

@@ -47,18 +47,22 @@ use Rattle.uc_sound.proofs.SoundLemmas.{law_sound}
 use Rattle.uc_life_laws.specs.Things.{Few}
 use Rattle.uc_life_laws.specs.LifeStates.{SlotBy, ParkedBy, HandBy, MembersBy, EnvBy}
 use Rattle.uc_life_laws.specs.LifeRuns.{IsLaidOut}
-use Rattle.uc_life_laws.specs.Knowing.{KnowsSlot, KnowsState, KnowsAsked, KnowsStep, Names, HasObject}
+use Rattle.uc_life_laws.specs.Knowing.{KnowsState, AskedBy, StepBy, Names, HasObject}
 use Rattle.uc_life_laws.specs.KnownAnswers.{Passes, MainPasses}
 use Rattle.uc_life_laws.specs.KnownRuns.{PassesBelow, Meets}
+use Rattle.uc_life_laws.proofs.Parked.{each_members}
+pub use Rattle.uc_life_laws.proofs.Parked.{each_env}
 use Rattle.uc_life_laws.proofs.Laying.{laid_out}
-use Rattle.uc_life_laws.proofs.LifeWorlds.{stack_told}
+use Rattle.uc_life_laws.proofs.LifeWorlds.{stack_told, stack_led}
 use Rattle.uc_life_laws.proofs.NewNumbers.{objects_grow, clusters_grow, processors_grow}
 use Rattle.uc_life_laws.proofs.WorldsBy as by
 use Rattle.uc_life_laws.proofs.WorldsBy.{PassesNow}
-use Rattle.uc_life_laws.proofs.KnownWorlds.{keeps_known}
+use Rattle.uc_life_laws.proofs.KnownWorlds.{S, P, nothing_beside, rest_plain, keeps_known}
+use Rattle.uc_life_laws.specs.Lives.{Lives}
+use Rattle.uc_life_laws.proofs.KindsLemmas.{members_plain, plain}
 use Rattle.uc_life_laws.specs.Fewer.{KeepsOthers, Lasts, HandLasts, ExLasts, RunLasts, TaskLasts}
 use Rattle.uc_life_laws.specs.Lasting.{lasting_numbers, lasting, WorldLasts, ForgetsAt, MayForget, RunForgets, RunMeetsAt, LawLasting, LawRaised}
-use Rattle.uc_life_laws.proofs.Fewer.{held_same, both_members, env_fewer, state_fewer, slot_fewer, life_fewer, life_ex_fewer}
+use Rattle.uc_life_laws.proofs.Fewer.{held_same, both_members, env_lives, state_lives, slot_lives}
 
 -- what is gone as entries stand
 
@@ -83,27 +87,6 @@ takes_none p t o A g v (e ∷ a) h b = ap (λ x. x || takes_out a v) (by e.kind 
     by kind.Gone d = absurd (no_both g (d refl) h)
     by k d = refl
 
--- all executions that do not run
-module _ (P : Exec → Execution (List Todo) Value → Type 0) (each : (n : Exec) (x : Execution (List Todo) Value) → P n x) where
-  each_slot : (n : Exec) (o : Option (Execution (List Todo) Value)) → SlotBy P n o
-  each_slot n None = tt
-  each_slot n (Some x) = each n x
-
-  each_parked : (h : Home) (ps : List (ℕ × Option (Execution (List Todo) Value))) → ParkedBy P h ps
-  each_parked h [] = tt
-  each_parked h (x ∷ ps) = (each_slot (record { home = h; serial = x.0 }) x.1, each_parked h ps)
-
-  each_hand : (ps : List (ℕ × Members)) → HandBy P ps
-  each_hand [] = tt
-  each_hand (x ∷ ps) = (each_parked (home.Object x.0) x.1.parked, each_hand ps)
-
-  each_members : (h : Home) (m : Option Members) → MembersBy P h m
-  each_members h None = tt
-  each_members h (Some m) = each_parked h m.parked
-
-  pub each_env : (e : Env) → EnvBy P e
-  each_env e = record { house = each_parked (home.Task e.own) e.house.parked; hand = each_hand e.hand }
-
 -- where nothing goes, all lasts
 
 module _ (t : Table) (few : Few) (j : Journal) (a : List Entry) where
@@ -126,11 +109,11 @@ module _ (t : Table) (few : Few) (j : Journal) (a : List Entry) where
     hand_lasts Ended n x = tt
 
     ex_lasts : (n : Exec) (x : Execution (List Todo) Value) → ExLasts t (lasting few j) left n x
-    ex_lasts n x = record { scopes = λ w a v. lasts _; hand = hand_lasts x.links.stage n x }
+    ex_lasts n x = hand_lasts x.links.stage n x
 
     all_lasts : (x : World) → WorldLasts t few j a x
     all_lasts x = record {
-      tasks = λ n. record { scopes = λ w a v. lasts _; env = each_env (ExLasts t (lasting few j) left) (λ m y. ex_lasts m y) (x.tasks n).env };
+      tasks = λ n. each_env (ExLasts t (lasting few j) left) (λ m y. ex_lasts m y) (x.tasks n).env;
       alive = λ n e given k. record { waiting = lasts _; operands = inl (lasts _) };
       homes = λ o. each_members (ExLasts t (lasting few j) left) (λ m y. ex_lasts m y) (home.Object o) (x.homes o);
     }
@@ -142,21 +125,21 @@ module _ (t : Table) (few : Few) (j : Journal) (a : List Entry) where
     object_same None o h = tt
     object_same (Some c) o h = held_same t (lasting few j) left _ (Obj c) _ h
 
-    asked_fewer : (q : Request) (s : State) → TaskLasts t (lasting few j) left s → ((given : List Ty) (k : KnowsState t (lasting few j) given s) → RunLasts t (lasting few j) left given s k) → KnowsAsked t (lasting few j) source q s → KnowsAsked t (lasting few (j ++ a)) source q s
-    asked_fewer (ask.Make m) s e l x = (x.0, x.1, x.2, state_fewer t (lasting few j) left keeps (Raw x.0 ∷ []) s e.env x.3 (l (Raw x.0 ∷ []) x.3))
+    asked_fewer : (q : Request) (s : State) → TaskLasts t (lasting few j) left s → ((given : List Ty) (k : KnowsState t (lasting few j) given s) → RunLasts t (lasting few j) left given s k) → AskedBy t (lasting few j) (S t (lasting few j)) (EnvBy (P t (lasting few j))) source q s → AskedBy t (lasting few (j ++ a)) (S t (lasting few (j ++ a))) (EnvBy (P t (lasting few (j ++ a)))) source q s
+    asked_fewer (ask.Make m) s e l x = (x.0, x.1, x.2, state_lives t (lasting few j) left keeps (Raw x.0 ∷ []) s e (l (Raw x.0 ∷ [])) x.3)
     asked_fewer (ask.Spawn o) s e l x =
-        (x.0, object_same (t.routine (child_main source s.run.control)).this o x.1, state_fewer t (lasting few j) left keeps [] s e.env x.2 (l [] x.2))
-    asked_fewer (ask.Accept o site mask) s e l x = state_fewer t (lasting few j) left keeps (Num ∷ (Num ∷ [])) s e.env x (l (Num ∷ (Num ∷ [])) x)
-    asked_fewer (ask.Empty o m) s e l x = state_fewer t (lasting few j) left keeps (Num ∷ []) s e.env x (l (Num ∷ []) x)
-    asked_fewer (ask.Front o m) s e l x = state_fewer t (lasting few j) left keeps (Num ∷ []) s e.env x (l (Num ∷ []) x)
-    asked_fewer (ask.Poll mask) s e l x = state_fewer t (lasting few j) left keeps (Num ∷ (Num ∷ (Num ∷ []))) s e.env x (l (Num ∷ (Num ∷ (Num ∷ []))) x)
-    asked_fewer (ask.Read form) s e l x = state_fewer t (lasting few j) left keeps (Num ∷ []) s e.env x (l (Num ∷ []) x)
-    asked_fewer ask.Fail s e l x = state_fewer t (lasting few j) left keeps (Num ∷ []) s e.env x (l (Num ∷ []) x)
-    asked_fewer ask.Cluster s e l x = state_fewer t (lasting few j) left keeps (Clu ∷ []) s e.env x (l (Clu ∷ []) x)
-    asked_fewer (ask.Processor c) s e l x = state_fewer t (lasting few j) left keeps (Pro ∷ []) s e.env x (l (Pro ∷ []) x)
-    asked_fewer ask.End s e l x = env_fewer t (lasting few j) left keeps s.env x e.env
+        (x.0, object_same (t.routine (child_main source s.run.control)).this o x.1, state_lives t (lasting few j) left keeps [] s e (l []) x.2)
+    asked_fewer (ask.Accept o site mask) s e l x = state_lives t (lasting few j) left keeps (Num ∷ (Num ∷ [])) s e (l (Num ∷ (Num ∷ []))) x
+    asked_fewer (ask.Empty o m) s e l x = state_lives t (lasting few j) left keeps (Num ∷ []) s e (l (Num ∷ [])) x
+    asked_fewer (ask.Front o m) s e l x = state_lives t (lasting few j) left keeps (Num ∷ []) s e (l (Num ∷ [])) x
+    asked_fewer (ask.Poll mask) s e l x = state_lives t (lasting few j) left keeps (Num ∷ (Num ∷ (Num ∷ []))) s e (l (Num ∷ (Num ∷ (Num ∷ [])))) x
+    asked_fewer (ask.Read form) s e l x = state_lives t (lasting few j) left keeps (Num ∷ []) s e (l (Num ∷ [])) x
+    asked_fewer ask.Fail s e l x = state_lives t (lasting few j) left keeps (Num ∷ []) s e (l (Num ∷ [])) x
+    asked_fewer ask.Cluster s e l x = state_lives t (lasting few j) left keeps (Clu ∷ []) s e (l (Clu ∷ [])) x
+    asked_fewer (ask.Processor c) s e l x = state_lives t (lasting few j) left keeps (Pro ∷ []) s e (l (Pro ∷ [])) x
+    asked_fewer ask.End s e l x = env_lives t (lasting few j) left keeps s.env x e
     asked_fewer (ask.Fault m) s e l x = tt
-    asked_fewer q s e l x = state_fewer t (lasting few j) left keeps [] s e.env x (l [] x)
+    asked_fewer q s e l x = state_lives t (lasting few j) left keeps [] s e (l []) x
 
     told_fewer : (q : Request) (o : ℕ) → Passes t (lasting few j) q (answer.Object o) → Passes t (lasting few (j ++ a)) q (answer.Object o)
     told_fewer (ask.Make m) o h = h
@@ -165,7 +148,7 @@ module _ (t : Table) (few : Few) (j : Journal) (a : List Entry) where
     told_fewer q o h = tt
 
     module _ (sound : Sound t source) (main : IsTask t source.main) (Z : ℕ → ℕ → Type 0) (laid : IsLaidOut Z t) (in_rooms : SourceIn Z source) where
-      world_fewer : (x : World) → WorldLasts t few j a x → by.KnownWorld t (lasting few j) source Z laid in_rooms (KnowsState t (lasting few j)) (KnowsSlot t (lasting few j)) (Meets t (lasting few j)) (keeps_known t (lasting few j) source sound main) (j ++ a) x → by.KnownWorld t (lasting few (j ++ a)) source Z laid in_rooms (KnowsState t (lasting few (j ++ a))) (KnowsSlot t (lasting few (j ++ a))) (Meets t (lasting few (j ++ a))) (keeps_known t (lasting few (j ++ a)) source sound main) (j ++ a) x
+      world_fewer : (x : World) → WorldLasts t few j a x → by.KnownWorld t (lasting few j) source Z laid in_rooms (λ s. Unit {0}) (λ w. Unit {0}) (S t (lasting few j)) (P t (lasting few j)) (Meets t (lasting few j)) (nothing_beside t source (S t (lasting few j)) (Meets t (lasting few j))) (keeps_known t (lasting few j) source sound main) (j ++ a) x → by.KnownWorld t (lasting few (j ++ a)) source Z laid in_rooms (λ s. Unit {0}) (λ w. Unit {0}) (S t (lasting few (j ++ a))) (P t (lasting few (j ++ a))) (Meets t (lasting few (j ++ a))) (nothing_beside t source (S t (lasting few (j ++ a))) (Meets t (lasting few (j ++ a)))) (keeps_known t (lasting few (j ++ a)) source sound main) (j ++ a) x
       world_fewer x l h = record {
         tasks = λ n ended.
             let k = h.tasks n ended in
@@ -177,11 +160,8 @@ module _ (t : Table) (few : Few) (j : Journal) (a : List Entry) where
               no_fault = k.no_fault;
               told = λ o f. told_fewer k.request o (k.told o f);
             };
-        homes = λ o. both_members (KnowsSlot t (lasting few j)) (ExLasts t (lasting few j) left) (KnowsSlot t (lasting few (j ++ a))) (λ n y k i. slot_fewer t (lasting few j) left keeps n y k i) (home.Object o) (x.homes o) (h.homes o) (l.homes o);
-        life = record {
-          tasks = λ n. life_fewer t (lasting few j) left keeps (x.tasks n) (l.tasks n) (h.life.tasks n);
-          homes = λ o. both_members _ (ExLasts t (lasting few j) left) _ (λ n y k i. life_ex_fewer t (lasting few j) left keeps n y k i) (home.Object o) (x.homes o) (h.life.homes o) (l.homes o);
-        };
+        homes = λ o. both_members (P t (lasting few j)) (ExLasts t (lasting few j) left) (P t (lasting few (j ++ a))) (λ n y k i. slot_lives t (lasting few j) left keeps n y k i) (home.Object o) (x.homes o) (h.homes o) (l.homes o);
+        life = tt;
       }
 
 -- numbers of what is not gone
@@ -238,19 +218,19 @@ module _ (t : Table) (few : Few) (source : Source) (sound : Sound t source) (mai
   may_forget {j} {w} (acts p n k s asked d) still h =
       forgets asked.request j (act opts source.sites input j p n k asked) _ (λ e o. none_taken j p n k asked still e o) h
 
-  pub run_lasting : {j : Journal} {w : World} (r : Runs source input opts j w) → RunFits source input opts j w r → RunMeetsAt (λ i s. Meets t (lasting few i) s) source input opts j w r → RunForgets t few source input opts j w r → is_over j ≡ false → PassesBelow few opts j → MainPasses t few (t.routine source.main).this 0 → by.KnownWorld t (lasting few j) source Z laid in_rooms (KnowsState t (lasting few j)) (KnowsSlot t (lasting few j)) (Meets t (lasting few j)) (keeps_known t (lasting few j) source sound main) j w
+  pub run_lasting : {j : Journal} {w : World} (r : Runs source input opts j w) → RunFits source input opts j w r → RunMeetsAt (λ i s. Meets t (lasting few i) s) source input opts j w r → RunForgets t few source input opts j w r → is_over j ≡ false → PassesBelow few opts j → MainPasses t few (t.routine source.main).this 0 → by.KnownWorld t (lasting few j) source Z laid in_rooms (λ s. Unit {0}) (λ w. Unit {0}) (S t (lasting few j)) (P t (lasting few j)) (Meets t (lasting few j)) (nothing_beside t source (S t (lasting few j)) (Meets t (lasting few j))) (keeps_known t (lasting few j) source sound main) j w
   run_lasting begun f g l still below first =
-      by.begin_known t (lasting few (begin opts ∷ [])) source Z laid in_rooms (KnowsState t (lasting few (begin opts ∷ []))) (KnowsSlot t (lasting few (begin opts ∷ []))) (Meets t (lasting few (begin opts ∷ []))) (keeps_known t (lasting few (begin opts ∷ [])) source sound main) opts (first_lasting t few opts (t.routine source.main).this first)
+      by.begin_known t (lasting few (begin opts ∷ [])) source Z laid in_rooms (λ s. Unit {0}) (λ w. Unit {0}) (S t (lasting few (begin opts ∷ []))) (P t (lasting few (begin opts ∷ []))) (Meets t (lasting few (begin opts ∷ []))) (nothing_beside t source (S t (lasting few (begin opts ∷ []))) (Meets t (lasting few (begin opts ∷ [])))) (keeps_known t (lasting few (begin opts ∷ [])) source sound main) opts (first_lasting t few opts (t.routine source.main).this first)
   run_lasting (more {j} {w} {a} {w' = x} r on m) f g l still below first =
-      world_fewer t few j a source sound main Z laid in_rooms x (may_forget m still l.1) (by.may_known t (lasting few j) source Z laid in_rooms (KnowsState t (lasting few j)) (KnowsSlot t (lasting few j)) (Meets t (lasting few j)) (keeps_known t (lasting few j) source sound main) input opts range (run_rests source input opts range r f.0 on).kernel on (stacked.world_rests Z source in_rooms input opts r) (run_lasting r f.0 g.0 l.0 on (earlier few opts j a below) first) m f.1 g.1 still (now few opts j a below))
+      world_fewer t few j a source sound main Z laid in_rooms x (may_forget m still l.1) (by.may_known t (lasting few j) source Z laid in_rooms (λ s. Unit {0}) (λ w. Unit {0}) (S t (lasting few j)) (P t (lasting few j)) (Meets t (lasting few j)) (nothing_beside t source (S t (lasting few j)) (Meets t (lasting few j))) (keeps_known t (lasting few j) source sound main) input opts range (run_rests source input opts range r f.0 on).kernel on (stacked.world_rests Z source in_rooms input opts r) (run_lasting r f.0 g.0 l.0 on (earlier few opts j a below) first) m f.1 g.1 still (now few opts j a below))
 
 pub law_lasting : LawLasting
 law_lasting p formed accepted few input opts range j w r fits on below first meets forgets = record {
-  tasks = h.tasks;
-  homes = h.homes;
-  comes = λ n s c l. (there n s c l).known;
-  scopes = λ n s c l. (there n s c l).life;
-  names = λ n s c l m q u e. (subst (KnowsStep t (lasting few j) source) e (by.knows_to t (lasting few j) source Z laid known (KnowsState t (lasting few j)) (KnowsSlot t (lasting few j)) (Meets t (lasting few j)) (keeps_known t (lasting few j) source sound main) s m (there n s c l))).0;
+  tasks = λ n e. rest_plain t (lasting few j) source j n (w.tasks n) (h.tasks n e);
+  homes = λ o. members_plain t (lasting few j) (Lives t (lasting few j)) (home.Object o) (w.homes o) (h.homes o);
+  comes = λ n s c l. plain t (lasting few j) (Lives t (lasting few j)) [] s (there n s c l).known.0;
+  lives = λ n s c l. (there n s c l).known;
+  names = λ n s c l m q u e. (subst (StepBy t (lasting few j) (S t (lasting few j)) (EnvBy (P t (lasting few j))) source) e (by.knows_to t (lasting few j) source Z laid known (λ s. Unit {0}) (λ w. Unit {0}) (S t (lasting few j)) (P t (lasting few j)) (Meets t (lasting few j)) (nothing_beside t source (S t (lasting few j)) (Meets t (lasting few j))) (keeps_known t (lasting few j) source sound main) s (stack_led t (lasting few j) Z laid source known c.leads (stack_told t (lasting few j) Z laid source known c.given j w n (stacked.world_rests Z source known input opts r))) m (there n s c l))).0;
 }
   where
     t : Table
@@ -274,12 +254,12 @@ law_lasting p formed accepted few input opts range j w r fits on below first mee
     known : SourceIn Z source
     known = law_accepted p accepted
 
-    h : by.KnownWorld t (lasting few j) source Z laid known (KnowsState t (lasting few j)) (KnowsSlot t (lasting few j)) (Meets t (lasting few j)) (keeps_known t (lasting few j) source sound main) j w
+    h : by.KnownWorld t (lasting few j) source Z laid known (λ s. Unit {0}) (λ w. Unit {0}) (S t (lasting few j)) (P t (lasting few j)) (Meets t (lasting few j)) (nothing_beside t source (S t (lasting few j)) (Meets t (lasting few j))) (keeps_known t (lasting few j) source sound main) j w
     h = run_lasting t few source sound main Z laid known input opts range r fits meets forgets on below first
 
-    there : (n : ℕ) (s : State) (c : Comes source j w n s) → LeadsMeet (Meets t (lasting few j)) source (answered source c.given (drawn j w n)) s c.leads → by.There t (lasting few j) source Z laid known (KnowsState t (lasting few j)) (KnowsSlot t (lasting few j)) (Meets t (lasting few j)) (keeps_known t (lasting few j) source sound main) s
+    there : (n : ℕ) (s : State) (c : Comes source j w n s) → LeadsMeet (Meets t (lasting few j)) source (answered source c.given (drawn j w n)) s c.leads → by.There t (lasting few j) source Z laid known (λ s. Unit {0}) (λ w. Unit {0}) (S t (lasting few j)) (P t (lasting few j)) (Meets t (lasting few j)) (nothing_beside t source (S t (lasting few j)) (Meets t (lasting few j))) (keeps_known t (lasting few j) source sound main) s
     there n s c l =
-        by.led t (lasting few j) source Z laid known (KnowsState t (lasting few j)) (KnowsSlot t (lasting few j)) (Meets t (lasting few j)) (keeps_known t (lasting few j) source sound main) c.leads l (stack_told t (lasting few j) Z laid source known c.given j w n (stacked.world_rests Z source known input opts r)) (by.starts t (lasting few j) source Z laid known (KnowsState t (lasting few j)) (KnowsSlot t (lasting few j)) (Meets t (lasting few j)) (keeps_known t (lasting few j) source sound main) input opts range (run_rests source input opts range r fits on).kernel on h c.processor n c.given c.runs c.told)
+        by.led t (lasting few j) source Z laid known (λ s. Unit {0}) (λ w. Unit {0}) (S t (lasting few j)) (P t (lasting few j)) (Meets t (lasting few j)) (nothing_beside t source (S t (lasting few j)) (Meets t (lasting few j))) (keeps_known t (lasting few j) source sound main) c.leads l (stack_told t (lasting few j) Z laid source known c.given j w n (stacked.world_rests Z source known input opts r)) (by.starts t (lasting few j) source Z laid known (λ s. Unit {0}) (λ w. Unit {0}) (S t (lasting few j)) (P t (lasting few j)) (Meets t (lasting few j)) (nothing_beside t source (S t (lasting few j)) (Meets t (lasting few j))) (keeps_known t (lasting few j) source sound main) input opts range (run_rests source input opts range r fits on).kernel on h c.processor n c.given c.runs c.told)
 
 pub law_raised : LawRaised
 law_raised p formed accepted few input opts range j w r fits on below first meets forgets n s c l m o e y z u q =

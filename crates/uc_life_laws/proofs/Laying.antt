@@ -1,4 +1,5 @@
--- In a program that breaks no rule fields lie within the cells of their classes, and what destroys an object is counted with its cells.
+-- In a program that breaks no rule fields lie within the cells of their classes and one behind the other, and what destroys an object is counted with its
+-- cells.
 use Rattle.std.proofs.Common.{◌≡◌, ℕ, zero, suc, ◌+◌, ◌-◌, ◌*◌, ◌≤◌, ◌<◌, ◌⊎◌, inl, inr, ℤ, Bool, true, false, List, [], ◌∷◌, ◌++◌, Option, Some, None, length, map, refl, sym, ap, ◌∙◌, subst, arith}
 use Rattle.std.specs.Prelude.{◌&&◌, ◌||◌, not, slice_get, nat_eq, nat_lt, if◌then◌else◌}
 use Rattle.std.specs.List.{list_any}
@@ -99,6 +100,13 @@ module _ (cs : List Class) (named : List ℕ → Option ℤ) where
         omega (arith, same)
     at_field (x ∷ fs) (suc k) f e = let r = at_field fs k f e in omega (arith, r)
 
+    at_next : (fs : List ClassField) (k : ℕ) (f : ClassField) → slice_get fs k ≡ Some f → field_cells (fields_shape shapes cs named fs) k + shape_cells (field_shape shapes cs named f.base f.declarator) ≤ field_cells (fields_shape shapes cs named fs) (suc k)
+    at_next [] k f e = none_some e
+    at_next (x ∷ fs) zero f e =
+        let same : shape_cells (field_shape shapes cs named x.base x.declarator) ≡ shape_cells (field_shape shapes cs named f.base f.declarator) = ap (λ (y : ClassField). shape_cells (field_shape shapes cs named y.base y.declarator)) (some_same e) in
+        omega (arith, same)
+    at_next (x ∷ fs) (suc k) f e = let r = at_next fs k f e in omega (arith, r)
+
     module _ (cells : ℕ → ℕ) (same : (j : ℕ) → shape_cells (shapes j) ≡ cells j) where
       base_cells : (b : Base) → shape_cells (shape_of b) ≡ 1
       base_cells base.Void = refl
@@ -143,6 +151,13 @@ before_few : (s : Shape) (i : ℕ) → field_cells s i ≤ shape_cells s
 before_few (Field s r) zero = omega arith
 before_few (Field s r) (suc i) = let h = before_few r i in omega (arith, h)
 before_few s i = omega arith
+
+-- and no more of them lie before a later one
+before_later : (s : Shape) (i j : ℕ) → i ≤ j → field_cells s i ≤ field_cells s j
+before_later (Field s r) zero j l = omega arith
+before_later (Field s r) (suc i) zero l = omega (arith, l)
+before_later (Field s r) (suc i) (suc j) l = let h = before_later r i j (omega (arith, l)) in omega (arith, h)
+before_later s i j l = omega arith
 
 row_here : (cs xs : List Class) (ks : List Constant) (i : ℕ) (c : Class) → slice_get xs i ≡ Some c → row_at (map (row_of cs ks) xs) i ≡ row_of cs ks c
 row_here cs [] ks i c e = none_some e
@@ -302,9 +317,12 @@ module _ (p : Program) (u : Unbroken (program_visits p)) where
   no_object true o e = false_true (sym e)
   no_object false o e = refl
 
-  listed_fits : (i k : ℕ) (c : Class) (o : Option ClassField) → class_at p i ≡ Some c → slice_get (fields_of c.members) k ≡ o → field_cells (class_shape p i) (leading_cells c.kind + k) + span t (listed_field p c o) ≤ shape_cells (class_shape p i)
-  listed_fits i k c None e q = let h = before_few (class_shape p i) (leading_cells c.kind + k) in omega (arith, h)
-  listed_fits i k c (Some f) e q =
+  -- the shapes of what a class holds, one class less deep
+  abbrev inner : ℕ → Shape
+  inner = shape_within (length rows - 1) p
+
+  listed_span : (i k : ℕ) (c : Class) (f : ClassField) → class_at p i ≡ Some c → slice_get (fields_of c.members) k ≡ Some f → span t (listed_field p c (Some f)) ≤ shape_cells (field_shape inner cs (seen_in (constants_of p.items) c) f.base f.declarator)
+  listed_span i k c f e q =
       let r = field_rules p u i c e k f q in
       let env = plain_env p (class_around (home p u i c)) in
       let d = f.declarator in
@@ -316,19 +334,44 @@ module _ (p : Program) (u : Unbroken (program_visits p)) where
       let h6 = none_right (unless (not (is_coroutine c.kind && is_public r.access)) S18 d.pos) _ h5 in
       let no_event : is_no_event r.sort ≡ true = sort_holds (sort_of p f.base) r.sort is_no_event S22 d.pos _ r.base h6 in
       let named = seen_in (constants_of p.items) c in
-      let m = length rows - 1 in
-      let long : length rows ≡ suc m = many_rows i c e in
+      let long : length rows ≡ suc (length rows - 1) = many_rows i c e in
       let there : i < length rows = let a = inside cs i c e in let l = rows_long in omega (arith, a, l) in
-      let shapes : ℕ → Shape = shape_within m p in
       let known : listed_field p c (Some f) ≡ field_ty d.by_ref d.len (elements named d) r.sort = ap (known_field p c f) r.base in
-      let fits : span t (field_ty d.by_ref d.len (elements named d) r.sort) ≤ shape_cells (field_shape shapes cs named f.base d) =
-      field_fits d.by_ref d.len (elements named d) r.sort (kept_shape shapes (object_of cs f.base) f.base) (λ no. one_fits shapes (λ o. Holds (row_at rows i).held o) (λ o g. deep m i o long there g) f.base r.sort r.base no_event (λ x y. subst (λ hs. Holds hs x) (sym (held_is i c e)) (holds_at cs named (fields_of c.members) k f x q (sym (no_object d.by_ref (object_of cs f.base) no) ∙ y)))) in
-      let a = at_field cs named shapes (fields_of c.members) k f q in
-      let s : class_shape p i ≡ form_shape shapes p (Some c) = shape_is m i c long e in
-      let whole : shape_cells (class_shape p i) ≡ leading_cells c.kind + shape_cells (fields_shape shapes cs named (fields_of c.members)) = ap shape_cells s ∙ bindings_all (leading_cells c.kind) (fields_shape shapes cs named (fields_of c.members)) in
-      let before : field_cells (class_shape p i) (leading_cells c.kind + k) ≡ leading_cells c.kind + field_cells (fields_shape shapes cs named (fields_of c.members)) k = ap (λ x. field_cells x (leading_cells c.kind + k)) s ∙ before_bindings (leading_cells c.kind) k (fields_shape shapes cs named (fields_of c.members)) in
+      let fits : span t (field_ty d.by_ref d.len (elements named d) r.sort) ≤ shape_cells (field_shape inner cs named f.base d) =
+      field_fits d.by_ref d.len (elements named d) r.sort (kept_shape inner (object_of cs f.base) f.base) (λ no. one_fits inner (λ o. Holds (row_at rows i).held o) (λ o g. deep (length rows - 1) i o long there g) f.base r.sort r.base no_event (λ x y. subst (λ hs. Holds hs x) (sym (held_is i c e)) (holds_at cs named (fields_of c.members) k f x q (sym (no_object d.by_ref (object_of cs f.base) no) ∙ y)))) in
       let own : span t (listed_field p c (Some f)) ≡ span t (field_ty d.by_ref d.len (elements named d) r.sort) = ap (span t) known in
-      omega (arith, a, whole, before, own, fits)
+      omega (arith, fits, own)
+
+  -- a class has its leading cells, and behind them those of its fields
+  class_whole : (i : ℕ) (c : Class) → class_at p i ≡ Some c → shape_cells (class_shape p i) ≡ leading_cells c.kind + shape_cells (fields_shape inner cs (seen_in (constants_of p.items) c) (fields_of c.members))
+  class_whole i c e =
+      let s : class_shape p i ≡ form_shape inner p (Some c) = shape_is (length rows - 1) i c (many_rows i c e) e in
+      ap shape_cells s ∙ bindings_all (leading_cells c.kind) (fields_shape inner cs (seen_in (constants_of p.items) c) (fields_of c.members))
+
+  class_before : (i k : ℕ) (c : Class) → class_at p i ≡ Some c → field_cells (class_shape p i) (leading_cells c.kind + k) ≡ leading_cells c.kind + field_cells (fields_shape inner cs (seen_in (constants_of p.items) c) (fields_of c.members)) k
+  class_before i k c e =
+      let s : class_shape p i ≡ form_shape inner p (Some c) = shape_is (length rows - 1) i c (many_rows i c e) e in
+      ap (λ x. field_cells x (leading_cells c.kind + k)) s ∙ before_bindings (leading_cells c.kind) k (fields_shape inner cs (seen_in (constants_of p.items) c) (fields_of c.members))
+
+  listed_fits : (i k : ℕ) (c : Class) (o : Option ClassField) → class_at p i ≡ Some c → slice_get (fields_of c.members) k ≡ o → field_cells (class_shape p i) (leading_cells c.kind + k) + span t (listed_field p c o) ≤ shape_cells (class_shape p i)
+  listed_fits i k c None e q = let h = before_few (class_shape p i) (leading_cells c.kind + k) in omega (arith, h)
+  listed_fits i k c (Some f) e q =
+      let fits = listed_span i k c f e q in
+      let a = at_field cs (seen_in (constants_of p.items) c) inner (fields_of c.members) k f q in
+      let whole = class_whole i c e in
+      let before = class_before i k c e in
+      omega (arith, a, whole, before, fits)
+
+  -- the next one lies behind it
+  listed_next : (i k : ℕ) (c : Class) (o : Option ClassField) → class_at p i ≡ Some c → slice_get (fields_of c.members) k ≡ o → field_cells (class_shape p i) (leading_cells c.kind + k) + span t (listed_field p c o) ≤ field_cells (class_shape p i) (leading_cells c.kind + suc k)
+  listed_next i k c None e q =
+      let h = before_later (class_shape p i) (leading_cells c.kind + k) (leading_cells c.kind + suc k) (omega arith) in omega (arith, h)
+  listed_next i k c (Some f) e q =
+      let fits = listed_span i k c f e q in
+      let a = at_next cs (seen_in (constants_of p.items) c) inner (fields_of c.members) k f q in
+      let before = class_before i k c e in
+      let next = class_before i (suc k) c e in
+      omega (arith, a, next, before, fits)
 
   -- by its place among the cells
   index : (k : Kind) (i : ℕ) → (has_execution k ≡ true → 1 ≤ i) → leading_cells k + (i - leading_cells k) ≡ i
@@ -349,6 +392,21 @@ module _ (p : Program) (u : Unbroken (program_visits p)) where
       by : (b : Bool) → field_cells (class_shape p j) i + span t (if b then Num else listed_field p c (slice_get (fields_of c.members) k)) ≤ shape_cells (class_shape p j)
       by true = let f = before_few (class_shape p j) i in omega (arith, f)
       by false = subst (λ n. field_cells (class_shape p j) n + span t (listed_field p c (slice_get (fields_of c.members) k)) ≤ shape_cells (class_shape p j)) (index c.kind i h) (listed_fits j k c (slice_get (fields_of c.members) k) e refl)
+
+  fields_apart : (j i m : ℕ) (o : Option Class) → class_at p j ≡ o → (of_kind has_execution o ≡ true → 1 ≤ i) → i < m → field_cells (class_shape p j) i + span t (class_field p o i) ≤ field_cells (class_shape p j) m
+  fields_apart j i m None e h l = let f = before_later (class_shape p j) i m (omega (arith, l)) in omega (arith, f)
+  fields_apart j i m (Some c) e h l = by (nat_lt i (leading_cells c.kind))
+    where
+      k : ℕ
+      k = i - leading_cells c.kind
+
+      by : (b : Bool) → field_cells (class_shape p j) i + span t (if b then Num else listed_field p c (slice_get (fields_of c.members) k)) ≤ field_cells (class_shape p j) m
+      by true = let f = before_later (class_shape p j) i m (omega (arith, l)) in omega (arith, f)
+      by false =
+          let x = index c.kind i h in
+          let next = subst (λ n. field_cells (class_shape p j) n + span t (listed_field p c (slice_get (fields_of c.members) k)) ≤ field_cells (class_shape p j) (leading_cells c.kind + suc k)) x (listed_next j k c (slice_get (fields_of c.members) k) e refl) in
+          let later = before_later (class_shape p j) (leading_cells c.kind + suc k) m (omega (arith, l, x)) in
+          omega (arith, next, later)
 
   -- no array of arrays
 
@@ -471,6 +529,7 @@ module _ (p : Program) (formed : IsFormed p) (u : Unbroken (program_visits p)) w
 pub laid_out : (p : Program) → IsFormed p → breaks_of p ≡ [] → IsLaidOut (Sized p) (table_of p)
 laid_out p formed accepted = record {
   fields = λ c i f. fields_fit p accepted c i (class_at p c) refl f;
+  apart = λ c i j f l. fields_apart p accepted c i j (class_at p c) refl f l;
   flat = λ c i f. fields_flat p accepted (class_at p c) i;
   counted = λ r n c z h. counted p formed accepted r n c z h;
 }

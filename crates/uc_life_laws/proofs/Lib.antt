@@ -6,6 +6,7 @@ pub mod Insiders
 pub mod RunningWorlds
 pub mod Cells
 pub mod Parked
+pub mod GoingOn
 pub mod LifeKeeping
 pub mod LifeSteps
 pub mod LifeWalk
@@ -22,6 +23,7 @@ pub mod Following
 pub mod Acting
 pub mod KindsLemmas
 pub mod MakingsLemmas
+pub mod LivesLemmas
 pub mod Opened
 pub mod Scopes
 pub mod Clearing

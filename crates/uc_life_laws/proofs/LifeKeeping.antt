@@ -12,63 +12,68 @@ use Rattle.uc_machine.specs.declared.exec.Stage.TheVariants.{Fresh, Started, End
 use Rattle.uc_machine.specs.Executions.{Links, exec_eq, joined, change, parked_at, frames_by, frames_changed, frame_changed, value_changed, with_owned, with_frames, at_depth, list_in}
 use Rattle.uc_machine.specs.Switches as sw
 use Rattle.uc_machine.specs.Switches.{Moved, To, Stops}
+use Rattle.uc_tree.specs.Source.{Routine}
+use Rattle.uc_machine.specs.Quiet.{fresh}
 use Rattle.uc_machine.specs.Pieces.{Value, Number, Place, Running, Object, Nothing, Todo, Active, State, Env, Members, address, stored, nought, written}
 use Rattle.uc_typing.specs.Typing.{Table}
-use Rattle.uc_life_laws.specs.LifeStates.{SlotBy, ParkedBy, LifeStack, LifeEx, LifeEnv, LifeState}
+use Rattle.uc_life_laws.specs.LifeStates.{BehindMark, SlotBy, ParkedBy, EnvBy, LifeStackBy, LifeStateBy, OutwardsOnly, LifeStack, LifeEx, LifeEnv, LifeState}
 use Rattle.uc_life_laws.proofs.Cells.{either, set_length, stack_stored}
 use Rattle.uc_life_laws.proofs.Parked as parked
 use Rattle.uc_life_laws.proofs.Parked.{Ex, at_home}
 use Rattle.uc_life_laws.specs.Things.{Few}
 
-module _ (t : Table) (few : Few) where
-  pub like : {e f : Env} → LifeEnv t few e → f.hand ≡ e.hand → f.house ≡ e.house → f.own ≡ e.own → LifeEnv t few f
-  like s h g o = parked.like (LifeEx t few) s h g o
+-- what holds of executions that do not run stays so as somebody writes to a place in their frames, and as their links change; and it holds of one that is made
+pub record IsParkedKept (P : Exec → Ex → Type 0) : Type 0 where
+  pub written : (n : Exec) (x : Ex) (d k : ℕ) (v : Value) → P n x →
+      P n (record x { frames = frame_changed d (value_changed k (stored v) nought) x.frames })
+  pub linked : (n : Exec) (x : Ex) (l : Links) → P n x → P n (record x { links = l })
+  pub begins : (n : Exec) (r : Routine) (this : Value) → P n (fresh r this)
+
+module _ (t : Table) (few : Few) (K : BehindMark) (P : Exec → Ex → Type 0) (rests : IsParkedKept P) where
+  pub like : {e f : Env} → EnvBy P e → f.hand ≡ e.hand → f.house ≡ e.house → f.own ≡ e.own → EnvBy P f
+  like s h g o = parked.like P s h g o
 
   -- a task changes, but who runs stays, what is in scope there keeps what it holds, and so do all executions that do not run
   pub record Keeps (e f : Env) : Type 0 where
     pub exec : f.exec ≡ e.exec
     pub frames : length f.frames ≡ length e.frames
-    pub stack : (cs : List Active) → LifeStack t few e.exec e.frames cs → LifeStack t few e.exec f.frames cs
-    pub env : LifeEnv t few f
+    pub stack : (cs : List Active) → LifeStackBy t few K e.exec e.frames cs → LifeStackBy t few K e.exec f.frames cs
+    pub env : EnvBy P f
 
   pub keeps_both : {e f g : Env} → Keeps e f → Keeps f g → Keeps e g
   keeps_both {e} {f} {g} h k = record {
     exec = k.exec ∙ h.exec;
     frames = k.frames ∙ h.frames;
-    stack = λ cs x. subst (λ n. LifeStack t few n g.frames cs) h.exec (k.stack cs (subst (λ n. LifeStack t few n f.frames cs) (sym h.exec) (h.stack cs x)));
+    stack = λ cs x. subst (λ n. LifeStackBy t few K n g.frames cs) h.exec (k.stack cs (subst (λ n. LifeStackBy t few K n f.frames cs) (sym h.exec) (h.stack cs x)));
     env = k.env;
   }
 
   -- with the same frames
-  keeps_frames : {e f : Env} → f.exec ≡ e.exec → f.frames ≡ e.frames → LifeEnv t few f → Keeps e f
-  keeps_frames {e} {f} x q h = record { exec = x; frames = ap length q; stack = λ cs y. subst (λ fs. LifeStack t few e.exec fs cs) (sym q) y; env = h }
+  keeps_frames : {e f : Env} → f.exec ≡ e.exec → f.frames ≡ e.frames → EnvBy P f → Keeps e f
+  keeps_frames {e} {f} x q h = record { exec = x; frames = ap length q; stack = λ cs y. subst (λ fs. LifeStackBy t few K e.exec fs cs) (sym q) y; env = h }
 
-  pub keeps_like : {e f : Env} → LifeEnv t few e → f.exec ≡ e.exec → f.frames ≡ e.frames → f.hand ≡ e.hand → f.house ≡ e.house → f.own ≡ e.own → Keeps e f
+  pub keeps_like : {e f : Env} → EnvBy P e → f.exec ≡ e.exec → f.frames ≡ e.frames → f.hand ≡ e.hand → f.house ≡ e.house → f.own ≡ e.own → Keeps e f
   keeps_like s x q h g o = keeps_frames x q (like s h g o)
 
-  keeps_change : (h : Home) (f : Members → Members) (e : Env) → parked.KeepsParked (LifeEx t few) h f → LifeEnv t few e → Keeps e (change h f e)
-  keeps_change h f e k s = keeps_frames (parked.change_exec h f e) (parked.change_frames h f e) (parked.change_rests (LifeEx t few) h f e k s)
+  keeps_change : (h : Home) (f : Members → Members) (e : Env) → parked.KeepsParked P h f → EnvBy P e → Keeps e (change h f e)
+  keeps_change h f e k s = keeps_frames (parked.change_exec h f e) (parked.change_frames h f e) (parked.change_rests P h f e k s)
 
   -- writes
 
-  abbrev KeepsFrames : (List (List Value) → List (List Value)) → Type 0
-  KeepsFrames f = (n : Exec) (fs : List (List Value)) → (length (f fs) ≡ length fs) × ((cs : List Active) → LifeStack t few n fs cs → LifeStack t few n (f fs) cs)
+  frames_kept : (h : Home) (n d k : ℕ) (v : Value) (o : Option Ex) (m : Members) → SlotBy P (at_home h n) o → ParkedBy P h m.parked → ParkedBy P h (frames_by n (frame_changed d (value_changed k (stored v) nought)) o m).parked
+  frames_kept h n d k v None m r s = s
+  frames_kept h n d k v (Some x) m r s =
+      parked.update_parked P h n (Some (record x { frames = frame_changed d (value_changed k (stored v) nought) x.frames })) m.parked (rests.written (at_home h n) x d k v r) s
 
-  frames_kept : (h : Home) (n : ℕ) (f : List (List Value) → List (List Value)) (o : Option Ex) (m : Members) → KeepsFrames f → SlotBy (LifeEx t few) (at_home h n) o → ParkedBy (LifeEx t few) h m.parked → ParkedBy (LifeEx t few) h (frames_by n f o m).parked
-  frames_kept h n f None m same r s = s
-  frames_kept h n f (Some x) m same r s =
-      parked.update_parked (LifeEx t few) h n (Some (record x { frames = f x.frames })) m.parked (record { frames = (same (at_home h n) x.frames).0 ∙ r.frames; stack = (same (at_home h n) x.frames).1 (x.run ∷ x.callers) r.stack }) s
+  written_frame : (n : Exec) (d k : ℕ) (v : Value) (e : Env) → EnvBy P e → Keeps e (with_frames n (frame_changed d (value_changed k (stored v) nought)) e)
+  written_frame n d k v e s =
+      either (Keeps e) (exec_eq n e.exec) (record e { frames = frame_changed d (value_changed k (stored v) nought) e.frames }) (change n.home (frames_changed n.serial (frame_changed d (value_changed k (stored v) nought))) e) (record { exec = refl; frames = set_length e.frames d (value_changed k (stored v) nought (list_in (at_depth e.frames d))); stack = λ cs h. stack_stored t few K e.exec d k v e.frames cs h; env = like s refl refl refl }) (keeps_change n.home (frames_changed n.serial (frame_changed d (value_changed k (stored v) nought))) e (λ m h. frames_kept n.home n.serial d k v (joined (find n.serial m.parked)) m (parked.found_parked P n.home n.serial m.parked h) h) s)
 
-  with_frames_keeps : (n : Exec) (f : List (List Value) → List (List Value)) (e : Env) → KeepsFrames f → LifeEnv t few e → Keeps e (with_frames n f e)
-  with_frames_keeps n f e same s =
-      either (Keeps e) (exec_eq n e.exec) (record e { frames = f e.frames }) (change n.home (frames_changed n.serial f) e) (record { exec = refl; frames = (same e.exec e.frames).0; stack = (same e.exec e.frames).1; env = like s refl refl refl }) (keeps_change n.home (frames_changed n.serial f) e (λ m h. frames_kept n.home n.serial f (joined (find n.serial m.parked)) m same (parked.found_parked (LifeEx t few) n.home n.serial m.parked h) h) s)
-
-  owned_keeps : (o : Owner) (k : ℕ) (v : Value) (e : Env) → LifeEnv t few e → Keeps e (with_owned o (value_changed k (stored v) nought) e)
-  owned_keeps (Frame n d) k v e s =
-      with_frames_keeps n (frame_changed d (value_changed k (stored v) nought)) e (λ n fs. (set_length fs d (value_changed k (stored v) nought (list_in (at_depth fs d))), λ cs h. stack_stored t few n d k v fs cs h)) s
+  owned_keeps : (o : Owner) (k : ℕ) (v : Value) (e : Env) → EnvBy P e → Keeps e (with_owned o (value_changed k (stored v) nought) e)
+  owned_keeps (Frame n d) k v e s = written_frame n d k v e s
   owned_keeps (Fields o) k v e s = keeps_change (home.Object o) _ e (λ m h. h) s
 
-  pub written_keeps : (v w : Value) (e : Env) → LifeEnv t few e → Keeps e (written v w e)
+  pub written_keeps : (v w : Value) (e : Env) → EnvBy P e → Keeps e (written v w e)
   written_keeps (Number n) w e s = keeps_like s refl refl refl refl refl
   written_keeps (Place o p) w e s = owned_keeps o (address p) w e s
   written_keeps (Running x) w e s = keeps_like s refl refl refl refl refl
@@ -78,27 +83,36 @@ module _ (t : Table) (few : Few) where
   -- executions are made and go, and their links change
 
   -- whatever the name of one that is made
-  pub born_keeps : (h : Home) (x : Ex) (e : Env) → ((n : Exec) → LifeEx t few n x) → LifeEnv t few e → Keeps e (sw.born h x e)
-  born_keeps h x e r s = keeps_change h (sw.one_more x) e (λ m p. parked.more_parked (LifeEx t few) h m.serial x m.parked (r (at_home h m.serial)) p) s
+  pub born_keeps : (h : Home) (x : Ex) (e : Env) → ((n : Exec) → P n x) → EnvBy P e → Keeps e (sw.born h x e)
+  born_keeps h x e r s = keeps_change h (sw.one_more x) e (λ m p. parked.more_parked P h m.serial x m.parked (r (at_home h m.serial)) p) s
 
-  pub forgotten_keeps : (o : Option Exec) (e : Env) → LifeEnv t few e → Keeps e (sw.forgotten o e)
+  pub forgotten_keeps : (o : Option Exec) (e : Env) → EnvBy P e → Keeps e (sw.forgotten o e)
   forgotten_keeps None e s = keeps_like s refl refl refl refl refl
-  forgotten_keeps (Some n) e s = keeps_change n.home (sw.slot_gone n.serial) e (λ m h. parked.without_parked (LifeEx t few) n.home n.serial m.parked h) s
+  forgotten_keeps (Some n) e s = keeps_change n.home (sw.slot_gone n.serial) e (λ m h. parked.without_parked P n.home n.serial m.parked h) s
 
-  links_kept : (h : Home) (g : Links → Links) (n : ℕ) (o : Option Ex) (m : Members) → SlotBy (LifeEx t few) (at_home h n) o → ParkedBy (LifeEx t few) h m.parked → ParkedBy (LifeEx t few) h (sw.links_by g n o m).parked
+  links_kept : (h : Home) (g : Links → Links) (n : ℕ) (o : Option Ex) (m : Members) → SlotBy P (at_home h n) o → ParkedBy P h m.parked → ParkedBy P h (sw.links_by g n o m).parked
   links_kept h g n None m r s = s
-  links_kept h g n (Some x) m r s = parked.update_parked (LifeEx t few) h n (Some (record x { links = g x.links })) m.parked (record { frames = r.frames; stack = r.stack }) s
+  links_kept h g n (Some x) m r s = parked.update_parked P h n (Some (record x { links = g x.links })) m.parked (rests.linked (at_home h n) x (g x.links) r) s
 
-  pub links_keeps : (g : Links → Links) (n : Exec) (e : Env) → LifeEnv t few e → Keeps e (sw.with_links g n e)
+  pub links_keeps : (g : Links → Links) (n : Exec) (e : Env) → EnvBy P e → Keeps e (sw.with_links g n e)
   links_keeps g n e s =
-      either (Keeps e) (exec_eq n e.exec) (record e { links = g e.links }) (change n.home (sw.links_changed g n.serial) e) (keeps_like s refl refl refl refl refl) (keeps_change n.home (sw.links_changed g n.serial) e (λ m h. links_kept n.home g n.serial (joined (find n.serial m.parked)) m (parked.found_parked (LifeEx t few) n.home n.serial m.parked h) h) s)
+      either (Keeps e) (exec_eq n e.exec) (record e { links = g e.links }) (change n.home (sw.links_changed g n.serial) e) (keeps_like s refl refl refl refl refl) (keeps_change n.home (sw.links_changed g n.serial) e (λ m h. links_kept n.home g n.serial (joined (find n.serial m.parked)) m (parked.found_parked P n.home n.serial m.parked h) h) s)
 
-  pub enlivened_keeps : (o : Option Exec) (e : Env) → LifeEnv t few e → Keeps e (sw.enlivened o e)
+  pub enlivened_keeps : (o : Option Exec) (e : Env) → EnvBy P e → Keeps e (sw.enlivened o e)
   enlivened_keeps None e s = keeps_like s refl refl refl refl refl
   enlivened_keeps (Some n) e s = links_keeps (λ l. record l { live = true }) n e s
 
-  -- switches
+  -- the same running execution, in a task that has changed
+  pub with_env : {e : Env} (s : State) → LifeStateBy t few K P s → Keeps s.env e → LifeStateBy t few K P (record s { env = e })
+  with_env {e} s h k = record {
+    frames = k.frames ∙ h.frames;
+    stack = subst (λ n. LifeStackBy t few K n e.frames (s.run ∷ s.callers)) (sym k.exec) (k.stack (s.run ∷ s.callers) h.stack);
+    env = k.env;
+  }
 
+-- switches
+
+module _ (t : Table) (few : Few) where
   abbrev pub LifeMoved : Moved (List Todo) Value → Type 0
   LifeMoved (To s) = LifeState t few s
   LifeMoved (Stops f) = Unit {0}
@@ -112,7 +126,7 @@ module _ (t : Table) (few : Few) where
   switched_rests n x s r h = record {
     frames = r.frames;
     stack = r.stack;
-    env = like (parked.slot_rests (LifeEx t few) s.env.exec (Some (sw.stopped s)) (sw.set_slot n None s.env) (record { frames = h.frames; stack = h.stack }) (parked.slot_rests (LifeEx t few) n None s.env tt h.env)) refl refl refl;
+    env = parked.like (LifeEx t few) (parked.slot_rests (LifeEx t few) s.env.exec (Some (sw.stopped s)) (sw.set_slot n None s.env) (record { frames = h.frames; stack = h.stack }) (parked.slot_rests (LifeEx t few) n None s.env tt h.env)) refl refl refl;
   }
 
   able_stage : (g : Stage) (n : Exec) (x : Ex) → LifeEx t few n x → LifeNext (sw.able_at g n x)
@@ -156,7 +170,7 @@ module _ (t : Table) (few : Few) where
   suspend_rests s h = either LifeMoved (sw.in_destruction s.env) (Stops SwitchInUnwind) (sw.go_on (sw.able s.env.links.resumer s.env) s) tt (go_on_rests (sw.able s.env.links.resumer s.env) s (able_rests s.env.links.resumer s.env h.env) h)
 
   ended_rests : (s : State) → LifeState t few s → LifeState t few (sw.ended s)
-  ended_rests s h = record { frames = h.frames; stack = h.stack; env = like h.env refl refl refl }
+  ended_rests s h = record { frames = h.frames; stack = h.stack; env = parked.like (LifeEx t few) h.env refl refl refl }
 
   pub finish_rests : (s : State) → LifeState t few s → LifeMoved (sw.finish s)
   finish_rests s h =
@@ -172,26 +186,19 @@ module _ (t : Table) (few : Few) where
   pub taken_down_rests : (s : State) → LifeState t few s → LifeMoved (sw.taken_down s)
   taken_down_rests s h = go_on_rests (sw.able s.env.links.destroyer s.env) (sw.ended s) (able_rests s.env.links.destroyer s.env h.env) (ended_rests s h)
 
-  -- the same running execution, in a task that has changed
-  pub with_env : {e : Env} (s : State) → LifeState t few s → Keeps s.env e → LifeState t few (record s { env = e })
-  with_env {e} s h k = record {
-    frames = k.frames ∙ h.frames;
-    stack = subst (λ n. LifeStack t few n e.frames (s.run ∷ s.callers)) (sym k.exec) (k.stack (s.run ∷ s.callers) h.stack);
-    env = k.env;
-  }
+  module _ (rests : IsParkedKept (LifeEx t few)) where
+    over_rests : (n : Exec) (s : State) → LifeState t few s → LifeState t few (sw.over n s)
+    over_rests n s h = with_env t few OutwardsOnly (LifeEx t few) rests s h (links_keeps t few OutwardsOnly (LifeEx t few) rests (λ l. record l { live = false; stage = Ended }) n s.env h.env)
 
-  over_rests : (n : Exec) (s : State) → LifeState t few s → LifeState t few (sw.over n s)
-  over_rests n s h = with_env s h (links_keeps (λ l. record l { live = false; stage = Ended }) n s.env h.env)
+    take_down_stage : (g : Stage) (n : Exec) (x : Ex) (s : State) → LifeEx t few n x → LifeState t few s → LifeMoved (sw.take_down_at g n x s)
+    take_down_stage Fresh n x s r h = over_rests n s h
+    take_down_stage Started n x s r h = switched_rests n _ s (record { frames = r.frames; stack = r.stack }) h
+    take_down_stage Ended n x s r h = over_rests n s h
 
-  take_down_stage : (g : Stage) (n : Exec) (x : Ex) (s : State) → LifeEx t few n x → LifeState t few s → LifeMoved (sw.take_down_at g n x s)
-  take_down_stage Fresh n x s r h = over_rests n s h
-  take_down_stage Started n x s r h = switched_rests n _ s (record { frames = r.frames; stack = r.stack }) h
-  take_down_stage Ended n x s r h = over_rests n s h
+    take_down_slot : (n : Exec) (o : Option Ex) (s : State) → SlotBy (LifeEx t few) n o → LifeState t few s → LifeMoved (sw.take_down_by n o s)
+    take_down_slot n None s r h = h
+    take_down_slot n (Some x) s r h = take_down_stage x.links.stage n x s r h
 
-  take_down_slot : (n : Exec) (o : Option Ex) (s : State) → SlotBy (LifeEx t few) n o → LifeState t few s → LifeMoved (sw.take_down_by n o s)
-  take_down_slot n None s r h = h
-  take_down_slot n (Some x) s r h = take_down_stage x.links.stage n x s r h
-
-  pub take_down_rests : (o : Option Exec) (s : State) → LifeState t few s → LifeMoved (sw.take_down o s)
-  take_down_rests None s h = h
-  take_down_rests (Some n) s h = take_down_slot n (parked_at n s.env) s (parked.parked_rests (LifeEx t few) n s.env h.env) h
+    pub take_down_rests : (o : Option Exec) (s : State) → LifeState t few s → LifeMoved (sw.take_down o s)
+    take_down_rests None s h = h
+    take_down_rests (Some n) s h = take_down_slot n (parked_at n s.env) s (parked.parked_rests (LifeEx t few) n s.env h.env) h

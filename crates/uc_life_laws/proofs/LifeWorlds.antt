@@ -71,6 +71,12 @@ module _ (t : Table) (few : Few) where
     led (runs.goes {s} e l) o st h = led l o.1 (subst (StackStep Z) e (stacking.walk Z source known s st)) (subst (LifeStep t few) e (steps_to s st o.0 h))
     led (runs.ticks {s} e l) o st h = led l o.1 (subst (StackStep Z) e (stacking.walk Z source known s st)) (subst (LifeStep t few) e (steps_to s st o.0 h))
 
+    -- the same of frames
+    pub stack_led : {s u : State} → Leads source s u → StackState Z s → StackState Z u
+    stack_led runs.stays st = st
+    stack_led (runs.goes {s} e l) st = stack_led l (subst (StackStep Z) e (stacking.walk Z source known s st))
+    stack_led (runs.ticks {s} e l) st = stack_led l (subst (StackStep Z) e (stacking.walk Z source known s st))
+
     ridden : {s u : State} {q k : ℕ} {a : Asked} (r : Rides source s q u k a) → RideMeets (Opens t few) source s q u k a r → StackState Z s → LifeState t few s → LifeState t few u
     ridden (rides.slices {s}) o st h = h
     ridden (rides.goes_on {s} {t} e r) o st h = ridden r o.1 (subst (StackStep Z) e (stacking.walk Z source known s st)) (subst (LifeStep _ few) e (steps_to s st o.0 h))

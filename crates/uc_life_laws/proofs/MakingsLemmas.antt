@@ -19,6 +19,7 @@ use Rattle.uc_life_laws.specs.Knowing.{InMaking, KnowsWaits, ClaimsEnv, ClaimsSt
 use Rattle.uc_life_laws.specs.Kinds.{IsKept, HasOne, BeginsAt, Turned, stays, begins, goes_back, GoesOn, Parks, FollowsOn, Claimed}
 use Rattle.uc_life_laws.specs.Makings.{IsElsewhere, IsEnding, MadeBy, AllMade, Makings, Builds, BuildsAt, LawMakings}
 use Rattle.uc_life_laws.proofs.Knowns.{frames_length}
+use Rattle.uc_life_laws.proofs.Reading.{life_read}
 use Rattle.uc_life_laws.proofs.Acting.{law_claims}
 use Rattle.uc_life_laws.proofs.KindsLemmas.{goes_or, step_more}
 
@@ -145,8 +146,8 @@ module _ (t : Table) (ends : ℕ → Bool) where
     where
       by : GoesOn s.run.control s.run.raised ⊎ (GoesOn s.run.control s.run.raised → ⊥) → StepBy t few (Claimed (Makings t ends) t few) (ClaimsEnv t few (Makings t ends)) source (quiet source s)
       by (inl calm) =
-          step_more t few source (FollowsOn (Makings t ends) t few source s x.sigs) (Claimed (Makings t ends) t few) (ClaimsEnv t few (Makings t ends)) (λ given u y. (y.0, turned few source s x claim m u y.0.sigs y.1)) (quiet source s) ((law_claims (Makings t ends) making_kept).goes t few source sound s st x l (parks few source s x claim s.run.control m) calm)
-      by (inr stops) = (law_claims (Makings t ends) making_kept).stops t few source sound s st x l (parks few source s x claim s.run.control m) stops
+          step_more t few source (FollowsOn (Makings t ends) t few source s x.sigs) (Claimed (Makings t ends) t few) (ClaimsEnv t few (Makings t ends)) (ClaimsEnv t few (Makings t ends)) (λ e k. k) (λ given u y. (y.0, turned few source s x claim m u y.0.sigs y.1)) (quiet source s) ((law_claims (Makings t ends) making_kept).goes t few source sound s x (life_read t few s x.sigs st) l (parks few source s x claim s.run.control m) calm)
+      by (inr stops) = (law_claims (Makings t ends) making_kept).stops t few source sound s x (life_read t few s x.sigs st) l (parks few source s x claim s.run.control m) stops
 
 pub law_makings : LawMakings
 law_makings = record {

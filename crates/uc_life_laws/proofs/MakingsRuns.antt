@@ -27,7 +27,7 @@ use Rattle.uc_sound.specs.Tables.{table_of}
 use Rattle.uc_sound.proofs.MainLemmas.{law_mains}
 use Rattle.uc_sound.proofs.SoundLemmas.{law_sound}
 use Rattle.uc_life_laws.specs.Things.{Few, Known}
-use Rattle.uc_life_laws.specs.LifeStates.{SlotBy, ParkedBy, HandBy, MembersBy, EnvBy}
+use Rattle.uc_life_laws.specs.LifeStates.{SlotBy, ParkedBy, HandBy, MembersBy, EnvBy, LifeState}
 use Rattle.uc_life_laws.specs.LifeRuns.{IsLaidOut}
 use Rattle.uc_life_laws.specs.Knowing.{AtHand, ClaimsBy, ClaimsEx, ClaimsSlot, ClaimsState, KnowsBy, KnowsEx, KnowsSlot, KnowsState, main_of}
 use Rattle.uc_life_laws.specs.Kinds.{Claimed}
@@ -35,44 +35,12 @@ use Rattle.uc_life_laws.specs.Makings.{Makings}
 use Rattle.uc_life_laws.specs.MakingsRuns.{MeetsMaking, KnowsElsewhere, LawMakingsRuns}
 use Rattle.uc_life_laws.proofs.Parked.{Ex}
 use Rattle.uc_life_laws.proofs.KnownAnswers as answers
+use Rattle.uc_life_laws.proofs.KindsLemmas.{plain}
 use Rattle.uc_life_laws.proofs.Laying.{laid_out}
-use Rattle.uc_life_laws.proofs.LifeWorlds.{stack_told}
+use Rattle.uc_life_laws.proofs.LifeWorlds.{LifeWorld, stack_told}
 use Rattle.uc_life_laws.proofs.MakingsLemmas.{making_kept, law_makings}
 use Rattle.uc_life_laws.proofs.WorldsBy as by
-use Rattle.uc_life_laws.proofs.WorldsBy.{KeepsBy}
-
--- what holds of each execution that does not run, something weaker does
-module _ (P R : Exec → Ex → Type 0) (less : (n : Exec) (x : Ex) → P n x → R n x) where
-  slot_less : (n : Exec) (o : Option Ex) → SlotBy P n o → SlotBy R n o
-  slot_less n None h = tt
-  slot_less n (Some x) h = less n x h
-
-  parked_less : (h : Home) (ps : List (ℕ × Option Ex)) → ParkedBy P h ps → ParkedBy R h ps
-  parked_less h [] k = tt
-  parked_less h (p ∷ ps) k = (slot_less (record { home = h; serial = p.0 }) p.1 k.0, parked_less h ps k.1)
-
-  hand_less : (ps : List (ℕ × Members)) → HandBy P ps → HandBy R ps
-  hand_less [] k = tt
-  hand_less (p ∷ ps) k = (parked_less (home.Object p.0) p.1.parked k.0, hand_less ps k.1)
-
-  pub env_less : (e : Env) → EnvBy P e → EnvBy R e
-  env_less e k = record { house = parked_less (home.Task e.own) e.house.parked k.house; hand = hand_less e.hand k.hand }
-
--- what is claimed is forgotten
-module _ (t : Table) (few : Few) (Q : Exec → List Sig → Ex → Type 0) where
-  ex_plain : (n : Exec) (x : Ex) → ClaimsEx t few Q n x → KnowsEx t few n x
-  ex_plain n x k = record { sigs = k.sigs; frames = k.frames; run = k.run; callers = k.callers; claim = tt }
-
-  by_plain : (n : Exec) (g : Stage) (x : Ex) → ClaimsBy t few Q n g x → KnowsBy t few n g x
-  by_plain n Fresh x k = ex_plain n x k
-  by_plain n Started x k = ex_plain n x k
-  by_plain n Ended x k = tt
-
-  pub plain : (given : List Ty) (s : State) (x : ClaimsState t few Q given s) → (y : KnowsState t few given s) × (y.sigs ≡ x.sigs)
-  plain given s x = (
-    record { sigs = x.sigs; frames = x.frames; run = x.run; callers = x.callers; env = env_less (ClaimsSlot t few Q) (KnowsSlot t few) (λ n y k. by_plain n y.links.stage y k) s.env x.env },
-    refl,
-  )
+use Rattle.uc_life_laws.proofs.WorldsBy.{Beside, KeepsBy}
 
 module _ (t : Table) (ends : ℕ → Bool) (few : Few) (source : Source) (sound : Sound t source) (main : IsTask t source.main) where
   abbrev S : List Ty → State → Type 0
@@ -96,15 +64,14 @@ module _ (t : Table) (ends : ℕ → Bool) (few : Few) (source : Source) (sound 
   fresh_made : (r : ℕ) (x : Routine) (n : ℕ) → slice_get source.routines r ≡ Some x → IsTask t r → Makings t ends (main_of n) (t.routine r ∷ []) (fresh x (Object n))
   fresh_made r x n e h = (λ g at whole c of. inl (inl (inr refl)), tt)
 
-  keeps : KeepsBy t few source S P (MeetsMaking t ends few source)
+  keeps : KeepsBy t few source (LifeState t few) S P (MeetsMaking t ends few source)
   keeps = record {
     hand = λ given s x. x.0.env.hand;
     handed = λ given hand s x h. (record { sigs = x.0.sigs; frames = x.0.frames; run = x.0.run; callers = x.0.callers; env = record { house = x.0.env.house; hand = h } }, x.1);
     told = λ q a s x h p. answers.told t few S P operand member source q a s x h p;
     spawned = λ o n s x p. answers.begins t few (Makings t ends) (making_kept t ends) source sound fresh_made (child_main source s.run.control) n x.0 p;
     begins = λ p. answers.begins t few (Makings t ends) (making_kept t ends) source sound fresh_made source.main 0 main p;
-    opens = λ s m st x. (m st x).0;
-    steps = λ s m st x. let y = m st x in law_makings.steps t ends few source sound s st y.1.0.0 y.1.0.1 y.1.1 y.2;
+    steps = λ s clear m st x. let y = m st x in law_makings.steps t ends few source sound s st y.1.0.0 y.1.0.1 y.1.1 y.2;
   }
 
 pub law_makings_runs : LawMakingsRuns
@@ -134,15 +101,18 @@ law_makings_runs p formed accepted ends few input opts range j w r fits on below
     known : SourceIn Z source
     known = law_accepted p accepted
 
-    k : KeepsBy t few source (Claimed (Makings t ends) t few) (ClaimsSlot t few (Makings t ends)) (MeetsMaking t ends few source)
+    k : KeepsBy t few source (LifeState t few) (Claimed (Makings t ends) t few) (ClaimsSlot t few (Makings t ends)) (MeetsMaking t ends few source)
     k = keeps t ends few source sound main
 
-    h : by.KnownWorld t few source Z laid known (Claimed (Makings t ends) t few) (ClaimsSlot t few (Makings t ends)) (MeetsMaking t ends few source) k j w
-    h = by.run_known t few source Z laid known (Claimed (Makings t ends) t few) (ClaimsSlot t few (Makings t ends)) (MeetsMaking t ends few source) k input opts range r fits meets on below first
+    beside : Beside t source (LifeState t few) (LifeWorld t few) (Claimed (Makings t ends) t few) (MeetsMaking t ends few source)
+    beside = by.life_beside t few source Z laid known (Claimed (Makings t ends) t few) (MeetsMaking t ends few source) (λ s m st x. (m st x).0)
 
-    there : (n : ℕ) (s : State) (c : Comes source j w n s) → LeadsMeet (MeetsMaking t ends few source) source (answered source c.given (drawn j w n)) s c.leads → by.There t few source Z laid known (Claimed (Makings t ends) t few) (ClaimsSlot t few (Makings t ends)) (MeetsMaking t ends few source) k s
+    h : by.KnownWorld t few source Z laid known (LifeState t few) (LifeWorld t few) (Claimed (Makings t ends) t few) (ClaimsSlot t few (Makings t ends)) (MeetsMaking t ends few source) beside k j w
+    h = by.run_known t few source Z laid known (LifeState t few) (LifeWorld t few) (Claimed (Makings t ends) t few) (ClaimsSlot t few (Makings t ends)) (MeetsMaking t ends few source) beside k input opts range r fits meets on below first
+
+    there : (n : ℕ) (s : State) (c : Comes source j w n s) → LeadsMeet (MeetsMaking t ends few source) source (answered source c.given (drawn j w n)) s c.leads → by.There t few source Z laid known (LifeState t few) (LifeWorld t few) (Claimed (Makings t ends) t few) (ClaimsSlot t few (Makings t ends)) (MeetsMaking t ends few source) beside k s
     there n s c l =
-        by.led t few source Z laid known (Claimed (Makings t ends) t few) (ClaimsSlot t few (Makings t ends)) (MeetsMaking t ends few source) k c.leads l (stack_told t few Z laid source known c.given j w n (stacked.world_rests Z source known input opts r)) (by.starts t few source Z laid known (Claimed (Makings t ends) t few) (ClaimsSlot t few (Makings t ends)) (MeetsMaking t ends few source) k input opts range (run_rests source input opts range r fits on).kernel on h c.processor n c.given c.runs c.told)
+        by.led t few source Z laid known (LifeState t few) (LifeWorld t few) (Claimed (Makings t ends) t few) (ClaimsSlot t few (Makings t ends)) (MeetsMaking t ends few source) beside k c.leads l (stack_told t few Z laid source known c.given j w n (stacked.world_rests Z source known input opts r)) (by.starts t few source Z laid known (LifeState t few) (LifeWorld t few) (Claimed (Makings t ends) t few) (ClaimsSlot t few (Makings t ends)) (MeetsMaking t ends few source) beside k input opts range (run_rests source input opts range r fits on).kernel on h c.processor n c.given c.runs c.told)
 
     all : (s : State) → Claimed (Makings t ends) t few [] s → KnowsElsewhere t ends few s
-    all s x = let y = plain t few (Makings t ends) [] s x.0 in record { knows = y.0; elsewhere = λ v c m. law_makings.elsewhere t ends s.env.exec y.0.sigs (s.run ∷ s.callers) (subst (λ gs. Makings t ends s.env.exec gs (stopped s)) (sym y.1) x.1) v c m }
+    all s x = record { knows = plain t few (Makings t ends) [] s x.0; elsewhere = λ v c m. law_makings.elsewhere t ends s.env.exec x.0.sigs (s.run ∷ s.callers) x.1 v c m }

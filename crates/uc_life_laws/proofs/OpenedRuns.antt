@@ -1,5 +1,5 @@
 -- Where what is bound is there behind the step that binds it, scopes of what is known by its number open as they are to.
-use Rattle.std.proofs.Common.{◌≡◌, ℕ, inl, inr, true, false, List, [], ◌∷◌, refl, sym, subst}
+use Rattle.std.proofs.Common.{◌≡◌, ℕ, Bool, inl, inr, true, false, List, [], ◌∷◌, refl, sym, subst}
 use Rattle.uc_tree.specs.Programs.{Program}
 use Rattle.uc_tree.specs.Source as src
 use Rattle.uc_tree.specs.Source.{Source, CleanUp, Stmt, Stmts}
@@ -27,7 +27,7 @@ use Rattle.uc_state_laws.specs.RoomRuns.{Leads, Comes}
 use Rattle.uc_state_laws.proofs.StackWalk as stacking
 use Rattle.uc_state_laws.proofs.StackWorlds as stacked
 use Rattle.uc_state_laws.proofs.Unreferring.{law_accepted}
-use Rattle.uc_state_laws.specs.There.{IsThere, AllCounted, Any, frame_at}
+use Rattle.uc_state_laws.specs.There.{IsThere, IsCounted, AllCounted, AllLeft, Any, frame_at}
 use Rattle.uc_state_laws.specs.Declaring as declaring
 use Rattle.uc_state_laws.specs.Declaring.{Point, point_todo}
 use Rattle.uc_state_laws.specs.Filling as fill
@@ -35,7 +35,7 @@ use Rattle.uc_state_laws.specs.NewClusters as way
 use Rattle.uc_state_laws.specs.NewClusters.{Stage, stage_todo, GoodBy, GoodStepBy}
 use Rattle.uc_state_laws.specs.Opens as there
 use Rattle.uc_state_laws.specs.Opens.{RideMeets, RunMeets, LeadsMeet}
-use Rattle.uc_state_laws.proofs.Cells.{held_there}
+use Rattle.uc_state_laws.proofs.Cells.{held_left}
 use Rattle.uc_state_laws.proofs.ValueWalk as values
 use Rattle.uc_state_laws.proofs.ValueWorlds as value_runs
 use Rattle.uc_typing.specs.Typing.{Table}
@@ -44,6 +44,9 @@ use Rattle.uc_sound.proofs.SoundLemmas.{law_sound}
 use Rattle.uc_life_laws.specs.LifeStates.{OpensAt}
 use Rattle.uc_life_laws.specs.Opened.{any}
 use Rattle.uc_life_laws.specs.KnownRuns.{PassesBelow, Meets, AllIsKnown}
+use Rattle.uc_life_laws.specs.Lives.{Lives}
+use Rattle.uc_life_laws.proofs.KindsLemmas.{plain}
+use Rattle.uc_life_laws.proofs.LivesLemmas.{opens_lives, law_lives}
 use Rattle.uc_life_laws.specs.OpenedRuns.{MeetsObjects, LawOpenedRuns}
 use Rattle.uc_life_laws.proofs.Opened.{law_opens}
 use Rattle.uc_life_laws.proofs.Following.{law_following}
@@ -71,7 +74,7 @@ module _ (P Q : State → Type 0) (f : (s : State) → P s → Q s) (source : So
 -- behind the step that opens a scope, what that is of is there
 
 module _ (rest : Stmts) (c : CleanUp) (todo : List Todo) where
-  abbrev opened : List Todo
+  abbrev pub opened : List Todo
   opened = piece.Rest rest ∷ (piece.Clean c ∷ todo)
 
   by_point : (g : Point) (b : Stmt) (ss : Stmts) (behind : List Todo) → opened ≡ point_todo g b ss behind → piece.Clean c ∷ todo ≡ behind
@@ -123,14 +126,20 @@ module _ (rest : Stmts) (c : CleanUp) (todo : List Todo) where
   by_fill fill.Passes x q = absurd (cc)
   by_fill fill.Opens x q = cc
 
-  behind_there : (vs : List Value) (behind : List Todo) → piece.Clean c ∷ todo ≡ behind → AllCounted Any vs behind → IsThere vs c
-  behind_there vs behind q h = (subst (AllCounted Any vs) (sym q) h).0.0
+  -- and a cluster that is a variable has one of these numbers
+  abbrev pub Counted : (ℕ → Bool) → List Value → Type 0
+  Counted few vs = IsThere vs c × IsCounted few vs c
 
-  good_there : (vs : List Value) (s : State) → GoodBy Any (at opened vs s) → IsThere (frame_at s.run.frame s.env.frames) c
-  good_there vs s (inl h) = (held_there Any (frame_at s.run.frame s.env.frames) s.run.elements opened h.stack.1).1.0
-  good_there vs s (inr (inl d)) = behind_there (frame_at s.run.frame s.env.frames) d.todo (by_point d.point d.binder d.next d.todo d.control) d.behind
-  good_there vs s (inr (inr (inr f))) = behind_there (frame_at s.run.frame s.env.frames) f.array.todo (by_fill f.stage f.array f.control) f.behind
-  good_there vs s (inr (inr (inl o))) = behind_there (frame_at s.run.frame s.env.frames) o.todo (by_stage o.stage o.cell o.line o.next o.todo o.control) o.behind
+  behind_counted : (few : ℕ → Bool) (vs : List Value) (behind : List Todo) → piece.Clean c ∷ todo ≡ behind → AllCounted few vs behind → Counted few vs
+  behind_counted few vs behind q h = (subst (AllCounted few vs) (sym q) h).0
+
+  pub good_counted : (few : ℕ → Bool) (vs : List Value) (s : State) → GoodBy few (at opened vs s) → Counted few (frame_at s.run.frame s.env.frames)
+  good_counted few vs s (inl h) =
+      let left : AllLeft few (frame_at s.run.frame s.env.frames) opened = held_left few (frame_at s.run.frame s.env.frames) s.run.elements opened h.stack.1 in
+      left.0
+  good_counted few vs s (inr (inl d)) = behind_counted few (frame_at s.run.frame s.env.frames) d.todo (by_point d.point d.binder d.next d.todo d.control) d.behind
+  good_counted few vs s (inr (inr (inr f))) = behind_counted few (frame_at s.run.frame s.env.frames) f.array.todo (by_fill f.stage f.array f.control) f.behind
+  good_counted few vs s (inr (inr (inl o))) = behind_counted few (frame_at s.run.frame s.env.frames) o.todo (by_stage o.stage o.cell o.line o.next o.todo o.control) o.behind
 
 module _ (p : Program) (accepted : breaks_of p ≡ []) where
   abbrev source : Source
@@ -153,15 +162,15 @@ module _ (p : Program) (accepted : breaks_of p ≡ []) where
 
   scope_there : (s : State) → StackState Z s → there.Opens source s → GoodBy Any s → (c : CleanUp) (rest : Stmts) (todo : List Todo) → s.run.control ≡ piece.Rest (src.Scoped c rest) ∷ todo → IsThere (frame_at s.run.frame s.env.frames) c
   scope_there s st o h c rest todo e =
-      good_there rest c todo s.run.operands s (subst (λ (l : List Todo). GoodStepBy Any (quiet.act_todo source l s)) e (steps_to s st o h))
+      (good_counted rest c todo Any s.run.operands s (subst (λ (l : List Todo). GoodStepBy Any (quiet.act_todo source l s)) e (steps_to s st o h))).0
 
   -- so a scope opens as it is to
   meets_at : (s : State) → StackState Z s → GoodBy Any s → MeetsObjects t source s → Meets t any s
-  meets_at s st h m life x = (by s.run.control refl, m.finds x)
+  meets_at s st h m x = let y = m.finds x in (y.0, (y.1, opens_lives t any y.0.0.sigs s s.run.control (by s.run.control refl)))
     where
       by : (l : List Todo) → s.run.control ≡ l → OpensAt t any l s
       by (piece.Rest (src.Scoped c rest) ∷ todo) e =
-          subst (λ l. OpensAt t any l s) e (law_opens.opens t s (law_following.typed t any [] s x) c rest todo e (scope_there s st m.opens h c rest todo e) (m.objects c rest todo e))
+          subst (λ l. OpensAt t any l s) e (law_opens.opens t s (law_following.typed t any [] s (plain t any (Lives t any) [] s x.0)) c rest todo e (scope_there s st m.opens h c rest todo e) (m.objects c rest todo e))
       by l e = tt
 
   ride_meets : {s u : State} {q k : ℕ} {a : Asked} (r : Rides source s q u k a) → RideMeets (MeetsObjects t source) source s q u k a r → StackState Z s → GoodBy Any s → RideMeets (Meets t any) source s q u k a r
@@ -197,12 +206,12 @@ module _ (p : Program) (accepted : breaks_of p ≡ []) where
 pub law_opened_runs : LawOpenedRuns
 law_opened_runs p formed accepted input opts range j w r fits on meets = record {
   comes = λ n s c l. all.comes n s c (leads n s c l);
-  scopes = λ n s c l. all.scopes n s c (leads n s c l);
+  lives = λ n s c l. all.lives n s c (leads n s c l);
   reads = λ n s c l m.
       let h = good n s c l in
       let st : StackState (Sized p) s = stack n s c in
-      let x = (meets_at p accepted s st h m (all.scopes n s c (leads n s c l)) (all.comes n s c (leads n s c l))).1 in
-      law_following.reads (table_of p) any (source_of p) (law_sound p formed accepted) s (all.scopes n s c (leads n s c l)) x.0 x.1;
+      let x = meets_at p accepted s st h m (all.lives n s c (leads n s c l)) in
+      law_following.reads (table_of p) any (source_of p) (law_sound p formed accepted) s (plain (table_of p) any (Lives (table_of p) any) [] s x.0.0) (law_lives.reads (table_of p) any s x.0) x.1.0;
 }
   where
     below : PassesBelow any opts j

@@ -114,3 +114,24 @@ module _ (P : Exec → Ex → Type 0) where
 
   pub slot_rests : (n : Exec) (o : Option Ex) (e : Env) → SlotBy P n o → EnvBy P e → EnvBy P (sw.set_slot n o e)
   slot_rests n o e r s = change_rests n.home (sw.slot_set n.serial o) e (λ m h. update_parked n.home n.serial o m.parked r h) s
+
+-- all executions that do not run
+module _ (P : Exec → Ex → Type 0) (each : (n : Exec) (x : Ex) → P n x) where
+  each_slot : (n : Exec) (o : Option Ex) → SlotBy P n o
+  each_slot n None = tt
+  each_slot n (Some x) = each n x
+
+  each_parked : (h : Home) (ps : List (ℕ × Option Ex)) → ParkedBy P h ps
+  each_parked h [] = tt
+  each_parked h (x ∷ ps) = (each_slot (record { home = h; serial = x.0 }) x.1, each_parked h ps)
+
+  each_hand : (ps : List (ℕ × Members)) → HandBy P ps
+  each_hand [] = tt
+  each_hand (x ∷ ps) = (each_parked (home.Object x.0) x.1.parked, each_hand ps)
+
+  pub each_members : (h : Home) (m : Option Members) → MembersBy P h m
+  each_members h None = tt
+  each_members h (Some m) = each_parked h m.parked
+
+  pub each_env : (e : Env) → EnvBy P e
+  each_env e = record { house = each_parked (home.Task e.own) e.house.parked; hand = each_hand e.hand }

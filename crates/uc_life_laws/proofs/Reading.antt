@@ -19,8 +19,8 @@ use Rattle.uc_typing.specs.Pieces.{Ok, Left, Met}
 use Rattle.uc_typing.specs.States.{Either, IsBase}
 use Rattle.uc_typing.proofs.Control as control
 use Rattle.uc_life_laws.specs.Things.{Few, IsBinding, IsReference, IsResource, Within, itself, field, element, AtVariable, AtField, IsFor, Nowhere, Marks, InTodo, Things, Variables, UnmadeBehind, Unmade, Outer, Around, OwnFields, LiesIn, Known, Holds, Held, lies, inside}
-use Rattle.uc_life_laws.specs.LifeStates.{frame_at, Outwards, MarkHolds, AllHold, LifeStack, LifeState}
-use Rattle.uc_life_laws.specs.Knowing.{Here, ReadsKnown, InMaking, NotWhole}
+use Rattle.uc_life_laws.specs.LifeStates.{BehindMark, OutwardsOnly, frame_at, Outwards, MarkHoldsBy, AllHoldBy, LifeStackBy, LifeState}
+use Rattle.uc_life_laws.specs.Knowing.{Here, ReadsKnown, VariablesKnown, InMaking, NotWhole}
 use Rattle.uc_life_laws.proofs.LifeSteps.{exec_same}
 use Rattle.uc_life_laws.proofs.Knowns.{Less, known_more, awaits_some, around_outer, around_hand}
 
@@ -75,16 +75,16 @@ module _ (t : Table) (n : Exec) where
         subst (λ d. Known t few n K b (slice_index_or (frame_at d fs) (address p) nought)) (sym e) (h p b (subst (λ d. Within t (Place (Frame n f) (Slot k ∷ [])) a (Place (Frame n d) p) (Cell b)) e w) i)
 
   -- in a to-do list: what is known behind a mark is known before the list
-  module _ (few : Few) (fs : List (List Value)) (f : ℕ) (this : Value) (older : List Active) (w : Value) (a : Ty) (d : ℕ) (p : List Link) (b : Ty) (i : IsBinding b) (L : Value → Ty → Type 0) where
+  module _ (few : Few) (K : BehindMark) (fs : List (List Value)) (f : ℕ) (this : Value) (older : List Active) (w : Value) (a : Ty) (d : ℕ) (p : List Link) (b : Ty) (i : IsBinding b) (L : Value → Ty → Type 0) (behind : (c : CleanUp) (todo : List Todo) (v : Value) (e : Ty) → K (Outwards t few n f this older c todo) n f this older v e → Outwards t few n f this older c todo v e ⊎ L v e) where
     abbrev Before : List Todo → Value → Ty → Type 0
     Before todo v c = InTodo (IsFor t (Frame n f) this) (AtField t (Frame n f) this) todo v c ⊎ Outer t few n older v c
 
     abbrev Reads : Type 0
     Reads = Known t few n L b (slice_index_or (frame_at d fs) (address p) nought)
 
-    from_mark : (s : Sort) (todo : List Todo) → MarkHolds t few n (frame_at f fs) f this older s todo (AllHold t few n (frame_at f fs) f this older todo) → ((v : Value) (e : Ty) → (Marks (IsFor t (Frame n f) this) (AtField t (Frame n f) this) s v e (InTodo (IsFor t (Frame n f) this) (AtField t (Frame n f) this) todo v e) ⊎ Outer t few n older v e) → L v e) → Marks (AtVariable t (Frame n f) this) (Nowhere (Frame n f) this) s w a (InTodo (AtVariable t (Frame n f) this) (Nowhere (Frame n f) this) todo w a) → (AllHold t few n (frame_at f fs) f this older todo → Less t few n (Before todo) L → InTodo (AtVariable t (Frame n f) this) (Nowhere (Frame n f) this) todo w a → Reads) → Within t w a (Place (Frame n d) p) (Cell b) → Reads
+    from_mark : (s : Sort) (todo : List Todo) → MarkHoldsBy t few K n (frame_at f fs) f this older s todo (AllHoldBy t few K n (frame_at f fs) f this older todo) → ((v : Value) (e : Ty) → (Marks (IsFor t (Frame n f) this) (AtField t (Frame n f) this) s v e (InTodo (IsFor t (Frame n f) this) (AtField t (Frame n f) this) todo v e) ⊎ Outer t few n older v e) → L v e) → Marks (AtVariable t (Frame n f) this) (Nowhere (Frame n f) this) s w a (InTodo (AtVariable t (Frame n f) this) (Nowhere (Frame n f) this) todo w a) → (AllHoldBy t few K n (frame_at f fs) f this older todo → Less t few n (Before todo) L → InTodo (AtVariable t (Frame n f) this) (Nowhere (Frame n f) this) todo w a → Reads) → Within t w a (Place (Frame n d) p) (Cell b) → Reads
     from_mark (piece.IsClean c) todo h more (inl m) next y =
-        known_more t few n (Outwards t few n f this older c todo) L (λ v e x. more v e x) b _ (at_thing few (Outwards t few n f this older c todo) fs f m.0 a d p b (h.0 m.0 a m.1) (subst (λ w. Within t w a (Place (Frame n d) p) (Cell b)) m.2 y) i)
+        known_more t few n (K (Outwards t few n f this older c todo) n f this older) L (λ v e x. ⊎_elim (λ x. more v e x) (λ x. x) (behind c todo v e x)) b _ (at_thing few (K (Outwards t few n f this older c todo) n f this older) fs f m.0 a d p b (h.0 m.0 a m.1) (subst (λ w. Within t w a (Place (Frame n d) p) (Cell b)) m.2 y) i)
     from_mark (piece.IsClean c) todo h more (inr m) next y = next h.1 (λ v e x. ⊎_elim (λ x. more v e (inl (inr x))) (λ x. more v e (inr x)) x) m
     from_mark (piece.IsPart c) todo h more (inl m) next y = absurd m
     from_mark (piece.IsPart c) todo h more (inr m) next y = next h (λ v e x. ⊎_elim (λ x. more v e (inl (inr x))) (λ x. more v e (inr x)) x) m
@@ -97,15 +97,26 @@ module _ (t : Table) (n : Exec) where
     from_mark piece.IsFinish todo h more m next y = next h more m
     from_mark piece.IsFinishCoroutine todo h more m next y = next h more m
 
-    from_todo : (todo : List Todo) → AllHold t few n (frame_at f fs) f this older todo → Less t few n (Before todo) L → InTodo (AtVariable t (Frame n f) this) (Nowhere (Frame n f) this) todo w a → Within t w a (Place (Frame n d) p) (Cell b) → Reads
+    from_todo : (todo : List Todo) → AllHoldBy t few K n (frame_at f fs) f this older todo → Less t few n (Before todo) L → InTodo (AtVariable t (Frame n f) this) (Nowhere (Frame n f) this) todo w a → Within t w a (Place (Frame n d) p) (Cell b) → Reads
     from_todo [] h more m y = absurd m
     from_todo (x ∷ todo) h more m y = from_mark (piece.sort x) todo h more m (λ h more m. from_todo todo h more m y) y
 
+  -- what else is known behind the marks of each of these activations is known
+  module _ (few : Few) (K : BehindMark) (L : Value → Ty → Type 0) where
+    abbrev pub AllBehind : List Active → Type 0
+    AllBehind [] = Unit {0}
+    AllBehind (c ∷ older) = ((x : CleanUp) (todo : List Todo) (v : Value) (e : Ty) → K (Outwards t few n c.frame c.this older x todo) n c.frame c.this older v e → Outwards t few n c.frame c.this older x todo v e ⊎ L v e) × AllBehind older
+
   -- what a binding within a variable holds is known
-  pub from_variables : (few : Few) (fs : List (List Value)) (w : Value) (a : Ty) (d : ℕ) (p : List Link) (b : Ty) (i : IsBinding b) (L : Value → Ty → Type 0) (cs : List Active) → LifeStack t few n fs cs → Less t few n (Around t few n cs) L → Variables t n cs w a → Within t w a (Place (Frame n d) p) (Cell b) → Known t few n L b (slice_index_or (frame_at d fs) (address p) nought)
-  from_variables few fs w a d p b i L [] h more m y = absurd m
-  from_variables few fs w a d p b i L (c ∷ older) h more (inl m) y = from_todo few fs c.frame c.this older w a d p b i L c.control h.1 more m y
-  from_variables few fs w a d p b i L (c ∷ older) h more (inr m) y = from_variables few fs w a d p b i L older h.2 (λ v e x. more v e (inr (around_outer t few n older v e x))) m y
+  pub from_variables : (few : Few) (K : BehindMark) (fs : List (List Value)) (w : Value) (a : Ty) (d : ℕ) (p : List Link) (b : Ty) (i : IsBinding b) (L : Value → Ty → Type 0) (cs : List Active) → LifeStackBy t few K n fs cs → AllBehind few K L cs → Less t few n (Around t few n cs) L → Variables t n cs w a → Within t w a (Place (Frame n d) p) (Cell b) → Known t few n L b (slice_index_or (frame_at d fs) (address p) nought)
+  from_variables few K fs w a d p b i L [] h others more m y = absurd m
+  from_variables few K fs w a d p b i L (c ∷ older) h others more (inl m) y = from_todo few K fs c.frame c.this older w a d p b i L others.0 c.control h.1 more m y
+  from_variables few K fs w a d p b i L (c ∷ older) h others more (inr m) y = from_variables few K fs w a d p b i L older h.2 others.1 (λ v e x. more v e (inr (around_outer t few n older v e x))) m y
+
+  -- where nothing else is
+  pub none_behind : (few : Few) (L : Value → Ty → Type 0) (cs : List Active) → AllBehind few OutwardsOnly L cs
+  none_behind few L [] = tt
+  none_behind few L (c ∷ older) = ((λ x todo v e h. inl h), none_behind few L older)
 
   -- a thing is a field of an object at hand, or a variable
 
@@ -400,23 +411,27 @@ bound (Row m a) i = absurd i
 bound Clu i = absurd i
 bound Pro i = absurd i
 
-module _ (t : Table) (few : Few) (s : State) (st : LifeState t few s) (gs : List Sig) where
+module _ (t : Table) (few : Few) (s : State) (gs : List Sig) where
   -- in a frame of the running execution
   own : (P : Value → Type 0) (d : ℕ) (p : List Link) → P (slice_index_or (frame_at d s.env.frames) (address p) nought) → P (loaded (Place (Frame s.env.exec d) p) s.env)
   own P d p h =
       subst (λ (b : Bool). P (slice_index_or (list_in (at_depth (if b then s.env.frames else frames_in (parked_at s.env.exec s.env)) d)) (address p) nought)) (sym (exec_same s.env.exec)) h
 
-  -- at a part of a variable that is to be cleaned up
-  pub variable_read : (w : Value) (a : Ty) (d : ℕ) (p : List Link) (b : Ty) → IsBinding b → Variables t s.env.exec (s.run ∷ s.callers) w a → Within t w a (Place (Frame s.env.exec d) p) (Cell b) → Known t few s.env.exec (Here t few gs s) b (loaded (Place (Frame s.env.exec d) p) s.env)
-  variable_read w a d p b i m y =
-      own (Known t few s.env.exec (Here t few gs s) b) d p (from_variables t s.env.exec few s.env.frames w a d p b i (Here t few gs s) (s.run ∷ s.callers) st.stack (around_hand t few s.env.exec gs (s.run ∷ s.callers)) m y)
+  -- at a part of a variable that is to be cleaned up, of which that holds which is known behind marks
+  pub variables_read : (K : BehindMark) → LifeStackBy t few K s.env.exec s.env.frames (s.run ∷ s.callers) → AllBehind t s.env.exec few K (Here t few gs s) (s.run ∷ s.callers) → VariablesKnown t few gs s
+  variables_read K st others w a d p b i m y =
+      own (Known t few s.env.exec (Here t few gs s) b) d p (from_variables t s.env.exec few K s.env.frames w a d p b i (Here t few gs s) (s.run ∷ s.callers) st others (around_hand t few s.env.exec gs (s.run ∷ s.callers)) m y)
 
+  pub life_read : LifeState t few s → VariablesKnown t few gs s
+  life_read st = variables_read OutwardsOnly st.stack (none_behind t s.env.exec few (Here t few gs s) (s.run ∷ s.callers))
+
+module _ (t : Table) (few : Few) (s : State) (gs : List Sig) (read : VariablesKnown t few gs s) where
   in_own : (a : Ty) (x : Exec) (d : ℕ) (p : List Link) → IsBinding a → Held t few (Here t few gs s) (Cell a) (Place (Frame x d) p) → ReadsKnown t few gs s a (Place (Frame x d) p) → x ≡ s.env.exec → Known t few s.env.exec (Here t few gs s) a (loaded (Place (Frame x d) p) s.env)
   in_own a x d p i (inl (lies {w = w} {a = b} k y)) r e =
       ⊎_elim
       (λ m. ⊎_elim
       (λ f. r.field w b f y)
-      (λ v. subst (λ (n : Exec). Known t few s.env.exec (Here t few gs s) a (loaded (Place (Frame n d) p) s.env)) (sym e) (variable_read w b d p a i v (subst (λ (n : Exec). Within t w b (Place (Frame n d) p) (Cell a)) e y)))
+      (λ v. subst (λ (n : Exec). Known t few s.env.exec (Here t few gs s) a (loaded (Place (Frame n d) p) s.env)) (sym e) (read w b d p a i v (subst (λ (n : Exec). Within t w b (Place (Frame n d) p) (Cell a)) e y)))
       (split t s.env.exec few (s.run ∷ s.callers) w b m))
       (λ m. let y2 = not_whole t s.env.exec gs (s.run ∷ s.callers) w b m in let e2 : Cell a ≡ Raw y2.0 = within_raw t w y2.0 (Place (Frame x d) p) (Cell a) (subst (λ b. Within t w b (Place (Frame x d) p) (Cell a)) y2.1 y) in absurd (cc))
       k

@@ -229,28 +229,13 @@ module _ (t : Table) (few : Few) (j : Journal) (a : List Entry) (x : World) (own
     hand_lasts : Apart t (lasting few j) left o gs ds → Lasts t (lasting few j) left (AtHand t (lasting few j) n gs ds)
     hand_lasts p c u m h f = still c u (λ e. none_held p c (subst (λ (u : ℕ). Held t (lasting few j) (AtHand t (lasting few j) n gs ds) (Obj c) (Object u)) e h)) f
 
-  none_made : (cs : List Active) (w : Value) (a : Ty) → InMaking [] cs w a → ⊥
-  none_made [] w a m = m
-  none_made (c ∷ cs) w a (inl m) = let e = m.1 in absurd (cc)
-  none_made (c ∷ cs) w a (inr m) = none_made cs w a m
-
-  -- where nothing is at hand that is being built or destroyed, but what others wait for
-  around_last : (n : Exec) (cs : List Active) → Lives (j ++ a) x n cs → Lasts t (lasting few j) left (Around t (lasting few j) n cs)
-  around_last n cs i c u m h f =
-      hand_lasts n cs i [] cs (λ w b m. m) (λ c k. none_made cs (Object o) (Raw c) k) c u m (held_more t (lasting few j) n (Around t (lasting few j) n cs) (AtHand t (lasting few j) n [] cs) (around_hand t (lasting few j) n [] cs) (Obj c) (Object u) h) f
-
   -- what holds of an execution that does not run
   abbrev Told : Exec → Execution (List Todo) Value → Type 0
   Told n y = FreshKeeps t (lasting few j) left y.links.stage n y × ExApart t (lasting few j) left o n y
 
   ex_apart : (n : Exec) (y : Execution (List Todo) Value) → (y.links.stage ≡ Started → Lives (j ++ a) x n (y.run ∷ y.callers)) → Told n y → ExLasts t (lasting few j) left n y
-  ex_apart n y i e = record { scopes = λ w b v. around_last n (y.run ∷ y.callers) (i (begun y.links.stage refl e.0 w b v)); hand = by y.links.stage refl e.0 e.1 }
+  ex_apart n y i e = by y.links.stage refl e.0 e.1
     where
-      begun : (g : Stage) → y.links.stage ≡ g → FreshKeeps t (lasting few j) left g n y → (w : Value) (b : Ty) → Variables t n (y.run ∷ y.callers) w b → y.links.stage ≡ Started
-      begun Fresh q f w b v = absurd (f.1 w b v)
-      begun Started q f w b v = q
-      begun Ended q f w b v = absurd (f w b v)
-
       by : (g : Stage) → y.links.stage ≡ g → FreshKeeps t (lasting few j) left g n y → StageApart t (lasting few j) left o g n y → HandLasts t (lasting few j) left g n y
       by Fresh q f h = inl f.0
       by Started q f h = λ k. hand_lasts n (y.run ∷ y.callers) (i q) k.sigs (y.run ∷ y.callers) (λ w b m. m) (h k)
@@ -266,10 +251,7 @@ module _ (t : Table) (few : Few) (j : Journal) (a : List Entry) (x : World) (own
   rooted = record {
     tasks = λ u.
         let s = x.tasks u in
-        record {
-          scopes = λ w b v. around_last s.env.exec (s.run ∷ s.callers) (running u (fresh.scopes u w b v));
-          env = env_in Told (ExLasts t (lasting few j) left) s.env (λ n y i e. ex_apart n y (λ q. inr (inl (u, i q))) e) (both_env Kept (ExApart t (lasting few j) left o) Told (λ n y h k. (h, k)) s.env (fresh.tasks u) (r.beside.tasks u));
-        };
+        env_in Told (ExLasts t (lasting few j) left) s.env (λ n y i e. ex_apart n y (λ q. inr (inl (u, i q))) e) (both_env Kept (ExApart t (lasting few j) left o) Told (λ n y h k. (h, k)) s.env (fresh.tasks u) (r.beside.tasks u));
     alive = λ u e given k. run_lasts u e given k (r.beside.alive u e given k);
     homes = λ q. members_in Told (ExLasts t (lasting few j) left) (home.Object q) (x.homes q) (λ n y i e. ex_apart n y (λ g. inr (inr (q, i g))) e) (both_members Kept (ExApart t (lasting few j) left o) Told (λ n y h k. (h, k)) (home.Object q) (x.homes q) (fresh.homes q) (r.beside.homes q));
   }

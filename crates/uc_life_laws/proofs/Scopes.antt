@@ -13,11 +13,11 @@ use Rattle.uc_typing.specs.Typing.{Ty, Cell, Obj, Clu, Pro, Table, InScope, Dest
 use Rattle.uc_typing.specs.Pieces.{onto}
 use Rattle.uc_typing.specs.States.{Is, Typed, ReadsVariable}
 use Rattle.uc_life_laws.specs.Things.{Few, IsBinding, Within, itself, AtVariable, Nowhere, Marks, InTodo, Around, Variables, Known}
-use Rattle.uc_life_laws.specs.LifeStates.{frame_at, LifeState}
+use Rattle.uc_life_laws.specs.LifeStates.{frame_at, OutwardsOnly, LifeState}
 use Rattle.uc_life_laws.specs.LifeReading.{LawReading}
 use Rattle.uc_life_laws.proofs.LifeSteps.{exec_same}
 use Rattle.uc_life_laws.proofs.Knowns.{known_is}
-use Rattle.uc_life_laws.proofs.Reading.{from_variables, scope_at}
+use Rattle.uc_life_laws.proofs.Reading.{from_variables, none_behind, scope_at}
 
 -- in a frame of the execution that runs
 own_frame : (P : Value → Type 0) (s : State) (d : ℕ) (p : List Link) → P (slice_index_or (frame_at d s.env.frames) (address p) nought) → P (loaded (Place (Frame s.env.exec d) p) s.env)
@@ -30,7 +30,7 @@ module _ (t : Table) (few : Few) (s : State) (st : LifeState t few s) where
 
   places : (w : Value) (a : Ty) → Variables t s.env.exec (s.run ∷ s.callers) w a → (d : ℕ) (p : List Link) (b : Ty) → Within t w a (Place (Frame s.env.exec d) p) (Cell b) → IsBinding b → Known t few s.env.exec K b (loaded (Place (Frame s.env.exec d) p) s.env)
   places w a x d p b i binds =
-      own_frame (Known t few s.env.exec K b) s d p (from_variables t s.env.exec few s.env.frames w a d p b binds K (s.run ∷ s.callers) st.stack (λ v e y. y) x i)
+      own_frame (Known t few s.env.exec K b) s d p (from_variables t s.env.exec few OutwardsOnly s.env.frames w a d p b binds K (s.run ∷ s.callers) st.stack (none_behind t s.env.exec few K (s.run ∷ s.callers)) (λ v e y. y) x i)
 
 names : (t : Table) (given : List Ty) (s : State) (x : Typed t given s) (k : ℕ) (a : Ty) → InScope x.run.scope k a → Variables t s.env.exec (s.run ∷ s.callers) (variable_at k s) a
 names t given s x k a i =

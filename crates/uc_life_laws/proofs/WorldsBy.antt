@@ -49,30 +49,48 @@ use Rattle.uc_state_laws.proofs.Counts.{one_kept, told_others}
 use Rattle.uc_typing.specs.Typing.{Ty, Num, Obj, Raw, Clu, Pro, Table}
 use Rattle.uc_typing.specs.States.{Suits}
 use Rattle.uc_life_laws.proofs.Spawning.{Spawned, spawner, ended_before, suits}
-use Rattle.uc_life_laws.specs.LifeStates.{HandBy, MembersBy, EnvBy, LifeState, LifeStep, Opens}
+use Rattle.uc_life_laws.specs.LifeStates.{HandBy, MembersBy, EnvBy, StepIs, LifeState, Opens, Clears}
 use Rattle.uc_life_laws.specs.LifeRuns.{IsLaidOut}
 use Rattle.uc_life_laws.specs.Knowing.{AskedBy, StepBy, HasObject}
 use Rattle.uc_life_laws.specs.KnownAnswers.{Passes, MainPasses}
 use Rattle.uc_life_laws.specs.KnownRuns.{PassesBelow, RestBy}
 use Rattle.uc_life_laws.proofs.Cells.{either}
 use Rattle.uc_life_laws.proofs.Parked.{Ex, found_hand}
-use Rattle.uc_life_laws.proofs.LifeWorlds.{LifeWorld, acted, life_begun, steps_to, stack_told, life_told}
+use Rattle.uc_life_laws.proofs.LifeWorlds.{LifeWorld, acted, life_begun, stack_told, life_told}
+use Rattle.uc_life_laws.proofs.LifeWalk.{law_steps}
+use Rattle.uc_life_laws.proofs.Clearing.{clears}
 use Rattle.uc_life_laws.proofs.NewNumbers.{objects_grow, clusters_grow, processors_grow, told_object, told_cluster, told_processor, spawned_object}
 use Rattle.uc_life_laws.specs.Things.{Few}
 
+-- what else holds of states and worlds, beside what is known (S): L of each state, W of each world. Steps that find what they are to find (M) keep it, and so do
+-- acts and answers
+pub record Beside (t : Table) (source : Source) (L : State → Type 0) (W : World → Type 0) (S : List Ty → State → Type 0) (M : State → Type 0) : Type 0 where
+  pub steps : (s : State) → Clears t s → M s → L s → S [] s → StepIs L (quiet source s)
+  pub acted : (w : World) (a : List Entry) (n : ℕ) (s : State) → W w → L s → W (world_after source a w n s)
+  pub begun : W (first_world source)
+  pub told : (given : Answer) (j : Journal) (w : World) (n : ℕ) → W w → L (answered source given (drawn j w n))
+
+-- so it is of what is in scope, where scopes open so
+pub life_beside : (t : Table) (few : Few) (source : Source) (Z : ℕ → ℕ → Type 0) (laid : IsLaidOut Z t) (in_rooms : SourceIn Z source) (S : List Ty → State → Type 0) (M : State → Type 0) → ((s : State) → M s → LifeState t few s → S [] s → Opens t few s) → Beside t source (LifeState t few) (LifeWorld t few) S M
+life_beside t few source Z laid in_rooms S M opens = record {
+  steps = λ s clear m h x. law_steps.steps t few source s h (opens s m h x) clear;
+  acted = λ w a n s h asks. acted t few Z laid source in_rooms w a n s h asks;
+  begun = life_begun t few Z laid source in_rooms;
+  told = λ given j w n h. life_told t few Z laid source in_rooms given j w n h;
+}
+
 -- what runs keep of states: S of those that are known, P of executions that do not run, M of what a step is to find
-pub record KeepsBy (t : Table) (few : Few) (source : Source) (S : List Ty → State → Type 0) (P : Exec → Ex → Type 0) (M : State → Type 0) : Type 0 where
+pub record KeepsBy (t : Table) (few : Few) (source : Source) (L : State → Type 0) (S : List Ty → State → Type 0) (P : Exec → Ex → Type 0) (M : State → Type 0) : Type 0 where
   pub hand : (given : List Ty) (s : State) → S given s → HandBy P s.env.hand
   pub handed : (given : List Ty) (hand : List (ℕ × Members)) (s : State) → S given s → HandBy P hand → S given (with_hand hand s)
   pub told : (q : Request) (a : Answer) (s : State) → AskedBy t few S (EnvBy P) source q s → Suits q a → Passes t few q a → S [] (answered source a s)
   pub spawned : (o n : ℕ) (s : State) → AskedBy t few S (EnvBy P) source (ask.Spawn o) s → MainPasses t few (t.routine (child_main source s.run.control)).this n → S [] (child_of source n s)
   pub begins : MainPasses t few (t.routine source.main).this 0 → S [] (first_state (routine_of source source.main) 0)
-  pub opens : (s : State) → M s → LifeState t few s → S [] s → Opens t few s
-  pub steps : (s : State) → M s → LifeState t few s → S [] s → StepBy t few S (EnvBy P) source (quiet source s)
+  pub steps : (s : State) → Clears t s → M s → L s → S [] s → StepBy t few S (EnvBy P) source (quiet source s)
 
 -- another hand
 
-module _ (t : Table) (few : Few) (source : Source) (S : List Ty → State → Type 0) (P : Exec → Ex → Type 0) {M : State → Type 0} (keeps : KeepsBy t few source S P M) where
+module _ (t : Table) (few : Few) (source : Source) {L : State → Type 0} (S : List Ty → State → Type 0) (P : Exec → Ex → Type 0) {M : State → Type 0} (keeps : KeepsBy t few source L S P M) where
   asked_handed : (q : Request) (hand : List (ℕ × Members)) (s : State) → AskedBy t few S (EnvBy P) source q s → HandBy P hand → AskedBy t few S (EnvBy P) source q (with_hand hand s)
   asked_handed (ask.Make m) hand s x h = (x.0, x.1, x.2, keeps.handed (Raw x.0 ∷ []) hand s x.3 h)
   asked_handed (ask.Spawn o) hand s x h = (x.0, x.1, keeps.handed [] hand s x.2 h)
@@ -153,48 +171,51 @@ now few opts j a b = record {
   processors = b.processors;
 }
 
-module _ (t : Table) (few : Few) (source : Source) (Z : ℕ → ℕ → Type 0) (laid : IsLaidOut Z t) (in_rooms : SourceIn Z source) (S : List Ty → State → Type 0) (P : Exec → Ex → Type 0) (M : State → Type 0) (keeps : KeepsBy t few source S P M) where
+module _ (t : Table) (few : Few) (source : Source) (Z : ℕ → ℕ → Type 0) (laid : IsLaidOut Z t) (in_rooms : SourceIn Z source) (L : State → Type 0) (W : World → Type 0) (S : List Ty → State → Type 0) (P : Exec → Ex → Type 0) (M : State → Type 0) (beside : Beside t source L W S M) (keeps : KeepsBy t few source L S P M) where
   -- steps and rides
 
-  -- in a state what is in scope holds what is known, and all is known
+  -- in a state all is known, and what stands beside that holds
   pub record There (s : State) : Type 0 where
-    pub life : LifeState t few s
+    pub life : L s
     pub known : S [] s
 
-  pub knows_to : (s : State) → M s → There s → StepBy t few S (EnvBy P) source (quiet source s)
-  knows_to s m x = keeps.steps s m x.life x.known
+  clear : (s : State) → StackState Z s → Clears t s
+  clear s st = clears Z t laid s st
+
+  pub knows_to : (s : State) → StackState Z s → M s → There s → StepBy t few S (EnvBy P) source (quiet source s)
+  knows_to s st m x = keeps.steps s (clear s st) m x.life x.known
 
   stack_to : (s : State) → StackState Z s → StackStep Z (quiet source s)
   stack_to s st = stacking.walk Z source in_rooms s st
 
-  life_to : (s : State) → StackState Z s → M s → There s → LifeStep t few (quiet source s)
-  life_to s st m x = steps_to t few Z laid source in_rooms s st (keeps.opens s m x.life x.known) x.life
+  life_to : (s : State) → StackState Z s → M s → There s → StepIs L (quiet source s)
+  life_to s st m x = beside.steps s (clear s st) m x.life x.known
 
   -- where a ride ends
   pub record Ends (r : Request) (s : State) : Type 0 where
-    pub life : LifeState t few s
+    pub life : L s
     pub asked : AskedBy t few S (EnvBy P) source r s
 
   pub ridden : {s u : State} {q k : ℕ} {a : Asked} (r : Rides source s q u k a) → RideMeets M source s q u k a r → StackState Z s → There s → Ends a.request u
   ridden rides.slices m st x = record { life = x.life; asked = x.known }
   ridden (rides.goes_on {s} e r) m st x =
-      ridden r m.1 (subst (StackStep Z) e (stack_to s st)) (record { life = subst (LifeStep t few) e (life_to s st m.0 x); known = subst (StepBy t few S (EnvBy P) source) e (knows_to s m.0 x) })
+      ridden r m.1 (subst (StackStep Z) e (stack_to s st)) (record { life = subst (StepIs L) e (life_to s st m.0 x); known = subst (StepBy t few S (EnvBy P) source) e (knows_to s st m.0 x) })
   ridden (rides.ticks {s} e r) m st x =
-      ridden r m.1 (subst (StackStep Z) e (stack_to s st)) (record { life = subst (LifeStep t few) e (life_to s st m.0 x); known = subst (StepBy t few S (EnvBy P) source) e (knows_to s m.0 x) })
-  ridden (rides.asks {s} e) m st x = record { life = subst (LifeStep t few) e (life_to s st m x); asked = (subst (StepBy t few S (EnvBy P) source) e (knows_to s m x)).1 }
+      ridden r m.1 (subst (StackStep Z) e (stack_to s st)) (record { life = subst (StepIs L) e (life_to s st m.0 x); known = subst (StepBy t few S (EnvBy P) source) e (knows_to s st m.0 x) })
+  ridden (rides.asks {s} e) m st x = record { life = subst (StepIs L) e (life_to s st m x); asked = (subst (StepBy t few S (EnvBy P) source) e (knows_to s st m x)).1 }
 
   pub led : {s u : State} (l : Leads source s u) → LeadsMeet M source s u l → StackState Z s → There s → There u
   led runs.stays m st x = x
   led (runs.goes {s} e l) m st x =
-      led l m.1 (subst (StackStep Z) e (stack_to s st)) (record { life = subst (LifeStep t few) e (life_to s st m.0 x); known = subst (StepBy t few S (EnvBy P) source) e (knows_to s m.0 x) })
+      led l m.1 (subst (StackStep Z) e (stack_to s st)) (record { life = subst (StepIs L) e (life_to s st m.0 x); known = subst (StepBy t few S (EnvBy P) source) e (knows_to s st m.0 x) })
   led (runs.ticks {s} e l) m st x =
-      led l m.1 (subst (StackStep Z) e (stack_to s st)) (record { life = subst (LifeStep t few) e (life_to s st m.0 x); known = subst (StepBy t few S (EnvBy P) source) e (knows_to s m.0 x) })
+      led l m.1 (subst (StackStep Z) e (stack_to s st)) (record { life = subst (StepIs L) e (life_to s st m.0 x); known = subst (StepBy t few S (EnvBy P) source) e (knows_to s st m.0 x) })
 
   -- the tasks and what is at home
   pub record KnownWorld (j : Journal) (w : World) : Type 0 where
     pub tasks : (n : ℕ) → has_ended n j ≡ false → RestBy t few S (EnvBy P) source j n (w.tasks n)
     pub homes : (o : ℕ) → MembersBy P (home.Object o) (w.homes o)
-    pub life : LifeWorld t few w
+    pub life : W w
 
   -- a task that just goes on
   going_on : (j : Journal) (n : ℕ) (s : State) → JustGo ≡ asked_form n j → S [] s → RestBy t few S (EnvBy P) source j n s
@@ -300,7 +321,7 @@ module _ (t : Table) (few : Few) (source : Source) (Z : ℕ → ℕ → Type 0) 
       act_known = record {
         tasks = tasks_after;
         homes = λ o. either (MembersBy P (home.Object o)) (takes_out a o) None (or_else (find o s.env.hand) (w.homes o)) tt (or_known P o (find o s.env.hand) (w.homes o) (found_hand P o s.env.hand hand) (h.homes o));
-        life = acted t few Z laid source in_rooms w a n s h.life ends.life;
+        life = beside.acted w a n s h.life ends.life;
       }
 
     pub given_known : (p n : ℕ) → KnownWorld (j ++ dispatch p n ∷ []) w
@@ -323,14 +344,14 @@ module _ (t : Table) (few : Few) (source : Source) (Z : ℕ → ℕ → Type 0) 
   begin_known opts first = record {
     tasks = λ u ended. going_on (begin opts ∷ []) u (first_state (routine_of source source.main) 0) (sym (form_push u [] (begin opts) ∙ form_none u)) (keeps.begins first);
     homes = λ o. either (MembersBy P (home.Object o)) (o == 0) (Some no_members) None tt tt;
-    life = life_begun t few Z laid source in_rooms;
+    life = beside.begun;
   }
 
   module _ (input : List ℕ) (opts : Options) (range : InRange opts) where
     -- whoever runs, told its answer
     pub starts : {j : Journal} {w : World} → KernelRuns opts source.sites input j → is_over j ≡ false → KnownWorld j w → (p n : ℕ) (a : Answer) → running p j ≡ n ∷ [] → answer_to source.sites n j ≡ Some a → There (answered source a (drawn j w n))
     starts {j} {w} kernel on h p n a r told = record {
-      life = life_told t few Z laid source in_rooms a j w n h.life;
+      life = beside.told a j w n h.life;
       known = runs_known opts input j w kernel on h p n a r told;
     }
 

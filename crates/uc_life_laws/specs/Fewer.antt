@@ -6,9 +6,11 @@ use Rattle.uc_machine.specs.declared.exec.Stage.TheVariants.{Fresh, Started, End
 use Rattle.uc_machine.specs.Executions.{Execution, others}
 use Rattle.uc_machine.specs.Pieces.{Value, Number, Object, Todo, Active, State}
 use Rattle.uc_typing.specs.Typing.{Ty, Obj, Raw, Clu, Pro, Table}
-use Rattle.uc_life_laws.specs.Things.{Few, Around, Variables, Held}
-use Rattle.uc_life_laws.specs.LifeStates.{EnvBy, LifeState}
+use Rattle.uc_life_laws.specs.Things.{Few, Held}
+use Rattle.uc_life_laws.specs.LifeStates.{EnvBy}
 use Rattle.uc_life_laws.specs.Silent.{AllSilent}
+use Rattle.uc_life_laws.specs.Kinds.{Claimed}
+use Rattle.uc_life_laws.specs.Lives.{Lives}
 use Rattle.uc_life_laws.specs.Knowing.{AtHand, KnowsEx, KnowsState}
 
 -- the same homes and bases with other numbers
@@ -37,10 +39,6 @@ module _ (t : Table) (few : Few) (numbers : Ty → ℕ → Bool) where
   Lasts K = (c o : ℕ) → t.mutex c ≡ true → Held t few K (Obj c) (Object o) → few.numbers (Obj c) o ≡ true →
       numbers (Obj c) o ≡ true
 
-  -- of activations of an execution, where something is in scope
-  abbrev pub ScopesLast : Exec → List Active → Type 0
-  ScopesLast n cs = (w : Value) (a : Ty) → Variables t n cs w a → Lasts (Around t few n cs)
-
   -- one that has not begun knows its own object alone
   pub record FreshLasts (x : Execution (List Todo) Value) : Type 0 where
     pub callers : x.callers ≡ []
@@ -56,24 +54,24 @@ module _ (t : Table) (few : Few) (numbers : Ty → ℕ → Bool) where
   HandLasts Started n x = (k : KnowsEx t few n x) → Lasts (AtHand t few n k.sigs (x.run ∷ x.callers))
   HandLasts Ended n x = Unit {0}
 
-  pub record ExLasts (n : Exec) (x : Execution (List Todo) Value) : Type 0 where
-    pub scopes : ScopesLast n (x.run ∷ x.callers)
-    pub hand : HandLasts x.links.stage n x
+  abbrev pub ExLasts : Exec → Execution (List Todo) Value → Type 0
+  ExLasts n x = HandLasts x.links.stage n x
 
   -- of the running execution, all that its waiting activations have at hand, and all that it has where the newest one does more than to come to its end
   pub record RunLasts (given : List Ty) (s : State) (x : KnowsState t few given s) : Type 0 where
     pub waiting : Lasts (AtHand t few s.env.exec (others x.sigs) s.callers)
     pub operands : Lasts (AtHand t few s.env.exec x.sigs (s.run ∷ s.callers)) ⊎ AllSilent s.run.control
 
-  -- of a task
-  pub record TaskLasts (s : State) : Type 0 where
-    pub scopes : ScopesLast s.env.exec (s.run ∷ s.callers)
-    pub env : EnvBy ExLasts s.env
+  -- of all executions of a task that do not run
+  abbrev pub TaskLasts : State → Type 0
+  TaskLasts s = EnvBy ExLasts s.env
 
--- what is in scope holds what is known, and all is known, with other numbers, where all at hand lasts
+-- all is known with other numbers, where all at hand lasts; and by kinds by which variables in scope hold what is known, where it does by all kinds
 pub record LawFewer : Type 0 where
-  pub life : (t : Table) (few : Few) (numbers : Ty → ℕ → Bool) → KeepsOthers t few numbers → (s : State) →
-      TaskLasts t few numbers s → LifeState t few s → LifeState t (with_numbers numbers few) s
+  pub lives : (t : Table) (few : Few) (numbers : Ty → ℕ → Bool) → KeepsOthers t few numbers → (given : List Ty) (s : State) →
+      TaskLasts t few numbers s → Claimed (Lives t few) t few given s →
+      ((k : KnowsState t few given s) → RunLasts t few numbers given s k) →
+      Claimed (Lives t (with_numbers numbers few)) t (with_numbers numbers few) given s
   pub knows : (t : Table) (few : Few) (numbers : Ty → ℕ → Bool) → KeepsOthers t few numbers → (given : List Ty) (s : State) →
       TaskLasts t few numbers s → (x : KnowsState t few given s) → RunLasts t few numbers given s x →
       KnowsState t (with_numbers numbers few) given s

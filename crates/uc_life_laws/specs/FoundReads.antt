@@ -9,8 +9,9 @@ use Rattle.uc_state_laws.specs.Opens as there
 use Rattle.uc_typing.specs.States.{Is}
 use Rattle.uc_typing.specs.Typing.{Ty, Num, Cell, Obj, Raw, Row, Clu, Pro, Name, Sig, Table, ObjectGives, CleansAt}
 use Rattle.uc_life_laws.specs.Things.{Few, numbered, IsBinding, IsReference, IsResource, IsTracked, IsSited, IsLoosePlace, AtField, InStack, NoBase, Within, Held, IsFew}
-use Rattle.uc_life_laws.specs.LifeStates.{LifeState, Outwards, frame_at}
-use Rattle.uc_life_laws.specs.Knowing.{NotWhole, IsOwn, Here, KnowsState}
+use Rattle.uc_life_laws.specs.LifeStates.{Outwards, frame_at}
+use Rattle.uc_life_laws.specs.Lives.{LivesState}
+use Rattle.uc_life_laws.specs.Knowing.{NotWhole, IsOwn, Here}
 use Rattle.uc_life_laws.specs.Opened.{any}
 
 -- the fields of objects at hand that are to be cleaned up, of these activations of an execution
@@ -80,13 +81,13 @@ module _ (t : Table) (few : Few) (gs : List Sig) (s : State) where
   ReadsAt g sc (LoadNow ∷ todo) (Cell a ∷ more) = ReadsFound a (top s.run.operands)
   ReadsAt g sc todo own = Unit {0}
 
--- by some typing what the next step reads is right
+-- by some kinds by which variables in scope hold what is known, what the next step reads is right
 abbrev pub Reads : Table → Few → State → Type 0
-Reads t few s = (x : KnowsState t few [] s) × ReadsAt t few x.sigs s x.run.sig x.run.scope s.run.control x.run.own
+Reads t few s = (x : LivesState t few s) × ReadsAt t few x.0.sigs s x.0.run.sig x.0.run.scope s.run.control x.0.run.own
 
 -- where a scope opens, what that is of is right too
 abbrev pub Found : Table → Few → State → Type 0
-Found t few s = LifeState t few s → KnowsState t few [] s →
+Found t few s = LivesState t few s →
     OpensRightAt t few s.run.control s × Reads t few s
 
 -- but in the four states from which a clean-up comes to the variable that it ends, and reads it
@@ -99,7 +100,7 @@ pub record ObjectsFound (t : Table) (source : Source) (s : State) : Type 0 where
   pub opens : there.Opens source s
   pub objects : (c : CleanUp) (rest : Stmts) (todo : List Todo) →
       s.run.control ≡ Rest (Scoped c rest) ∷ todo → ObjectsRight t c todo s
-  pub reads : KnowsState t any [] s → Reads t any s
+  pub reads : LivesState t any s → Reads t any s
 
 abbrev pub ObjectsFoundOutside : Table → Source → ℕ → State → Type 0
 ObjectsFoundOutside t source zero s = ObjectsFound t source s

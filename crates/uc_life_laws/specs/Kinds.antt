@@ -12,8 +12,7 @@ use Rattle.uc_machine.specs.Quiet.{home_at, fresh, quiet}
 use Rattle.uc_typing.specs.Typing.{Ty, Apart, Sig, Table}
 use Rattle.uc_typing.specs.States.{Sound}
 use Rattle.uc_life_laws.specs.Things.{Few}
-use Rattle.uc_life_laws.specs.LifeStates.{LifeState}
-use Rattle.uc_life_laws.specs.Knowing.{ClaimsEnv, ClaimsState, StepBy, Finds}
+use Rattle.uc_life_laws.specs.Knowing.{ClaimsEnv, ClaimsState, StepBy, VariablesKnown, Finds}
 
 -- kinds
 
@@ -98,16 +97,16 @@ module _ (Q : Exec → List Sig → Execution (List Todo) Value → Type 0) wher
     abbrev pub Claimed : List Ty → State → Type 0
     Claimed given u = (y : ClaimsState t few Q given u) × Q u.env.exec y.sigs (stopped u)
 
-  -- of each sound source, a step of a state in which all is known, as LawKnown says, leads to one whose kinds follow on those that it had, if the same
+  -- of each sound source, a step of a state in which all is known and variables in scope hold what is, as LawKnown says, leads to one whose kinds follow on those that it had, if the same
   -- execution goes on; if not, to one of whose running execution it is claimed. What does not run keeps its kinds and what is claimed by them
   pub record KeepsClaims : Type 0 where
     pub goes : (t : Table) (few : Few) (source : Source) → Sound t source → (s : State) →
-        LifeState t few s → (x : ClaimsState t few Q [] s) →
+        (x : ClaimsState t few Q [] s) → VariablesKnown t few x.sigs s →
         Finds t few x.sigs x.run.sig x.run.scope s s.run.control x.run.own →
         Parks t source x.sigs s s.run.control → GoesOn s.run.control s.run.raised →
         StepBy t few (FollowsOn t few source s x.sigs) (ClaimsEnv t few Q) source (quiet source s)
     pub stops : (t : Table) (few : Few) (source : Source) → Sound t source → (s : State) →
-        LifeState t few s → (x : ClaimsState t few Q [] s) →
+        (x : ClaimsState t few Q [] s) → VariablesKnown t few x.sigs s →
         Finds t few x.sigs x.run.sig x.run.scope s s.run.control x.run.own →
         Parks t source x.sigs s s.run.control → (GoesOn s.run.control s.run.raised → ⊥) →
         StepBy t few (Claimed t few) (ClaimsEnv t few Q) source (quiet source s)

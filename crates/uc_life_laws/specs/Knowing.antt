@@ -9,14 +9,14 @@ use Rattle.uc_machine.specs.declared.exec.Owner.TheVariants.{Frame}
 use Rattle.uc_machine.specs.declared.exec.Stage.{Stage}
 use Rattle.uc_machine.specs.declared.exec.Stage.TheVariants.{Fresh, Started, Ended}
 use Rattle.uc_machine.specs.Executions.{Execution, at_depth, others, members_at}
-use Rattle.uc_machine.specs.Pieces.{FieldAt, Value, Place, Todo, Eval, LoadNow, Object, SetUpNow, SpawnNow, Active, State, Env, Members, Step, Goes, Ticks, Asks, further, loaded, top, object_in}
+use Rattle.uc_machine.specs.Pieces.{Link, FieldAt, Value, Place, Todo, Eval, LoadNow, Object, SetUpNow, SpawnNow, Active, State, Env, Members, Step, Goes, Ticks, Asks, further, loaded, top, object_in}
 use Rattle.uc_machine.specs.Switches.{new_exec}
 use Rattle.uc_machine.specs.Quiet.{home_at}
 use Rattle.uc_machine.specs.Answering.{child_main}
 use Rattle.uc_typing.specs.Typing.{Ty, Num, Cell, Obj, Raw, Clu, Pro, Name, Sig, Table, IsTarget, object_ty, Yields}
 use Rattle.uc_typing.specs.Pieces.{Ok, onto}
 use Rattle.uc_typing.specs.States.{IsBase, IsTask}
-use Rattle.uc_life_laws.specs.Things.{Few, IsReference, IsResource, IsLoosePlace, Within, OwnFields, Base, Things, UnmadeBehind, LiesIn, Known, Held, IsFew}
+use Rattle.uc_life_laws.specs.Things.{Few, IsBinding, IsReference, IsResource, IsLoosePlace, Within, OwnFields, Variables, Base, Things, UnmadeBehind, LiesIn, Known, Held, IsFew}
 use Rattle.uc_life_laws.specs.LifeStates.{EnvBy}
 
 -- the object at hand, in a constructor or a destructor: it is there, but not whole
@@ -199,6 +199,11 @@ module _ (t : Table) (few : Few) (gs : List Sig) (s : State) where
         Known t few s.env.exec (Here t few gs s) a (loaded v s.env)
     pub making : (w : Value) (c : ℕ) → Here t few gs s w (Raw c) → Within t w (Obj c) v (Cell a) →
         Known t few s.env.exec (Here t few gs s) a (loaded v s.env)
+
+  -- what is read at a binding within a variable in scope is known
+  abbrev pub VariablesKnown : Type 0
+  VariablesKnown = (w : Value) (a : Ty) (d : ℕ) (p : List Link) (b : Ty) → IsBinding b → Variables t s.env.exec (s.run ∷ s.callers) w a →
+      Within t w a (Place (Frame s.env.exec d) p) (Cell b) → Known t few s.env.exec (Here t few gs s) b (loaded (Place (Frame s.env.exec d) p) s.env)
 
 module _ (t : Table) (few : Few) (gs : List Sig) (g : Sig) (sc : List Name) (s : State) where
   -- the object at hand has a number that one has which is whole, where one has it that is not

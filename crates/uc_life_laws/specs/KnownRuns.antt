@@ -25,8 +25,9 @@ use Rattle.uc_state_laws.specs.Opens.{RunMeets, LeadsMeet}
 use Rattle.uc_typing.specs.Typing.{Ty, Obj, Clu, Pro, Table, Raw}
 use Rattle.uc_sound.specs.SoundFormed.{IsFormed}
 use Rattle.uc_sound.specs.Tables.{table_of}
-use Rattle.uc_life_laws.specs.LifeStates.{MembersBy, LifeState, Opens}
-use Rattle.uc_life_laws.specs.Knowing.{AskedBy, KnowsSlot, KnowsEnv, KnowsState, Names, Finds}
+use Rattle.uc_life_laws.specs.LifeStates.{MembersBy}
+use Rattle.uc_life_laws.specs.Lives.{LivesState, FindsLiving}
+use Rattle.uc_life_laws.specs.Knowing.{AskedBy, KnowsSlot, KnowsEnv, KnowsState, Names}
 use Rattle.uc_life_laws.specs.KnownAnswers.{Passes, MainPasses}
 use Rattle.uc_life_laws.specs.Things.{Few, numbered}
 
@@ -37,12 +38,10 @@ pub record PassesBelow (few : Few) (opts : Options) (j : Journal) : Type 0 where
   pub clusters : (n : ℕ) → n < cluster_count j → few.numbers Clu n ≡ true
   pub processors : (n : ℕ) → n < processor_count opts j → few.numbers Pro n ≡ true
 
--- a step finds what it is to find, in a state in which what is in scope holds what is known and all is known: where a scope opens, what that is
--- of holds what is known; and by some typing the step finds the rest
+-- a step finds what it is to find, in a state in which all is known by kinds by which variables in scope hold what is known: by some such kinds it finds
+-- what is asked, and where a scope opens, what that is of holds what is known
 abbrev pub Meets : Table → Few → State → Type 0
-Meets t few s = LifeState t few s → KnowsState t few [] s →
-    Opens t few s ×
-    ((x : KnowsState t few [] s) × Finds t few x.sigs x.run.sig x.run.scope s s.run.control x.run.own)
+Meets t few s = LivesState t few s → (x : LivesState t few s) × FindsLiving t few s x
 
 -- a task at rest: it has asked something, all is known but for what the answer brings, and what it is told passes; so far as S says what is known
 pub record RestBy (t : Table) (few : Few) (S : List Ty → State → Type 0) (E : Env → Type 0) (source : Source) (j : Journal) (n : ℕ) (s : State) : Type 0 where
@@ -64,8 +63,8 @@ pub record AllIsKnown (t : Table) (few : Few) (source : Source) (j : Journal) (w
   pub homes : (o : ℕ) → MembersBy (KnowsSlot t few) (Object o) (w.homes o)
   pub comes : (n : ℕ) (s : State) (c : Comes source j w n s) →
       LeadsMeet (Meets t few) source (answered source c.given (drawn j w n)) s c.leads → KnowsState t few [] s
-  pub scopes : (n : ℕ) (s : State) (c : Comes source j w n s) →
-      LeadsMeet (Meets t few) source (answered source c.given (drawn j w n)) s c.leads → LifeState t few s
+  pub lives : (n : ℕ) (s : State) (c : Comes source j w n s) →
+      LeadsMeet (Meets t few) source (answered source c.given (drawn j w n)) s c.leads → LivesState t few s
   pub names : (n : ℕ) (s : State) (c : Comes source j w n s) →
       LeadsMeet (Meets t few) source (answered source c.given (drawn j w n)) s c.leads → Meets t few s →
       (r : Request) (u : State) → quiet source s ≡ Asks r u → Names t few r

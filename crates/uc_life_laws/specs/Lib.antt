@@ -6,6 +6,7 @@ pub mod LifeLaws
 pub mod Knowing
 pub mod Kinds
 pub mod Makings
+pub mod Lives
 pub mod KnownAnswers
 pub mod Following
 pub mod Opened

@@ -1,5 +1,5 @@
 -- Runs of programs in which what is in scope holds what is known, and the cells that things lie in.
-use Rattle.std.specs.Prelude.{◌≡◌, ℕ, ◌+◌, ◌*◌, ◌≤◌, List, [], Some}
+use Rattle.std.specs.Prelude.{◌≡◌, ℕ, ◌+◌, ◌*◌, ◌≤◌, ◌<◌, List, [], Some}
 use Rattle.uc_tree.specs.Programs.{Program}
 use Rattle.uc_tree.specs.Source.{Source, shape_cells, field_cells}
 use Rattle.uc_entry.specs.declared.entry.Options.{Options}
@@ -35,10 +35,13 @@ abbrev pub IsFlat : Ty → Type 0
 IsFlat (Row n (Row m a)) = ⊥
 IsFlat a = Unit {0}
 
--- each field that somebody declared lies within the cells of its class, and what destroys an object is counted with no fewer cells
+-- each field that somebody declared lies within the cells of its class and before all later ones, and what destroys an object is counted with no fewer
+-- cells
 pub record IsLaidOut (Cells : ℕ → ℕ → Type 0) (t : Table) : Type 0 where
   pub fields : (c i : ℕ) → IsField t c i →
       field_cells (t.shape c) i + span t (t.fields c i) ≤ shape_cells (t.shape c)
+  pub apart : (c i j : ℕ) → IsField t c i → i < j →
+      field_cells (t.shape c) i + span t (t.fields c i) ≤ field_cells (t.shape c) j
   pub flat : (c i : ℕ) → IsField t c i → IsFlat (t.fields c i)
   pub counted : (r n c : ℕ) → Cells r n → (t.routine r).this ≡ Some c → shape_cells (t.shape c) ≤ n
 

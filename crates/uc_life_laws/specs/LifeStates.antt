@@ -37,37 +37,78 @@ module _ (P : Exec → Execution (List Todo) Value → Type 0) where
     pub house : ParkedBy (Task e.own) e.house.parked
     pub hand : HandBy e.hand
 
-module _ (t : Table) (few : Few) (n : Exec) where
-  -- what is known behind a mark, in an activation before older ones: what the mark is for, and what lies outwards of it, with what those wait for
-  abbrev pub Outwards : ℕ → Value → List Active → CleanUp → List Todo → Value → Ty → Type 0
-  Outwards f this older c todo w a = (IsFor t (Frame n f) this c w a ⊎ InTodo (IsFor t (Frame n f) this) (AtField t (Frame n f) this) todo w a) ⊎
-      Outer t few n older w a
+-- what holds of the state behind a step
+abbrev pub StepIs : (State → Type 0) → Step → Type 0
+StepIs P (Goes s) = P s
+StepIs P (Ticks s) = P s
+StepIs P (Asks r s) = P s
 
+-- behind a mark, in an activation with this frame and this object before older ones, of an execution of this name: what the mark is for, and what lies
+-- outwards of it, with what older activations wait for
+abbrev pub Outwards : Table → Few → Exec → ℕ → Value → List Active → CleanUp → List Todo → Value → Ty → Type 0
+Outwards t few n f this older c todo w a = (IsFor t (Frame n f) this c w a ⊎ InTodo (IsFor t (Frame n f) this) (AtField t (Frame n f) this) todo w a) ⊎
+    Outer t few n older w a
+
+-- what is known there, told by that and by the activation: that alone, or more
+abbrev pub BehindMark : Type 1
+BehindMark = (Value → Ty → Type 0) → Exec → ℕ → Value → List Active → Value → Ty → Type 0
+
+abbrev pub OutwardsOnly : BehindMark
+OutwardsOnly R n f this older w a = R w a
+
+-- `K`: what is known behind marks
+module _ (t : Table) (few : Few) (K : BehindMark) (n : Exec) where
   -- in a frame with these values, what a clean-up is for, at a variable, holds what is known so
-  abbrev pub CleanHolds : List Value → ℕ → Value → List Active → CleanUp → List Todo → Type 0
-  CleanHolds vs f this older c todo = (k : ℕ) (a : Ty) → CleansAt t a (Variable k) c →
-      Holds t few n (Outwards f this older c todo) (Frame n f) vs (Place (Frame n f) (Slot k ∷ [])) a
+  abbrev pub CleanHoldsBy : List Value → ℕ → Value → List Active → CleanUp → List Todo → Type 0
+  CleanHoldsBy vs f this older c todo = (k : ℕ) (a : Ty) → CleansAt t a (Variable k) c →
+      Holds t few n (K (Outwards t few n f this older c todo) n f this older) (Frame n f) vs (Place (Frame n f) (Slot k ∷ [])) a
 
   -- a mark, before what lies outwards of it
-  abbrev pub MarkHolds : List Value → ℕ → Value → List Active → Sort → List Todo → Type 0 → Type 0
-  MarkHolds vs f this older (IsClean c) todo rest = CleanHolds vs f this older c todo × rest
-  MarkHolds vs f this older k todo rest = rest
+  abbrev pub MarkHoldsBy : List Value → ℕ → Value → List Active → Sort → List Todo → Type 0 → Type 0
+  MarkHoldsBy vs f this older (IsClean c) todo rest = CleanHoldsBy vs f this older c todo × rest
+  MarkHoldsBy vs f this older k todo rest = rest
 
-  abbrev pub AllHold : List Value → ℕ → Value → List Active → List Todo → Type 0
-  AllHold vs f this older [] = Unit {0}
-  AllHold vs f this older (p ∷ todo) = MarkHolds vs f this older (sort p) todo (AllHold vs f this older todo)
+  abbrev pub AllHoldBy : List Value → ℕ → Value → List Active → List Todo → Type 0
+  AllHoldBy vs f this older [] = Unit {0}
+  AllHoldBy vs f this older (p ∷ todo) = MarkHoldsBy vs f this older (sort p) todo (AllHoldBy vs f this older todo)
 
   -- activations with these frames: each uses its own frame or that of an older one
-  abbrev pub LifeStack : List (List Value) → List Active → Type 0
-  LifeStack fs [] = Unit {0}
-  LifeStack fs (a ∷ older) = (a.frame ≤ length older) ×
-      AllHold (frame_at a.frame fs) a.frame a.this older a.control × LifeStack fs older
+  abbrev pub LifeStackBy : List (List Value) → List Active → Type 0
+  LifeStackBy fs [] = Unit {0}
+  LifeStackBy fs (a ∷ older) = (a.frame ≤ length older) ×
+      AllHoldBy (frame_at a.frame fs) a.frame a.this older a.control × LifeStackBy fs older
+
+module _ (t : Table) (few : Few) (K : BehindMark) where
+  -- an execution of this name that does not run, with a frame for each activation
+  pub record LifeExBy (n : Exec) (x : Execution (List Todo) Value) : Type 0 where
+    pub frames : length x.frames ≡ suc (length x.callers)
+    pub stack : LifeStackBy t few K n x.frames (x.run ∷ x.callers)
+
+  -- a state of whose executions that do not run this holds
+  module _ (P : Exec → Execution (List Todo) Value → Type 0) where
+    pub record LifeStateBy (s : State) : Type 0 where
+      pub frames : length s.env.frames ≡ suc (length s.callers)
+      pub stack : LifeStackBy t few K s.env.exec s.env.frames (s.run ∷ s.callers)
+      pub env : EnvBy P s.env
+
+    abbrev pub LifeStepBy : Step → Type 0
+    LifeStepBy = StepIs LifeStateBy
 
 module _ (t : Table) (few : Few) where
-  -- an execution of this name that does not run, with a frame for each activation
-  pub record LifeEx (n : Exec) (x : Execution (List Todo) Value) : Type 0 where
-    pub frames : length x.frames ≡ suc (length x.callers)
-    pub stack : LifeStack t few n x.frames (x.run ∷ x.callers)
+  abbrev pub CleanHolds : Exec → List Value → ℕ → Value → List Active → CleanUp → List Todo → Type 0
+  CleanHolds n = CleanHoldsBy t few OutwardsOnly n
+
+  abbrev pub MarkHolds : Exec → List Value → ℕ → Value → List Active → Sort → List Todo → Type 0 → Type 0
+  MarkHolds n = MarkHoldsBy t few OutwardsOnly n
+
+  abbrev pub AllHold : Exec → List Value → ℕ → Value → List Active → List Todo → Type 0
+  AllHold n = AllHoldBy t few OutwardsOnly n
+
+  abbrev pub LifeStack : Exec → List (List Value) → List Active → Type 0
+  LifeStack n = LifeStackBy t few OutwardsOnly n
+
+  abbrev pub LifeEx : Exec → Execution (List Todo) Value → Type 0
+  LifeEx = LifeExBy t few OutwardsOnly
 
   abbrev pub LifeMembers : Home → Option Members → Type 0
   LifeMembers h m = MembersBy LifeEx h m
@@ -75,15 +116,11 @@ module _ (t : Table) (few : Few) where
   abbrev pub LifeEnv : Env → Type 0
   LifeEnv e = EnvBy LifeEx e
 
-  pub record LifeState (s : State) : Type 0 where
-    pub frames : length s.env.frames ≡ suc (length s.callers)
-    pub stack : LifeStack t few s.env.exec s.env.frames (s.run ∷ s.callers)
-    pub env : LifeEnv s.env
+  abbrev pub LifeState : State → Type 0
+  LifeState = LifeStateBy t few OutwardsOnly LifeEx
 
   abbrev pub LifeStep : Step → Type 0
-  LifeStep (Goes s) = LifeState s
-  LifeStep (Ticks s) = LifeState s
-  LifeStep (Asks r s) = LifeState s
+  LifeStep = LifeStepBy t few OutwardsOnly LifeEx
 
 -- what a step is to find
 
@@ -103,10 +140,16 @@ FrameBefore t n cell f [] = Unit {0}
 FrameBefore t n cell f (a ∷ older) = (a.frame ≡ f → AllBefore t n cell f a.control) ×
     FrameBefore t n cell f older
 
--- where a scope opens, what it is of holds what is known
+-- where a scope opens, what it is of holds what is known so
+abbrev pub OpensAtBy : Table → Few → BehindMark → List Todo → State → Type 0
+OpensAtBy t few K (Rest (Scoped c rest) ∷ todo) s = CleanHoldsBy t few K s.env.exec (frame_at s.run.frame s.env.frames) s.run.frame s.run.this s.callers c todo
+OpensAtBy t few K todo s = Unit {0}
+
+abbrev pub OpensBy : Table → Few → BehindMark → State → Type 0
+OpensBy t few K s = OpensAtBy t few K s.run.control s
+
 abbrev pub OpensAt : Table → Few → List Todo → State → Type 0
-OpensAt t few (Rest (Scoped c rest) ∷ todo) s = CleanHolds t few s.env.exec (frame_at s.run.frame s.env.frames) s.run.frame s.run.this s.callers c todo
-OpensAt t few todo s = Unit {0}
+OpensAt t few todo s = OpensAtBy t few OutwardsOnly todo s
 
 -- cells that start anew lie behind all that is in scope in their frame
 abbrev pub ClearsAt : Table → List Todo → State → Type 0

@@ -19,7 +19,7 @@ use Rattle.uc_typing.specs.Typing.{Table}
 use Rattle.uc_typing.specs.Laws.{ReadsIn}
 use Rattle.uc_sound.specs.SoundFormed.{IsFormed}
 use Rattle.uc_sound.specs.Tables.{table_of}
-use Rattle.uc_life_laws.specs.LifeStates.{LifeState}
+use Rattle.uc_life_laws.specs.Lives.{LivesState}
 use Rattle.uc_life_laws.specs.Knowing.{KnowsState, Finds}
 use Rattle.uc_life_laws.specs.Opened.{any, ObjectsHold}
 
@@ -30,8 +30,8 @@ pub record MeetsObjects (t : Table) (source : Source) (s : State) : Type 0 where
   pub objects : (c : CleanUp) (rest : Stmts) (todo : List Todo) →
       s.run.control ≡ Rest (Scoped c rest) ∷ todo →
       ObjectsHold t c todo s
-  pub finds : KnowsState t any [] s →
-      (x : KnowsState t any [] s) × Finds t any x.sigs x.run.sig x.run.scope s s.run.control x.run.own
+  pub finds : LivesState t any s →
+      (x : LivesState t any s) × Finds t any x.0.sigs x.0.run.sig x.0.run.scope s s.run.control x.0.run.own
 
 -- all is known then of whoever runs in each state to which it comes before it asks, what is in scope holds what is, and what its next step reads
 -- is of its type
@@ -39,9 +39,9 @@ pub record IsFollowed (t : Table) (source : Source) (j : Journal) (w : World) : 
   pub comes : (n : ℕ) (s : State) (c : Comes source j w n s) →
       LeadsMeet (MeetsObjects t source) source (answered source c.given (drawn j w n)) s c.leads →
       KnowsState t any [] s
-  pub scopes : (n : ℕ) (s : State) (c : Comes source j w n s) →
+  pub lives : (n : ℕ) (s : State) (c : Comes source j w n s) →
       LeadsMeet (MeetsObjects t source) source (answered source c.given (drawn j w n)) s c.leads →
-      LifeState t any s
+      LivesState t any s
   pub reads : (n : ℕ) (s : State) (c : Comes source j w n s) →
       LeadsMeet (MeetsObjects t source) source (answered source c.given (drawn j w n)) s c.leads →
       MeetsObjects t source s → ReadsIn t s

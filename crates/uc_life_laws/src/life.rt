@@ -6,6 +6,7 @@ ghost use Rattle.uc_life_laws.specs.NamedAsks.{LawAsked};
 ghost use Rattle.uc_life_laws.specs.KnownAnswers.{LawAnswers};
 ghost use Rattle.uc_life_laws.specs.Kinds.{LawKinds};
 ghost use Rattle.uc_life_laws.specs.KnownRuns.{LawKnownRuns, LawNamed};
+ghost use Rattle.uc_life_laws.specs.Lives.{LawLives};
 ghost use Rattle.uc_life_laws.specs.Makings.{LawMakings};
 ghost use Rattle.uc_life_laws.specs.MakingsRuns.{LawMakingsRuns};
 ghost use Rattle.uc_life_laws.specs.LifeLaws.{LawKnown, LawSteps};
@@ -34,6 +35,12 @@ pub fn law_kinds()
 /// constructor is called at what does.
 pub fn law_makings()
     ensures { LawMakings }
+{}
+
+/// So by these kinds a step keeps that variables in scope hold what lies outwards of them, or what is built or
+/// destroyed there.
+pub fn law_lives()
+    ensures { LawLives }
 {}
 
 /// All stays known with an answer that suits what was asked, and is known in a task that begins.

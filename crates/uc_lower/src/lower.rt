@@ -1,20 +1,23 @@
 // The code of a program.
 
-ghost use Rattle.std.specs.Prelude.{◌≡◌, ◌+◌, ◌*◌, ◌^◌, ◌≤◌, ◌<◌, [], length, map, IfErr, IfOk, IsTrue, MatchOption};
+ghost use Rattle.std.specs.Prelude.{◌≡◌, ◌+◌, ◌*◌, ◌^◌, ◌≤◌, ◌<◌, [], length, map, IfErr, IfOk, IsTrue, MatchOption, OnOk};
 ghost use Rattle.uc_tree.specs.declared.limits.TheConstants.{OPS_FOR_SIZE};
 ghost use Rattle.uc_tree.specs.Cells.{classes_of};
-ghost use Rattle.uc_tree.specs.Numbering.{routines_of};
+ghost use Rattle.uc_tree.specs.Numbering.{routines_of, sites_of, texts_of};
 ghost use Rattle.uc_tree.specs.Objects.{unwritten_of};
-ghost use Rattle.uc_resolve.specs.Resolve.{source_of};
+ghost use Rattle.uc_tree.specs.ProgramMain.{main_number};
+ghost use Rattle.uc_resolve.specs.Resolve.{all_classes, source_of};
 ghost use Rattle.uc_tree.specs.Sizes.{program_size};
 ghost use Rattle.uc_rules.specs.Breaks.{breaks_of};
 ghost use Rattle.uc_code.specs.Layout.{laid_of};
 ghost use Rattle.uc_code.specs.Pace.{IsPaced};
 ghost use Rattle.uc_code.specs.Lowered.{Lowered};
+ghost use Rattle.uc_code.specs.OpenRows.{AreEnded};
 ghost use Rattle.uc_numbering.specs.Routines.{defined_at};
 ghost use Rattle.uc_implicit.specs.Unwritten.{number_of_class, unwritten_as};
 ghost use Rattle.uc_lower_stmt.specs.SourceRows.{source_rows};
 ghost use Rattle.uc_lower.specs.Refusals.{Fits, FitsAll, IsFirstLarge, Refuses};
+ghost use Rattle.uc_lower.specs.RoutineLayout.{LaysAll};
 ghost use Rattle.uc_lower.specs.RowRanges.{HasRows};
 
 use crate::numbering::{cells_of_classes, members_of_classes, numbering_of};
@@ -33,6 +36,8 @@ use uc_lower_expr::program_names::ProgramNames;
 use uc_numbering::routines::{Defined, routines_of};
 use uc_size::program::size_of_program;
 use uc_tree::limits::{FRAME_CELLS, PROGRAM_SIZE};
+use uc_tree::name::Text;
+use uc_tree::site::Site;
 
 /// Why a program is not lowered: the frame of this routine, the first such, has too many cells; the program counts too much; or
 /// memory is wanting. The greatest number stands for all that are greater.
@@ -61,6 +66,95 @@ fn large_frame(sizes: &Sizes, defined: &[Defined], count: u32) -> Option<LowerFa
     None
 }
 
+// Lays out all routines, the written ones and then those that nobody wrote, in a draft without ops.
+fn lower_each(
+    alloc: Global,
+    names: &ProgramNames,
+    defined: &[Defined],
+    main: u32,
+    count: u32,
+    unwritten: &[Unwritten],
+    out: &mut Draft,
+) -> Result<(), AllocError>
+    requires unbroken { breaks_of names.now ≡ [] }
+    requires fits { Fits names.now }
+    requires defined { map defined_at defined.now ≡ routines_of names.now }
+    requires main { main ≡ main_number names.now }
+    requires count { count ≡ length defined.now }
+    requires unwritten { map unwritten_as unwritten.now ≡ unwritten_of names.now }
+    requires few { count + length unwritten.now < 2 ^ 32 }
+    requires table { length out.old.routines ≡ count + length unwritten.now }
+    requires ops { out.old.ops ≡ [] }
+    requires rows { out.old.rows ≡ [] }
+    requires outside { out.old.marks ≡ [] }
+    ensures { OnOk result (LaysAll names.now (routines_of names.now) (unwritten_of names.now)
+        (count + length unwritten.now) (length unwritten.now) out.new) }
+{
+    lower_routines(alloc, names, defined, main, count, out)?;
+    lower_all_unwritten(alloc, names, unwritten, count, out)
+}
+
+// What stands beside the ops of a program's code: its accept statements, its text literals and the cells of its classes.
+#[derive(Drop)]
+struct Beside {
+    sites: Vec<Site>,
+    texts: Vec<Text>,
+    classes: Vec<u32>,
+}
+
+fn beside_code(alloc: Global, checked: &Checked, names: &ProgramNames) -> Result<Beside, AllocError>
+    requires { names.now ≡ checked.now }
+    ensures sites { IfOk result (λ b. b.sites.items ≡ sites_of checked.now) }
+    ensures texts { IfOk result (λ b. b.texts.items ≡ texts_of checked.now) }
+    ensures classes { IfOk result (λ b. b.classes.items
+        ≡ map (λ c. c.cells) (all_classes checked.now)) }
+{
+    let sites = copy_sites(alloc, checked.sites())?;
+    let texts = copy_texts(alloc, checked.texts())?;
+    let classes = cells_of_classes(alloc, checked.program(), names)?;
+    Ok(Beside {
+        sites,
+        texts,
+        classes,
+    })
+}
+
+// The code of a program with these names, of which all routines are laid out.
+fn finished(
+    alloc: Global,
+    checked: &Checked,
+    names: &ProgramNames,
+    out: Draft,
+) -> Result<Code, AllocError>
+    requires { names.now ≡ checked.now }
+    ensures code { IfOk result (λ code. code ≡ record {
+      ops = out.ops;
+      rows = out.rows;
+      sites = sites_of checked.now;
+      texts = texts_of checked.now;
+      routines = out.routines;
+      classes = map (λ c. c.cells) (all_classes checked.now);
+    }) }
+    ensures ended { IfOk result (λ code. out.marks ≡ [] → AreEnded (length out.ops) out.rows) }
+{
+    match beside_code(alloc, checked, names) {
+        Ok(beside) => {
+            let mut code = out.finish(beside.sites, beside.texts, beside.classes);
+            match code.tabulate(alloc) {
+                Ok(()) => Ok(code),
+                Err(fault) => {
+                    drop(code);
+                    Err(fault)
+                }
+            }
+        }
+        Err(fault) => {
+            drop(out);
+            Err(fault)
+        }
+    }
+}
+
 // The code of a program that fits, with these names, and the routines that nobody wrote.
 fn lower_named(
     alloc: Global,
@@ -83,20 +177,23 @@ fn lower_named(
     ensures count { IfOk result (λ code. length code.rows ≡ source_rows (source_of checked.now)) }
     ensures rows { IfOk result (λ code. HasRows code) }
 {
-    let mut out = Draft::new(alloc, no_code(alloc, defined.len() + unwritten.len())?);
     let program = checked.program();
     let main = match number_of_main(&program.items) {
         Some(main) => main,
         None => return Err(AllocError),
     };
-    lower_routines(alloc, names, defined, main, count, &mut out)?;
-    lower_all_unwritten(alloc, names, unwritten, count, &mut out)?;
-    let sites = copy_sites(alloc, checked.sites())?;
-    let texts = copy_texts(alloc, checked.texts())?;
-    let classes = cells_of_classes(alloc, program, names)?;
-    let mut code = out.finish(sites, texts, classes);
-    code.tabulate(alloc)?;
-    Ok(code)
+    let rows = no_code(alloc, defined.len() + unwritten.len())?;
+    let mut out = Draft::new(alloc, rows);
+    match lower_each(alloc, names, defined, main, count, unwritten, &mut out) {
+        Ok(()) => {
+            let code = finished(alloc, checked, names, out)?;
+            Ok(code)
+        }
+        Err(fault) => {
+            drop(out);
+            Err(fault)
+        }
+    }
 }
 
 // The code of a program that fits, of whose classes these are the numbers, and these the routines that nobody wrote.
@@ -126,6 +223,7 @@ fn lower_all(
     let numbering = numbering_of(alloc, defined, count, unwritten, numbers, members)?;
     let names = ProgramNames::new(alloc, checked.sizes(), numbering)?;
     let code = lower_named(alloc, checked, &names, defined, count, unwritten);
+    drop(names);
     code
 }
 

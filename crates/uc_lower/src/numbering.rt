@@ -146,6 +146,5 @@ pub(crate) fn cells_of_classes(
     ensures { IfOk result (λ v. v.items ≡ map (λ c. c.cells) (all_classes program.now)) }
 {
     let classes = classes_in(alloc, &program.items)?;
-    let cells = cells_in(alloc, names, &classes)?;
-    Ok(cells)
+    cells_in(alloc, names, &classes)
 }

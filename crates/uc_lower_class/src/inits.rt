@@ -96,6 +96,5 @@ pub(crate) fn names_of_fields<'a>(
 ) -> Result<Vec<&'a Name>, AllocError>
     ensures { IfOk result (λ v. map (λ n. n.now) v.items ≡ names_of (fields_of class.now.members)) }
 {
-    let names = names_in(alloc, &class.members)?;
-    Ok(names)
+    names_in(alloc, &class.members)
 }

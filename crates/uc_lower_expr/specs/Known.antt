@@ -1,14 +1,14 @@
 -- What is known of the names of a program.
-use Rattle.std.specs.Prelude.{◌≡◌, ℕ, zero, suc, List, [], ◌∷◌, ◌++◌, Bool, Option, Some, None, slice_get, true, false}
+use Rattle.std.specs.Prelude.{◌≡◌, ℕ, zero, suc, List, [], ◌∷◌, ◌++◌, Bool, Option, Some, None, length, slice_get, true, false}
 use Rattle.uc_names.specs.Blocks.{Block, found}
 use Rattle.uc_tree.specs.Programs.{Class, Program}
 use Rattle.uc_tree.specs.Cells.{classes_of}
 use Rattle.uc_layout.specs.Places.{IsPlaces}
-use Rattle.uc_tree.specs.Numbering.{event_names, is_event, routines_of}
+use Rattle.uc_tree.specs.Numbering.{Defined, event_names, is_event, routines_of}
 use Rattle.uc_tree.specs.Objects.{class_at, number_at}
 use Rattle.uc_resolve.specs.Resolve.{routine_from}
 use Rattle.uc_lower_expr.specs.Events.{AreBuilders}
-use Rattle.uc_lower_expr.specs.Numbered.{IsNumbering}
+use Rattle.uc_lower_expr.specs.Numbered.{AreAmong, IsNumbering}
 use Rattle.uc_lower_expr.specs.Members.{AreByNumber, AreFields, AreRoutines, AreTables, FitClasses, object_places}
 use Rattle.uc_lower_expr.specs.declared.fields.FieldTable.{FieldTable}
 use Rattle.uc_lower_expr.specs.declared.numbering.ClassRoutine.{ClassRoutine}
@@ -24,6 +24,13 @@ pub record AreKnown (p : Program) (n : Numbering) (alone : List Block) (objects 
   pub routines_are : AreByNumber p routines
   pub events_are : IsPlaces (event_names (classes_of p.items)) events
   pub builders_are : AreBuilders (routines_of p) builders
+
+-- what is known of these routines, where so many numbers of classes are told apart
+pub record KnowsRoutines (ds : List Defined) (count : ℕ) (alone : List Block) (tables : List RoutineTable) (builders : List Block) : Type 0 where
+  pub alone_are : AreAmong ds alone
+  pub long : length tables ≡ count
+  pub each : (number : ℕ) (t : RoutineTable) → slice_get tables number ≡ Some t → AreRoutines ds number t
+  pub builders_are : AreBuilders ds builders
 
 -- the fields of the class c with this place behind those of the classes before it
 pub record NotesFields (p : Program) (place : ℕ) (c : Class) (old new : List FieldTable) : Type 0 where

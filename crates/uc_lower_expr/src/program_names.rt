@@ -1,11 +1,12 @@
 // What the items of a program give names.
 
 ghost use Rattle.std.specs.Prelude.{◌≡◌, ◌<◌, ◌++◌, [], ◌∷◌, ℕ, List, IfOk, OnOk, MatchOption, Some, None, get_or, length, map, option_map, slice_get};
+ghost use Rattle.uc_layout.specs.Places.{IsPlaces};
 ghost use Rattle.uc_names.specs.Blocks.{found};
 ghost use Rattle.uc_tree.specs.declared.kinds.Base.{Base as Named};
 ghost use Rattle.uc_tree.specs.declared.kinds.Role.TheVariants as role;
 ghost use Rattle.uc_tree.specs.Constants.{constants_of, constant_named};
-ghost use Rattle.uc_tree.specs.Numbering.{Defined, is_mutex, is_plain, routines_of};
+ghost use Rattle.uc_tree.specs.Numbering.{Defined, event_names, is_mutex, is_plain, routines_of};
 ghost use Rattle.uc_tree.specs.Cells.{classes_of, class_cells};
 ghost use Rattle.uc_tree.specs.Objects.{class_at, class_made, has_execution, is_coroutine, is_numbered, is_task, making, number_at, place_of, base_shape};
 ghost use Rattle.uc_tree.specs.Programs.{Program};
@@ -14,7 +15,7 @@ ghost use Rattle.uc_resolve.specs.Resolve.{AsValue, class_by, event_constructor,
 ghost use Rattle.uc_lower_expr.specs.Meanings.{Tells, is_coroutine_in, is_mutex_at, making_of, member_by, mutex_number_in};
 ghost use Rattle.uc_lower_expr.specs.Numbered.{is_called_alone, AreAmong, AreExclusive, IsFixed, IsNumbering};
 ghost use Rattle.uc_lower_expr.specs.Members.{AreTables, FitClasses, IsField, IsNthField, count_fields, member_at, no_field, no_field_at, object_places, routine_for};
-ghost use Rattle.uc_lower_expr.specs.Known.{HasRoutines, NotesFields, is_event_in, place_among, routine_or};
+ghost use Rattle.uc_lower_expr.specs.Known.{HasRoutines, KnowsRoutines, NotesFields, is_event_in, place_among, routine_or};
 
 use crate::events::{builders_of, events_of, is_event, number_of};
 use crate::fields::{Field, FieldTable, count_of, field_of, fields_of, nth_field, value_of_base};
@@ -38,12 +39,8 @@ use uc_tree::name::Name;
 pub struct ProgramNames<'a> {
     sizes: &'a Sizes<'a>,
     numbering: Numbering<'a>,
-    alone: Scope,
-    objects: Vec<usize>,
-    fields: Vec<FieldTable>,
-    routines: Vec<RoutineTable>,
-    events: Scope,
-    builders: Scope,
+    classes: ClassesByName,
+    routines: RoutinesByName,
 }
 
 impl<'a> Model for ProgramNames<'a> {
@@ -57,7 +54,24 @@ impl<'a> Model for ProgramNames<'a> {
 
     ghost view = { λ a. a.sizes.now };
 
-    ghost invariant = { λ a. AreKnown a.sizes.now a.numbering a.alone a.objects.items a.fields.items a.routines.items a.events a.builders };
+    ghost invariant = { λ a. AreKnown a.sizes.now a.numbering a.routines.alone a.classes.objects.items a.classes.fields.items a.routines.tables.items a.classes.events a.routines.builders };
+}
+
+// The places of the classes that are no events, the fields of all classes, and the places of the events among the events by name.
+#[derive(Drop)]
+struct ClassesByName {
+    objects: Vec<usize>,
+    fields: Vec<FieldTable>,
+    events: Scope,
+}
+
+// The numbers of the routines that are called by their names alone, the routines of each class, by the numbers of classes, and the
+// numbers of those that build events, by the names of these.
+#[derive(Drop)]
+struct RoutinesByName {
+    alone: Scope,
+    tables: Vec<RoutineTable>,
+    builders: Scope,
 }
 
 fn is_here(owner: &Owner) -> bool
@@ -353,6 +367,54 @@ fn routine_or(written: Option<u32>, unwritten: u32) -> ClassRoutine
     }
 }
 
+impl ClassesByName {
+    // Of a program with so many classes.
+    fn new(alloc: Global, sizes: &Sizes, count: usize) -> Result<ClassesByName, AllocError>
+        requires count { count ≡ length (classes_of sizes.now.items) }
+        requires fit { FitClasses sizes.now }
+        ensures objects { IfOk result (λ c. c.objects.items
+            ≡ object_places (classes_of sizes.now.items) 0) }
+        ensures fields { IfOk result (λ c. AreTables sizes.now c.fields.items) }
+        ensures events { IfOk result (λ c. IsPlaces
+            (event_names (classes_of sizes.now.items)) c.events) }
+    {
+        let mut fields = Vec::new(alloc);
+        let mut objects = Vec::new(alloc);
+        note_classes(alloc, sizes, count, &mut fields, &mut objects)?;
+        let events = events_of(alloc, sizes, count)?;
+        Ok(ClassesByName {
+            objects,
+            fields,
+            events,
+        })
+    }
+}
+
+impl RoutinesByName {
+    // Of these routines, where so many numbers of classes are told apart. `owners` are the numbers of their classes.
+    fn new(
+        alloc: Global,
+        count: usize,
+        routines: &[&Routine],
+        owners: &[u32],
+    ) -> Result<RoutinesByName, AllocError>
+        requires { length owners.now ≡ length routines.now }
+        ensures { IfOk result (λ r. (ds : List Defined) →
+            map (λ d. d.routine) ds ≡ map (λ r. r.now) routines.now →
+            map (λ d. d.number) ds ≡ owners.now →
+            KnowsRoutines ds count r.alone r.tables.items r.builders) }
+    {
+        let alone = numbers_of(alloc, routines, owners)?;
+        let tables = tables_of(alloc, count, routines, owners)?;
+        let builders = builders_of(alloc, routines, owners)?;
+        Ok(RoutinesByName {
+            alone,
+            tables,
+            builders,
+        })
+    }
+}
+
 impl<'a> ProgramNames<'a> {
     /// The names of a program with this numbering. Memory is wanting where it has 2^32 routines or more.
     pub fn new(
@@ -365,22 +427,18 @@ impl<'a> ProgramNames<'a> {
         ensures { IfOk result (λ names. names ≡ sizes.now) }
     {
         let count = numbering.classes.len();
-        let alone = numbers_of(alloc, &numbering.routines, &numbering.owners)?;
-        let routines = tables_of(alloc, count + 1, &numbering.routines, &numbering.owners)?;
-        let mut fields = Vec::new(alloc);
-        let mut objects = Vec::new(alloc);
-        note_classes(alloc, sizes, count, &mut fields, &mut objects)?;
-        let events = events_of(alloc, sizes, count)?;
-        let builders = builders_of(alloc, &numbering.routines, &numbering.owners)?;
+        let classes = ClassesByName::new(alloc, sizes, count)?;
+        let routines = RoutinesByName::new(
+            alloc,
+            count + 1,
+            &numbering.routines,
+            &numbering.owners,
+        )?;
         Ok(ProgramNames {
             sizes,
             numbering,
-            alone,
-            objects,
-            fields,
+            classes,
             routines,
-            events,
-            builders,
         })
     }
 
@@ -424,7 +482,7 @@ impl<'a> ProgramNames<'a> {
     pub fn routine(&self, name: &Name) -> Option<u32>
         ensures { result ≡ routine_from (routines_of self.now) 0 name.now }
     {
-        let number = self.alone.find(name.bytes());
+        let number = self.routines.alone.find(name.bytes());
         number
     }
 
@@ -460,14 +518,14 @@ impl<'a> ProgramNames<'a> {
         if name.is(b"RendezvousFailure") {
             return FAILURE;
         }
-        number_of(place_in(&self.events, name))
+        number_of(place_in(&self.classes.events, name))
     }
 
     /// The number of the constructor of the event of a name, where it is written.
     pub fn event_constructor(&self, name: &Name) -> Option<u32>
         ensures { result ≡ event_constructor self.now name.now }
     {
-        let number = self.builders.find(name.bytes());
+        let number = self.routines.builders.find(name.bytes());
         number
     }
 
@@ -475,7 +533,7 @@ impl<'a> ProgramNames<'a> {
     pub fn class_of(&self, number: u32) -> Option<usize>
         ensures { result ≡ place_of self.now number }
     {
-        place_of(&self.objects, number)
+        place_of(&self.classes.objects, number)
     }
 
     /// The field of a name in the class with this place.
@@ -483,7 +541,7 @@ impl<'a> ProgramNames<'a> {
         ensures { MatchOption result (no_field self.now class name.now (class_at self.now class))
             (λ v. IsField self.now class name.now v) }
     {
-        let field = field_of(&self.fields, class, name);
+        let field = field_of(&self.classes.fields, class, name);
         field
     }
 
@@ -492,7 +550,7 @@ impl<'a> ProgramNames<'a> {
         ensures { MatchOption result (no_field_at place (class_at self.now class))
             (λ v. IsNthField self.now class place v) }
     {
-        let field = nth_field(&self.fields, class, place);
+        let field = nth_field(&self.classes.fields, class, place);
         field
     }
 
@@ -500,7 +558,7 @@ impl<'a> ProgramNames<'a> {
     pub fn field_count(&self, class: usize) -> usize
         ensures { result ≡ count_fields (class_at self.now class) }
     {
-        let count = count_of(&self.fields, class);
+        let count = count_of(&self.classes.fields, class);
         count
     }
 
@@ -509,7 +567,7 @@ impl<'a> ProgramNames<'a> {
         ensures { MatchOption result (class_at self.now class
             ≡ None) (λ t. HasRoutines self.now class t.now) }
     {
-        let table = table_of(&self.routines, &self.numbering.classes, class);
+        let table = table_of(&self.routines.tables, &self.numbering.classes, class);
         table
     }
 

@@ -52,8 +52,7 @@ pub fn restart(op: Op, start: u32, line: u32, out: &mut Draft) -> Result<(), All
     ensures { OnOk result (Restarts op line start out.old out.new) }
 {
     out.cut_back(start);
-    out.emit(op, line)?;
-    Ok(())
+    out.emit(op, line)
 }
 
 /// The execution waits for the condition with the number under what it stores, and is delivered events then.
@@ -130,8 +129,7 @@ pub(crate) fn begin_update(line: u32, out: &mut Draft) -> Result<(), AllocError>
     ensures { OnOk result (Adds 2 (BeginCode line) out.old out.new) }
 {
     put(Op::Duplicate, line, out)?;
-    put(Op::Load, line, out)?;
-    Ok(())
+    put(Op::Load, line, out)
 }
 
 // The two top operands are combined, and written to the place under them.

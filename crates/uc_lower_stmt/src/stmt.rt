@@ -74,113 +74,77 @@ pub fn lower_stmt(
         }
         StmtForm::Evaluate { value } => {
             let _told = lower_expr(value, line, names, out)?;
-            put(Op::Discard, line, out)?;
-            Ok(())
+            put(Op::Discard, line, out)
         }
-        StmtForm::Declare { base, declarators } => {
-            lower_declaration(alloc, names, base, declarators, line, out)?;
-            Ok(())
-        }
-        StmtForm::Print { items } => {
-            lower_items(items, line, names, out)?;
-            Ok(())
-        }
-        StmtForm::PrintTogether { items } => {
-            lower_together(alloc, items, line, names, out)?;
-            Ok(())
-        }
-        StmtForm::Read { places } => {
-            lower_targets(places, line, names, out)?;
-            Ok(())
-        }
+        StmtForm::Declare { base, declarators } => lower_declaration(
+            alloc,
+            names,
+            base,
+            declarators,
+            line,
+            out,
+        ),
+        StmtForm::Print { items } => lower_items(items, line, names, out),
+        StmtForm::PrintTogether { items } => lower_together(alloc, items, line, names, out),
+        StmtForm::Read { places } => lower_targets(places, line, names, out),
         StmtForm::If {
             test,
             chosen,
             other,
-        } => {
-            lower_if(alloc, names, test, chosen, other, line, out)?;
-            Ok(())
-        }
+        } => lower_if(alloc, names, test, chosen, other, line, out),
         StmtForm::While { test, body } => {
             let turning = Turning::TestFirst(test);
-            lower_loop(alloc, names, turning, &None, body, line, out)?;
-            Ok(())
+            lower_loop(alloc, names, turning, &None, body, line, out)
         }
         StmtForm::Do { body, test } => {
             let turning = Turning::BodyFirst(test);
-            lower_loop(alloc, names, turning, &None, body, line, out)?;
-            Ok(())
+            lower_loop(alloc, names, turning, &None, body, line, out)
         }
         StmtForm::For {
             start,
             test,
             step,
             body,
-        } => {
-            lower_for(alloc, names, start, test, step, body, line, out)?;
-            Ok(())
-        }
-        StmtForm::Break => {
-            put_exit(Way::Break, line, out)?;
-            Ok(())
-        }
-        StmtForm::Continue => {
-            put_exit(Way::Continue, line, out)?;
-            Ok(())
-        }
-        StmtForm::Return { value } => {
-            lower_return(value, line, names, out)?;
-            Ok(())
-        }
+        } => lower_for(alloc, names, start, test, step, body, line, out),
+        StmtForm::Break => put_exit(Way::Break, line, out),
+        StmtForm::Continue => put_exit(Way::Continue, line, out),
+        StmtForm::Return { value } => lower_return(value, line, names, out),
         StmtForm::Empty => Ok(()),
-        StmtForm::Yield => {
-            put_yield(line, out)?;
-            Ok(())
-        }
+        StmtForm::Yield => put_yield(line, out),
         StmtForm::Try {
             brace,
             body,
             handlers,
-        } => {
-            lower_try(alloc, names, body, brace.line, handlers, line, out)?;
-            Ok(())
-        }
-        StmtForm::Throw { raised } => {
-            lower_throw(raised, line, names, out)?;
-            Ok(())
-        }
-        StmtForm::Raise { raised } => {
-            lower_raise(raised, line, names, out)?;
-            Ok(())
-        }
-        StmtForm::RaiseAt { raised, target } => {
-            lower_raise_at(raised, target, line, names, out)?;
-            Ok(())
-        }
-        StmtForm::Enable { events, body } => {
-            lower_enabling(alloc, names, Enabling::Enable, events, body, line, out)?;
-            Ok(())
-        }
-        StmtForm::Disable { events, body } => {
-            lower_enabling(alloc, names, Enabling::Disable, events, body, line, out)?;
-            Ok(())
-        }
-        StmtForm::Accept { clauses, other } => {
-            lower_accept(alloc, names, clauses, other, line, out)?;
-            Ok(())
-        }
-        StmtForm::Resume => {
-            put_switch(Op::Resume, line, out)?;
-            Ok(())
-        }
-        StmtForm::Suspend => {
-            put_switch(Op::Suspend, line, out)?;
-            Ok(())
-        }
+        } => lower_try(alloc, names, body, brace.line, handlers, line, out),
+        StmtForm::Throw { raised } => lower_throw(raised, line, names, out),
+        StmtForm::Raise { raised } => lower_raise(raised, line, names, out),
+        StmtForm::RaiseAt { raised, target } => lower_raise_at(raised, target, line, names, out),
+        StmtForm::Enable { events, body } => lower_enabling(
+            alloc,
+            names,
+            Enabling::Enable,
+            events,
+            body,
+            line,
+            out,
+        ),
+        StmtForm::Disable { events, body } => lower_enabling(
+            alloc,
+            names,
+            Enabling::Disable,
+            events,
+            body,
+            line,
+            out,
+        ),
+        StmtForm::Accept { clauses, other } => lower_accept(
+            alloc, names, clauses, other, line, out,
+        ),
+        StmtForm::Resume => put_switch(Op::Resume, line, out),
+        StmtForm::Suspend => put_switch(Op::Suspend, line, out),
         StmtForm::Migrate { cluster } => {
             let _told = lower_expr(cluster, line, names, out)?;
-            put(Op::Migrate, line, out)?;
-            Ok(())
+            put(Op::Migrate, line, out)
         }
     }
 }

@@ -1,14 +1,19 @@
 -- Just before an object goes, or is given up, it is nowhere in the world, on the way to what is asked next.
-use Rattle.std.proofs.Common.{◌≡◌, ℕ, ◌<◌, List, [], ◌∷◌, ◌++◌, refl, sym, subst}
+use Rattle.std.proofs.Common.{◌≡◌, ℕ, ◌<◌, List, [], ◌∷◌, ◌++◌, refl, sym, ap, ◌∙◌, subst}
+use Rattle.std.specs.Prelude.{drop}
 use Rattle.uc_tree.specs.Source.{Source}
 use Rattle.uc_entry.specs.declared.request.Asked.{Asked}
+use Rattle.uc_entry.specs.declared.request.Request.{Request}
 use Rattle.uc_acts.specs.Journal.{Journal}
 use Rattle.uc_acts.specs.Acts.{act}
 use Rattle.uc_acts.specs.Known.{task_count}
 use Rattle.uc_machine.specs.declared.exec.Exec.{Exec}
 use Rattle.uc_machine.specs.Monitors.{this_object}
+use Rattle.uc_machine.specs.Polls.{raise_at_step}
+use Rattle.uc_machine.specs.Quiet.{quiet, act_todo}
+use Rattle.uc_machine.specs.Raising.{event_in}
 use Rattle.uc_machine.specs.Pieces as piece
-use Rattle.uc_machine.specs.Pieces.{Value, Todo, GoneNow, GiveUpNow, RaiseAtNow, Active, State}
+use Rattle.uc_machine.specs.Pieces.{below, Todo, GoneNow, GiveUpNow, RaiseAtNow, Active, State}
 use Rattle.uc_machine.specs.Answering.{answered}
 use Rattle.uc_machine.specs.Rides.{Rides, slices, goes_on, ticks, asks}
 use Rattle.uc_meaning.specs.Runs.{World, Runs, acts, more, drawn, world_after}
@@ -34,6 +39,7 @@ use Rattle.uc_rooted_runs.specs.Binds.{BindsOwn}
 use Rattle.uc_rooted_runs.specs.Mains.{FindsAll}
 use Rattle.uc_rooted_runs.specs.MainRuns.{EndsMains}
 use Rattle.uc_rooted_runs.specs.OutlastRuns.{with_homes}
+use Rattle.uc_rooted_runs.specs.Still.{way_still}
 use Rattle.uc_rooted_runs.proofs.FreshRuns.{law_fresh, drawn_fresh}
 use Rattle.uc_rooted_runs.proofs.KeptRuns.{keeps_at, run_keeps}
 use Rattle.uc_rooted_runs.proofs.MainRuns.{law_mains}
@@ -85,7 +91,7 @@ module _ (t : Table) (few : Few) (source : Source) where
     ride_all (asks {s} e) l h f m b = one s l h f m b
 
 pub law_before_rides : LawBeforeRides
-law_before_rides t few own yet source input opts j w r range fits on zero main leaves spares binds mains finds puts this p u n s q d bound mained found put has b asked homes kept keeps rooted =
+law_before_rides t few own yet source input opts j w r range fits on zero main leaves spares binds mains finds puts this p u n s q d bound mained found put has b homes kept keeps rooted =
     let all = law_own_names source input opts j w r range fits on leaves spares in
     let rests = run_rests source input opts range r fits on in
     let y = run_named source input opts range r fits on in
@@ -99,25 +105,25 @@ law_before_rides t few own yet source input opts j w r range fits on zero main l
     let fresh_ride = ride_fresh t few source j w u d.rides bound ending found owned (law_fresh.told source d.given (drawn j w u) (drawn_fresh j w u fresh_world)) in
     let these = law_this_runs t few source input opts (j ++ act opts source.sites input j p u n q) (world_after source (act opts source.sites input j p u n q) w u s) longer (this, has) in
     let worlds = law_this_runs t few source input opts j w r this in
-    let up = law_upheld.upheld asked homes source input opts j w r range fits on leaves spares mains p u n s q d mained b kept keeps in
-    ride_all t few source names.Spares (LoneState t few) (ThisState t few) (λ v. FreshEnv v.env) (UpheldAt (with_homes homes b.makers) asked j w u) (λ v. RootedOnWay t few own yet (with_homes homes b.makers) asked j w u v source) (λ v. Before t few j w u v source × RaisesUpwards t few own yet b.makers.rank j w u v) (λ v l h f m g.
-    at_state v l (λ o k belongs free. nowhere_before t few source j w u lt all.later (all.elsewhere u lt) lone.world (worlds.world on) v l h f (with_homes homes b.makers) asked m zero own yet main o k belongs free) (λ k. upwards_there t few source j w u lt all.later (all.elsewhere u lt) lone.world (worlds.world on) v l h f (with_homes homes b.makers) asked m own yet main k) g) d.rides (ride_lone t few source d.rides put lone_start) these.rides.1 fresh_ride up rooted
+    let up = law_upheld.upheld homes source input opts j w r range fits on leaves spares mains p u n s q d mained b kept keeps in
+    ride_all t few source names.Spares (LoneState t few) (ThisState t few) (λ v. FreshEnv v.env) (UpheldAt (with_homes homes b.makers) (way_still source input opts r d) source j w u) (λ v. RootedOnWay t few own yet (with_homes homes b.makers) j w u v source) (λ v. Before t few j w u v source × RaisesUpwards t few own yet b.makers.rank j w u v) (λ v l h f m g.
+    at_state v l (λ q x e o k belongs free. nowhere_before t few source j w u lt all.later (all.elsewhere u lt) lone.world (worlds.world on) v l h f (with_homes homes b.makers) (way_still source input opts r d) m (m.last q x e) zero own yet main o k belongs free) (λ q x e k. upwards_there t few source j w u lt all.later (all.elsewhere u lt) lone.world (worlds.world on) v l h f (with_homes homes b.makers) (way_still source input opts r d) m (m.last q x e) own yet main k) g) d.rides (ride_lone t few source d.rides put lone_start) these.rides.1 fresh_ride up rooted
   where
-    at_state : (v : State) → LoneState t few v → ((o : ℕ) → IsRootedOnWay t few own yet (with_homes homes b.makers) asked j w u v o → Belongs few v.env.exec (few.home o) → Free t few o (Marked t v.env.exec (v.run ∷ v.callers)) → NowhereBefore t few j w u v o) → (IsStoodOnWay t few own yet (with_homes homes b.makers) asked j w u v → StandsUpwards t few j (world_at w u v) own yet b.makers.rank) → RootedOnWay t few own yet (with_homes homes b.makers) asked j w u v source → Before t few j w u v source × RaisesUpwards t few own yet b.makers.rank j w u v
-    at_state v l f up g = (by v.run.control refl g l.stack.0, raises v.run.control g)
+    at_state : (v : State) → LoneState t few v → ((q : Request) (x : State) → quiet source v ≡ piece.Asks q x → (o : ℕ) → IsRootedOnWay t few own yet (with_homes homes b.makers) j w u v o → Belongs few v.env.exec (few.home o) → Free t few o (Marked t v.env.exec (v.run ∷ v.callers)) → NowhereBefore t few j w u v o) → ((q : Request) (x : State) → quiet source v ≡ piece.Asks q x → IsStoodOnWay t few own yet (with_homes homes b.makers) j w u v → StandsUpwards t few j (world_at w u v) own yet b.makers.rank) → RootedOnWay t few own yet (with_homes homes b.makers) j w u v source → Before t few j w u v source × RaisesUpwards t few own yet b.makers.rank j w u v
+    at_state v l f up g = (by v.run.control refl g l.stack.0, raises v.run.control refl g)
       where
-        raises : (todo : List Todo) → RootedOnWayBy t few own yet (with_homes homes b.makers) asked j w u v source todo → RaisesUpwardsBy t few own yet b.makers.rank j w u v todo
-        raises (piece.RaiseAtNow ∷ todo) h = λ o e. up (h o e)
-        raises (p ∷ todo) h = tt
-        raises [] h = tt
+        raises : (todo : List Todo) → v.run.control ≡ todo → RootedOnWayBy t few own yet (with_homes homes b.makers) j w u v source todo → RaisesUpwardsBy t few own yet b.makers.rank j w u v todo
+        raises (piece.RaiseAtNow ∷ todo) i h = λ o e. up _ _ (ap (λ l. act_todo source l v) i ∙ ap (λ y. raise_at_step y (event_in (below v.run.operands)) todo (drop 4 v.run.operands) v) e) (h o e)
+        raises (p ∷ todo) i h = tt
+        raises [] i h = tt
 
-        by : (todo : List Todo) → v.run.control ≡ todo → RootedOnWayBy t few own yet (with_homes homes b.makers) asked j w u v source todo → AllLone t few v.env.exec v.run.frame v.run.this v.callers v.run.control → (k : KnowsState t few [] v) → BeforeAt t few j w u v source k v.run.control
+        by : (todo : List Todo) → v.run.control ≡ todo → RootedOnWayBy t few own yet (with_homes homes b.makers) j w u v source todo → AllLone t few v.env.exec v.run.frame v.run.this v.callers v.run.control → (k : KnowsState t few [] v) → BeforeAt t few j w u v source k v.run.control
         by (piece.GoneNow ∷ todo) e h k known =
             let at : AllLone t few v.env.exec v.run.frame v.run.this v.callers (piece.GoneNow ∷ todo) = subst (AllLone t few v.env.exec v.run.frame v.run.this v.callers) e k in
-            subst (λ c. BeforeAt t few j w u v source known c) (sym e) (f (this_object v) h at.0.0 (freed t few v.env.exec v.run v.callers (piece.GoneNow ∷ todo) (piece.GoneNow ∷ todo) (this_object v) refl at.0.1 e))
+            subst (λ c. BeforeAt t few j w u v source known c) (sym e) (f _ _ (ap (λ l. act_todo source l v) e) (this_object v) h at.0.0 (freed t few v.env.exec v.run v.callers (piece.GoneNow ∷ todo) (piece.GoneNow ∷ todo) (this_object v) refl at.0.1 e))
         by (piece.GiveUpNow ∷ todo) e h k known =
             let at : AllLone t few v.env.exec v.run.frame v.run.this v.callers (piece.GiveUpNow ∷ todo) = subst (AllLone t few v.env.exec v.run.frame v.run.this v.callers) e k in
-            subst (λ c. BeforeAt t few j w u v source known c) (sym e) (f (this_object v) h at.0.0 (freed t few v.env.exec v.run v.callers (piece.GiveUpNow ∷ todo) (piece.GiveUpNow ∷ todo) (this_object v) refl at.0.1 e))
+            subst (λ c. BeforeAt t few j w u v source known c) (sym e) (f _ _ (ap (λ l. act_todo source l v) e) (this_object v) h at.0.0 (freed t few v.env.exec v.run v.callers (piece.GiveUpNow ∷ todo) (piece.GiveUpNow ∷ todo) (this_object v) refl at.0.1 e))
         by (piece.RaiseAtNow ∷ todo) e h k known = subst (λ c. BeforeAt t few j w u v source known c) (sym e) tt
         by (p ∷ todo) e h k known = subst (λ c. BeforeAt t few j w u v source known c) (sym e) (h known)
         by [] e h k known = subst (λ c. BeforeAt t few j w u v source known c) (sym e) (h known)

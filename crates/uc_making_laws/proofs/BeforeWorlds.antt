@@ -1,6 +1,6 @@
 -- While a task has come to where an object goes, or is given up, it is nowhere in the world as it stands then; and what executions have of others stands
 -- upwards where it is told that it stood so.
-use Rattle.std.proofs.Common.{◌≡◌, ℕ, ◌==◌, ◌<◌, ◌≤◌, Bool, true, false, List, ◌∷◌, Option, Some, None, refl, sym, ap, ◌∙◌, subst, arith, ⊎_elim}
+use Rattle.std.proofs.Common.{◌≡◌, ℕ, ◌==◌, ◌<◌, ◌≤◌, Bool, true, false, List, ◌∷◌, Option, Some, None, refl, sym, ap, ◌∙◌, subst, arith, inl, inr, ⊎_elim}
 use Rattle.std.specs.Prelude.{if◌then◌else◌}
 use Rattle.std.proofs.lemmas.Bool.{eqb-true, eq-eqb, ne_eqb}
 use Rattle.uc_tree.specs.Source.{Source, routine_of}
@@ -26,7 +26,7 @@ use Rattle.uc_life_laws.specs.Rooted.{Lives, OwnThings, Yet, StandsUpwards}
 use Rattle.uc_life_laws.proofs.Fewer.{both_members, both_env}
 use Rattle.uc_life_laws.proofs.Rooted.{stands_split}
 use Rattle.uc_life_laws.specs.OwnNames as own_names
-use Rattle.uc_life_laws.specs.OwnNames.{at_hand, IsOwn, IsElsewhere}
+use Rattle.uc_life_laws.specs.OwnNames.{at_hand, IsElsewhere}
 use Rattle.uc_life_laws.specs.Belonging.{Belongs}
 use Rattle.uc_life_laws.specs.Marks.{Marked, Free, LoneEx, LoneState, Freed}
 use Rattle.uc_life_laws.specs.Unmarked.{LoneWorld, Unmarked}
@@ -36,7 +36,8 @@ use Rattle.uc_apart_laws.specs.Nowhere.{IsNowhere, SparesEx}
 use Rattle.uc_rooted_runs.specs.Makers.{Makers}
 use Rattle.uc_rooted_runs.specs.FreshStates.{FreshEx, FreshEnv}
 use Rattle.uc_rooted_runs.specs.OutlastRuns.{now}
-use Rattle.uc_rooted_runs.proofs.KeptRuns.{in_world as made_there, based_of}
+use Rattle.uc_rooted_runs.specs.MadeRuns.{IsMade}
+use Rattle.uc_rooted_runs.proofs.KeptRuns.{in_world as made_there, all_still, based_of}
 use Rattle.uc_rooted_runs.proofs.UnmarkedRuns.{own_name}
 use Rattle.uc_rooted_runs.proofs.Upwards.{law_upwards}
 use Rattle.uc_making_laws.specs.OwnThis.{ThisEx, ThisState}
@@ -74,7 +75,7 @@ module _ (t : Table) (few : Few) (source : Source) (j : Journal) (w : World) (u 
   first_there v le =
       ap (λ (b : Bool). if b then s else w.tasks v) (ne_eqb v u (λ e. let k = known in omega (arith, e, k, le))) ∙ first v le
 
-  module _ (makers : Makers) (asked : Exec → Bool) (held_up : UpheldAt makers asked j w u s) where
+  module _ (makers : Makers) (asked : Exec → Bool) (held_up : UpheldAt makers asked source j w u s) (last : (n : Exec) → held_up.still n ≡ true → asked n ≡ true) where
     -- who runs has its name alone
     away : (n : Exec) → at_hand j w u n.home ≡ false → n ≡ s.env.exec → ⊥
     away n f e = no_both (at_hand j w u n.home) (ap (λ (k : Exec). at_hand j w u k.home) e ∙ held_up.own.at_home) f
@@ -105,13 +106,18 @@ module _ (t : Table) (few : Few) (source : Source) (j : Journal) (w : World) (u 
     }
 
     -- what executions have of others stands in what those have that made them
-    pub upwards : (own : Exec → Value → Ty → Bool) (yet : Exec → List Active → Value → Ty → Bool) → ((z : Value) (b : Ty) → Base few (main_of 0) z b → own (main_of 0) z b ≡ true) → IsStoodOnWay t few own yet makers asked j w u s → StandsUpwards t few j (world_at w u s) own yet makers.rank
+    pub upwards : (own : Exec → Value → Ty → Bool) (yet : Exec → List Active → Value → Ty → Bool) → ((z : Value) (b : Ty) → Base few (main_of 0) z b → own (main_of 0) z b ≡ true) → IsStoodOnWay t few own yet makers j w u s → StandsUpwards t few j (world_at w u s) own yet makers.rank
     upwards own yet main stood =
         law_upwards t few makers (now makers asked held_up.made) j (world_at w u s) own yet held_up.outlasts (λ n cs i z b k e.
         let is = made_there held_up.made source j (world_at w u s) held_up.there first_there n cs i in
-        based_of t few makers asked held_up.made yet own j (world_at w u s) main held_up.later n is z b k e (stood n cs i z b k e))
+        let on = asked_there n (made_there held_up.still source j (world_at w u s) (all_still held_up.still j (world_at w u s) held_up.are_still) first_there n cs i) in
+        based_of t few makers asked held_up.made yet own j (world_at w u s) main held_up.later n is on z b k e (stood n cs i z b k e))
+      where
+        asked_there : (n : Exec) → IsMade held_up.still n → IsMade asked n
+        asked_there n (inl e) = inl e
+        asked_there n (inr e) = inr (last n e)
 
-    module _ (zero : (n : Exec) → Belongs few n (few.home 0) → ⊥) (own : Exec → Value → Ty → Bool) (yet : Exec → List Active → Value → Ty → Bool) (main : (z : Value) (b : Ty) → Base few (main_of 0) z b → own (main_of 0) z b ≡ true) (o : ℕ) (rooted : IsRootedOnWay t few own yet makers asked j w u s o) (belongs : Belongs few s.env.exec (few.home o)) (free : Free t few o (Marked t s.env.exec (s.run ∷ s.callers))) where
+    module _ (zero : (n : Exec) → Belongs few n (few.home 0) → ⊥) (own : Exec → Value → Ty → Bool) (yet : Exec → List Active → Value → Ty → Bool) (main : (z : Value) (b : Ty) → Base few (main_of 0) z b → own (main_of 0) z b ≡ true) (o : ℕ) (rooted : IsRootedOnWay t few own yet makers j w u s o) (belongs : Belongs few s.env.exec (few.home o)) (free : Free t few o (Marked t s.env.exec (s.run ∷ s.callers))) where
       freed : Freed t few (ask.Gone o) (if u == u then s else w.tasks u)
       freed = subst (Freed t few (ask.Gone o)) (sym same) (belongs, free)
 

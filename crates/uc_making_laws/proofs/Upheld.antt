@@ -5,6 +5,7 @@ use Rattle.std.proofs.lemmas.Bool.{eqb-true, eq-eqb}
 use Rattle.uc_tree.specs.Source.{Source}
 use Rattle.uc_entry.specs.declared.entry.Options.{Options}
 use Rattle.uc_entry.specs.declared.request.Asked.{Asked}
+use Rattle.uc_entry.specs.declared.request.Request.{Request}
 use Rattle.uc_entry.specs.Keyed.{find}
 use Rattle.uc_acts.specs.Acts.{act}
 use Rattle.uc_acts.specs.Journal.{Journal, held, is_over}
@@ -29,7 +30,7 @@ use Rattle.uc_state_laws.proofs.Lists.{Once, once_rest, first_once}
 use Rattle.uc_state_laws.specs.RoomRuns as way
 use Rattle.uc_state_laws.specs.RoomRuns.{Leads}
 use Rattle.uc_state_laws.specs.Opens.{RideMeets, RunMeets, LeadsMeet}
-use Rattle.uc_name_laws.specs.Below.{EnvNamed}
+use Rattle.uc_name_laws.specs.Below.{EnvNamed, IsBelow}
 use Rattle.uc_name_laws.specs.NameSteps as names
 use Rattle.uc_name_laws.specs.NameSteps.{Named, StepNamed}
 use Rattle.uc_name_laws.proofs.Homes.{no_both}
@@ -69,6 +70,10 @@ use Rattle.uc_rooted_runs.proofs.MainRuns.{law_mains}
 use Rattle.uc_rooted_runs.proofs.OutlastNames as outlast_names
 use Rattle.uc_rooted_runs.proofs.OutlastNames.{MadeBelow, born_there, names_at, below_behind}
 use Rattle.uc_rooted_runs.proofs.OutlastRuns as outlast
+use Rattle.uc_rooted_runs.specs.Still.{still_behind, ride_still, run_still, way_still, AreStill}
+use Rattle.uc_rooted_runs.proofs.StillSteps.{absent, Gone, env_still, here_still, taken_here, asks_same, below_behind as gone_behind, step_goes as still_goes, step_ticks as still_ticks}
+use Rattle.uc_rooted_runs.proofs.StillRuns as still_runs
+use Rattle.uc_rooted_runs.proofs.StillRuns.{drawn_still}
 use Rattle.uc_making_laws.specs.RideWhile.{RideWhile}
 use Rattle.uc_making_laws.specs.Upheld.{MadeLaterTo, way_makers, UpheldAt, LawUpheld}
 
@@ -122,9 +127,9 @@ module _ (whole : Makers) (homes : ℕ → Value) (asked : Exec → Bool) where
   abbrev makers : Makers
   makers = with_homes homes whole
 
-  module _ (source : Source) (j : Journal) (w : World) (u : ℕ) (ks : List ℕ) (once : Once ks) (same : ks ≡ held u j) (first : Exec → Bool) (h : OutlastWorld (with_homes homes whole) (now (with_homes homes whole) asked first) j w) (apart : IsElsewhere j w u) (there : AllMade first j w) where
+  module _ (source : Source) (j : Journal) (w : World) (u : ℕ) (ks : List ℕ) (once : Once ks) (same : ks ≡ held u j) (first : Exec → Bool) (h : OutlastWorld (with_homes homes whole) (now (with_homes homes whole) asked first) j w) (apart : IsElsewhere j w u) (there : AllMade first j w) (begins : Exec → Bool) (all : AreStill begins j w) where
     -- what goes along
-    record On (made : Exec → Bool) (v : State) : Type 0 where
+    record On (made still : Exec → Bool) (v : State) : Type 0 where
       state : HeldState source (seating (with_homes homes whole)) (now (with_homes homes whole) asked made) v
       serials : Home → ℕ
       named : Named (at_hand j w u) false serials v
@@ -133,8 +138,13 @@ module _ (whole : Makers) (homes : ℕ → Value) (asked : Exec → Bool) where
       mine : (x : Exec) → made x ≡ true → first x ≡ false → at_hand j w u (whole.parent x).home ≡ true
       grown : (x : Exec) → first x ≡ true → made x ≡ true
       later : (n : Exec) → made n ≡ true → whole.rank (whole.parent n) < whole.rank n
+      counts : Home → ℕ
+      counted : Named (at_hand j w u) false counts v
+      held : HeldState source absent (Gone still) v
+      gone_below : (x : Exec) → still x ≡ false → IsBelow counts x
+      gone_mine : (x : Exec) → still x ≡ false → begins x ≡ true → at_hand j w u x.home ≡ true
 
-    module _ (made : Exec → Bool) (v : State) (o : On made v) where
+    module _ (made still : Exec → Bool) (v : State) (o : On made still v) where
       abbrev Up : Exec → Bool
       Up = now (with_homes homes whole) asked made
 
@@ -190,9 +200,9 @@ module _ (whole : Makers) (homes : ℕ → Value) (asked : Exec → Bool) where
       abbrev First : Exec → Execution (List Todo) Value → Type 0
       First n y = IsMade first n
 
-      still : (n : Exec) → IsMade first n → IsMade made n
-      still n (inl e) = inl e
-      still n (inr e) = inr (o.grown n e)
+      stays_made : (n : Exec) → IsMade first n → IsMade made n
+      stays_made n (inl e) = inl e
+      stays_made n (inr e) = inr (o.grown n e)
 
       named_env : EnvNamed o.serials (at_hand j w u) v.env
       named_env = o.named.names.env_named
@@ -210,17 +220,52 @@ module _ (whole : Makers) (homes : ℕ → Value) (asked : Exec → Bool) where
 
       all_there : AllMade made j (world_at w u v)
       all_there = record {
-        running = λ x lt. tested (λ (y : State). IsMade made y.env.exec) (x == u) v (w.tasks x) (λ e. o.below v.env.exec named_env.exec_below) (λ e. still (w.tasks x).env.exec (there.running x lt));
-        tasks = λ x. tested (λ (y : State). EnvBy (λ n y. IsMade made n) y.env) (x == u) v (w.tasks x) (λ e. env_made) (λ e. both_env First First Made (λ n y a b. still n a) (w.tasks x).env (there.tasks x) (there.tasks x));
-        homes = λ q. or_home Made q (find q v.env.hand) refl (found_hand Made q v.env.hand env_made.hand) (λ e. both_members First First Made (λ n y a b. still n a) (home.Object q) (w.homes q) (there.homes q) (there.homes q));
+        running = λ x lt i. tested (λ (y : State). IsMade made y.env.exec) (x == u) v (w.tasks x) (λ e. o.below v.env.exec named_env.exec_below) (λ e. stays_made (w.tasks x).env.exec (there.running x lt i));
+        tasks = λ x. tested (λ (y : State). EnvBy (λ n y. IsMade made n) y.env) (x == u) v (w.tasks x) (λ e. env_made) (λ e. both_env First First Made (λ n y a b. stays_made n a) (w.tasks x).env (there.tasks x) (there.tasks x));
+        homes = λ q. or_home Made q (find q v.env.hand) refl (found_hand Made q v.env.hand env_made.hand) (λ e. both_members First First Made (λ n y a b. stays_made n a) (home.Object q) (w.homes q) (there.homes q) (there.homes q));
       }
 
-      upheld_at : IsOwn j w u v → UpheldAt (with_homes homes whole) asked j w u v
-      upheld_at own = record { own = own; hand = hand_is; made = made; outlasts = outlasts; there = all_there; later = o.later }
+      -- and none was forgotten
+
+      abbrev Begins : Exec → Execution (List Todo) Value → Type 0
+      Begins n y = begins n ≡ true
+
+      abbrev Still : Exec → Execution (List Todo) Value → Type 0
+      Still n y = still n ≡ true
+
+      keeps : (n : Exec) → at_hand j w u n.home ≡ false → begins n ≡ true → still n ≡ true
+      keeps n away g = by (still n) refl
+        where
+          by : (b : Bool) → still n ≡ b → still n ≡ true
+          by true e = e
+          by false e = no_both (at_hand j w u n.home) (o.gone_mine n e g) away
+
+      here : EnvBy (λ n y. still n ≡ true) v.env
+      here = env_still source still v.env o.held.env
+
+      are_still : AreStill still j (world_at w u v)
+      are_still = record {
+        running = λ x lt i. tested (λ (y : State). still y.env.exec ≡ true) (x == u) v (w.tasks x) (λ e. here_still source still v o.held) (λ e. keeps (w.tasks x).env.exec (apart.running x lt e) (all.running x lt i));
+        tasks = λ x. tested (λ (y : State). EnvBy (λ n y. still n ≡ true) y.env) (x == u) v (w.tasks x) (λ e. here) (λ e. both_env Away Begins Still (λ n y a b. keeps n a b) (w.tasks x).env (apart.tasks x e) (all.tasks x));
+        homes = λ q. or_home Still q (find q v.env.hand) refl (found_hand Still q v.env.hand here.hand) (λ e. both_members Away Begins Still (λ n y a b. keeps n a b) (home.Object q) (w.homes q) (apart.homes q (away q e)) (all.homes q));
+      }
+
+      upheld_at : IsOwn j w u v → ((r : Request) (x : State) → quiet source v ≡ Asks r x → (n : Exec) → still n ≡ true → asked n ≡ true) → UpheldAt (with_homes homes whole) asked source j w u v
+      upheld_at own last = record {
+        own = own;
+        hand = hand_is;
+        made = made;
+        outlasts = outlasts;
+        there = all_there;
+        later = o.later;
+        still = still;
+        are_still = are_still;
+        last = last;
+      }
 
       -- the next step
 
-      module _ (a : OutlastsAt (with_homes homes whole) asked source made v) (l : MakesLater source whole v) (own : IsOwn j w u v) where
+      module _ (a : OutlastsAt (with_homes homes whole) asked source made v) (l : MakesLater source whole v) (own : IsOwn j w u v) (spared : names.Spares v) (ends : EndsMains source v) where
         abbrev behind : Exec → Bool
         behind = made_behind source v made
 
@@ -245,9 +290,17 @@ module _ (whole : Makers) (homes : ℕ → Value) (asked : Exec → Bool) where
             by (inl k) = law_steps.settled source ks v k
             by (inr k) = law_steps.bound source ks v k
 
-        on_with : (x : State) → HeldState source (seating (with_homes homes whole)) (now (with_homes homes whole) asked (made_behind source v made)) x → ((k : Home → ℕ) → StepNamed (at_hand j w u) false k (quiet source v) → Named (at_hand j w u) false k x) → (StepHolding ks (quiet source v) → Settled ks x) → On (made_behind source v made) x
-        on_with x st f s =
+        mine_gone : (x : Exec) → still_behind v still x ≡ false → begins x ≡ true → at_hand j w u x.home ≡ true
+        mine_gone x e g = by (still x) refl
+          where
+            by : (b : Bool) → still x ≡ b → at_hand j w u x.home ≡ true
+            by true f = taken_here source (at_hand j w u) ks once o.counts still v o.gone_below o.counted o.settled spared ends x e f
+            by false f = o.gone_mine x f g
+
+        on_with : (x : State) → HeldState source (seating (with_homes homes whole)) (now (with_homes homes whole) asked (made_behind source v made)) x → ((k : Home → ℕ) → StepNamed (at_hand j w u) false k (quiet source v) → Named (at_hand j w u) false k x) → (StepHolding ks (quiet source v) → Settled ks x) → ((k : Home → ℕ) → Named (at_hand j w u) false k x → HeldState source absent (Gone (still_behind v still)) x) → On (made_behind source v made) (still_behind v still) x
+        on_with x st f s h =
             let b = walk source (at_hand j w u) false o.serials v o.named (λ u. vacuous u) in
+            let c = walk source (at_hand j w u) false o.counts v o.counted (λ u. vacuous u) in
             record {
               state = st;
               serials = b.serials;
@@ -257,41 +310,46 @@ module _ (whole : Makers) (homes : ℕ → Value) (asked : Exec → Bool) where
               mine = mine_on;
               grown = λ x e. made_grows source v made x (o.grown x e);
               later = later_on;
+              counts = c.serials;
+              counted = f c.serials c.named;
+              held = h c.serials (f c.serials c.named);
+              gone_below = gone_behind source (at_hand j w u) ks once o.counts still v o.gone_below o.counted o.settled spared ends c.serials c.grows.more;
+              gone_mine = mine_gone;
             }
 
-        on_goes : (x : State) → quiet source v ≡ Goes x → On (made_behind source v made) x
+        on_goes : (x : State) → quiet source v ≡ Goes x → On (made_behind source v made) (still_behind v still) x
         on_goes x e =
-            on_with x (outlast.step_goes whole homes asked source made v o.state a l x e) (λ k z. subst (StepNamed (at_hand j w u) false k) e z) (λ z. inl (subst (StepHolding ks) e z))
+            on_with x (outlast.step_goes whole homes asked source made v o.state a l x e) (λ k z. subst (StepNamed (at_hand j w u) false k) e z) (λ z. inl (subst (StepHolding ks) e z)) (λ k n. still_goes source (at_hand j w u) ks once o.counts still v o.gone_below o.counted o.settled spared ends o.held x e k n (subst (StepHolding ks) e settled_on).env.keys_are)
 
-        on_ticks : (x : State) → quiet source v ≡ Ticks x → On (made_behind source v made) x
+        on_ticks : (x : State) → quiet source v ≡ Ticks x → On (made_behind source v made) (still_behind v still) x
         on_ticks x e =
-            on_with x (law_held.goes_on source (seating (with_homes homes whole)) (now (with_homes homes whole) asked (made_behind source v made)) x (outlast.step_ticks whole homes asked source made v o.state a l x e)) (λ k z. subst (StepNamed (at_hand j w u) false k) e z) (λ z. inl (subst (StepHolding ks) e z))
+            on_with x (law_held.goes_on source (seating (with_homes homes whole)) (now (with_homes homes whole) asked (made_behind source v made)) x (outlast.step_ticks whole homes asked source made v o.state a l x e)) (λ k z. subst (StepNamed (at_hand j w u) false k) e z) (λ z. inl (subst (StepHolding ks) e z)) (λ k n. law_held.goes_on source absent (Gone (still_behind v still)) x (still_ticks source (at_hand j w u) ks once o.counts still v o.gone_below o.counted o.settled spared ends o.held x e))
 
     -- each state of a ride: who runs has its name alone there, as long as no step before forgot the running execution; and no new name is that of one
     -- that made one of those that were made by then
-    ride_upheld : (made : Exec → Bool) (counts : Home → ℕ) {s v : State} {q k : ℕ} {a : Asked} (r : Rides source s q v k a) → RideMeets (EndsMains source) source s q v k a r → RideKeeps (with_homes homes whole) asked source made r → RideMeets (MakesLater source whole) source s q v k a r → ((x : State) (l : Leads source s x) → LeadsMeet names.Spares source s x l → IsOwn j w u x) → Named (at_hand j w u) false counts s → MadeBelow whole homes asked counts made → On made s → RideWhile names.Spares (UpheldAt (with_homes homes whole) asked j w u) source s q v k a r
-    ride_upheld made counts slices f c l own n h o = tt
-    ride_upheld made counts (goes_on {s} {t} e r) f c l own n h o =
+    ride_upheld : (made still : Exec → Bool) (counts : Home → ℕ) {s v : State} {q k : ℕ} {a : Asked} (r : Rides source s q v k a) → RideMeets (EndsMains source) source s q v k a r → RideKeeps (with_homes homes whole) asked source made r → RideMeets (MakesLater source whole) source s q v k a r → ((x : State) (l : Leads source s x) → LeadsMeet names.Spares source s x l → IsOwn j w u x) → Named (at_hand j w u) false counts s → MadeBelow whole homes asked counts made → ((x : Exec) → ride_still source still r x ≡ true → asked x ≡ true) → On made still s → RideWhile names.Spares (UpheldAt (with_homes homes whole) asked source j w u) source s q v k a r
+    ride_upheld made still counts slices f c l own n h g o = tt
+    ride_upheld made still counts (goes_on {s} {t} e r) f c l own n h g o =
         let now : IsOwn j w u s = own s way.stays tt in (
-          upheld_at made s o now,
+          upheld_at made still s o now (λ r x i y k. let no : Goes t ≡ Asks r x = sym e ∙ i in absurd (cc)),
           λ spared.
               let both : StaysOwn source j w u s = record { now = now; next = subst (StepOwn j w u) (sym e) (own t (way.goes e way.stays) (spared, tt)) } in
               let names = names_at whole homes asked source j w u counts made s n h both l.0 in
               let out = at_state (with_homes homes whole) asked source made s f.0 c.0 names in
               let b = walk source (at_hand j w u) false counts s n (λ u. vacuous u) in
-              ride_upheld (made_behind source s made) b.serials r f.1 c.1 l.1 (λ x m y. own x (way.goes e m) (spared, y)) (subst (StepNamed (at_hand j w u) false b.serials) e b.named) (below_behind whole homes asked source j w u counts made s n h both l.0 b.serials b.grows.more) (on_goes made s o out l.0 now t e),
+              ride_upheld (made_behind source s made) (still_behind s still) b.serials r f.1 c.1 l.1 (λ x m y. own x (way.goes e m) (spared, y)) (subst (StepNamed (at_hand j w u) false b.serials) e b.named) (below_behind whole homes asked source j w u counts made s n h both l.0 b.serials b.grows.more) g (on_goes made still s o out l.0 now spared f.0 t e),
         )
-    ride_upheld made counts (ticks {s} {t} e r) f c l own n h o =
+    ride_upheld made still counts (ticks {s} {t} e r) f c l own n h g o =
         let now : IsOwn j w u s = own s way.stays tt in (
-          upheld_at made s o now,
+          upheld_at made still s o now (λ r x i y k. let no : Ticks t ≡ Asks r x = sym e ∙ i in absurd (cc)),
           λ spared.
               let both : StaysOwn source j w u s = record { now = now; next = subst (StepOwn j w u) (sym e) (own t (way.ticks e way.stays) (spared, tt)) } in
               let names = names_at whole homes asked source j w u counts made s n h both l.0 in
               let out = at_state (with_homes homes whole) asked source made s f.0 c.0 names in
               let b = walk source (at_hand j w u) false counts s n (λ u. vacuous u) in
-              ride_upheld (made_behind source s made) b.serials r f.1 c.1 l.1 (λ x m y. own x (way.ticks e m) (spared, y)) (subst (StepNamed (at_hand j w u) false b.serials) e b.named) (below_behind whole homes asked source j w u counts made s n h both l.0 b.serials b.grows.more) (on_ticks made s o out l.0 now t e),
+              ride_upheld (made_behind source s made) (still_behind s still) b.serials r f.1 c.1 l.1 (λ x m y. own x (way.ticks e m) (spared, y)) (subst (StepNamed (at_hand j w u) false b.serials) e b.named) (below_behind whole homes asked source j w u counts made s n h both l.0 b.serials b.grows.more) g (on_ticks made still s o out l.0 now spared f.0 t e),
         )
-    ride_upheld made counts (asks {s} e) f c l own n h o = upheld_at made s o (own s way.stays tt)
+    ride_upheld made still counts (asks {s} e) f c l own n h g o = upheld_at made still s o (own s way.stays tt) (λ r x i y k. g y (asks_same source still s r x i y k))
 
 -- the keys of a hand stay along a ride
 
@@ -333,19 +391,23 @@ module _ (source : Source) (input : List ℕ) (opts : Options) (range : InRange 
     pub ends : RideMeets (EndsMains source) source (answered source d.given (drawn j w u)) (left opts j u) s n q d.rides
     ends = (law_mains.runs source input opts (j ++ act opts source.sites input j p u n q) (world_after source (act opts source.sites input j p u n q) w u s) (more r on (acts p u n s q d)) (mains, mained)).1
 
-    module _ (b : MadeLaterTo source input opts j w r p u n s q d) (homes : ℕ → Value) (asked : Exec → Bool) (kept : RunKeeps (with_homes homes b.makers) asked source input opts r) (keeps : RideKeeps (with_homes homes b.makers) asked source (run_made source input opts r) d.rides) where
-      upheld_along : RideWhile names.Spares (UpheldAt (with_homes homes b.makers) asked j w u) source (answered source d.given (drawn j w u)) (left opts j u) s n q d.rides
+    module _ (b : MadeLaterTo source input opts j w r p u n s q d) (homes : ℕ → Value) (kept : RunKeeps (with_homes homes b.makers) (way_still source input opts r d) source input opts r) (keeps : RideKeeps (with_homes homes b.makers) (way_still source input opts r d) source (run_made source input opts r) d.rides) where
+      abbrev asked : Exec → Bool
+      asked = way_still source input opts r d
+
+      upheld_along : RideWhile names.Spares (UpheldAt (with_homes homes b.makers) (way_still source input opts r d) source j w u) source (answered source d.given (drawn j w u)) (left opts j u) s n q d.rides
       upheld_along =
           let e = own_start source input opts range rests on u d.given d.told in
           let y = made_runs.run_told source input opts range r fits on in
           let z = outlast_names.run_told b.makers homes asked source input opts range r fits on leaves spares b.made b.spawned in
+          let v = still_runs.run_told source input opts range r fits on leaves spares (law_mains.runs source input opts j w r mains) in
           let lt : u < task_count j = known source input opts range rests on y.serials y.world p u d.runs in
           let h : OutlastWorld (with_homes homes b.makers) (now (with_homes homes b.makers) asked (run_made source input opts r)) j w = law_kept_runs asked homes source input opts j w r range fits on leaves spares mains (record { makers = b.makers; made = b.made; spawned = b.spawned }) kept in
           let held_world = outlast.run_outlasts b.makers homes asked source input opts range r fits on (run_both (with_homes homes b.makers) asked source input opts r (law_mains.runs source input opts j w r mains) kept z.names) b.made b.spawned in
           let apart = (law_own_names source input opts j w r range fits on leaves spares).elsewhere u lt in
           let there = law_made_runs.there source input opts j w r range fits on in
           let same : e.hand ≡ held u j = sym (ride_keys source e.hand d.rides e.settled) ∙ (asks_with source input opts range rests on p u n s q d).hand in
-          ride_upheld b.makers homes asked source j w u e.hand e.once same (run_made source input opts r) h apart there (run_made source input opts r) z.serials d.rides ends keeps b.rides own_at (start source input opts range rests on z.serials z.world p u d.runs d.given d.told) z.below (record {
+          ride_upheld b.makers homes asked source j w u e.hand e.once same (run_made source input opts r) h apart there (run_still source input opts r) v.there (run_made source input opts r) (run_still source input opts r) z.serials d.rides ends keeps b.rides own_at (start source input opts range rests on z.serials z.world p u d.runs d.given d.told) z.below (λ x g. g) (record {
             state = law_held.goes_on source (seating (with_homes homes b.makers)) (now (with_homes homes b.makers) asked (run_made source input opts r)) (answered source d.given (drawn j w u)) (law_held.told source (seating (with_homes homes b.makers)) (now (with_homes homes b.makers) asked (run_made source input opts r)) (asked_form u j) d.given (drawn j w u) (law_suiting opts source.sites input j rests.kernel on u d.given d.told) (outlast.drawn_told b.makers homes asked source (now (with_homes homes b.makers) asked (run_made source input opts r)) j w u lt (law_alive opts source.sites input j rests.kernel on p u d.runs) held_world));
             serials = y.serials;
             named = start source input opts range rests on y.serials y.world p u d.runs d.given d.told;
@@ -354,11 +416,16 @@ module _ (source : Source) (input : List ℕ) (opts : Options) (range : InRange 
             mine = λ x g f. no_both (run_made source input opts r x) g f;
             grown = λ x g. g;
             later = law_made_runs.later source input opts j w r (record { makers = b.makers; made = b.made; spawned = b.spawned });
+            counts = v.serials;
+            counted = start source input opts range rests on v.serials v.world p u d.runs d.given d.told;
+            held = law_held.goes_on source absent (Gone (run_still source input opts r)) (answered source d.given (drawn j w u)) (law_held.told source absent (Gone (run_still source input opts r)) (asked_form u j) d.given (drawn j w u) (law_suiting opts source.sites input j rests.kernel on u d.given d.told) (drawn_still source (run_still source input opts r) j w u lt (law_alive opts source.sites input j rests.kernel on p u d.runs) v.there));
+            gone_below = v.below;
+            gone_mine = λ x f g. no_both (run_still source input opts r x) g f;
           })
 
 pub law_upheld : LawUpheld
 law_upheld = record {
   births = λ source input opts j w r range fits on p u n s q d. births_to source input opts range r fits on p u n s q d;
-  upheld = λ asked homes source input opts j w r range fits on leaves spares mains p u n s q d mained b kept keeps.
-      upheld_along source input opts range r fits on p u n s q d leaves spares mains mained b homes asked kept keeps;
+  upheld = λ homes source input opts j w r range fits on leaves spares mains p u n s q d mained b kept keeps.
+      upheld_along source input opts range r fits on p u n s q d leaves spares mains mained b homes kept keeps;
 }

@@ -3,11 +3,13 @@ use Rattle.std.specs.Prelude.{◌≡◌, ℕ, ◌<◌, Bool, true, false, List}
 use Rattle.uc_tree.specs.Source.{Source}
 use Rattle.uc_entry.specs.declared.entry.Options.{Options}
 use Rattle.uc_entry.specs.declared.request.Asked.{Asked}
+use Rattle.uc_entry.specs.declared.request.Request.{Request}
 use Rattle.uc_acts.specs.Journal.{Journal, held, is_over}
 use Rattle.uc_acts.specs.KernelRuns.{InRange}
 use Rattle.uc_acts.specs.Serves.{left}
 use Rattle.uc_machine.specs.declared.exec.Exec.{Exec}
-use Rattle.uc_machine.specs.Pieces.{Value, State}
+use Rattle.uc_machine.specs.Pieces.{Value, State, Asks}
+use Rattle.uc_machine.specs.Quiet.{quiet}
 use Rattle.uc_machine.specs.Answering.{answered}
 use Rattle.uc_meaning.specs.Runs.{World, Runs, AsksIn, drawn}
 use Rattle.uc_step_laws.specs.Hands.{keys}
@@ -24,6 +26,7 @@ use Rattle.uc_rooted_runs.specs.OutlastRuns.{with_homes, run_made, now}
 use Rattle.uc_rooted_runs.specs.Upwards.{OutlastWorld}
 use Rattle.uc_rooted_runs.specs.MadeRuns.{AllMade}
 use Rattle.uc_rooted_runs.specs.KeptRuns.{RideKeeps, RunKeeps}
+use Rattle.uc_rooted_runs.specs.Still.{AreStill, way_still}
 use Rattle.uc_making_laws.specs.RideWhile.{RideWhile}
 
 -- in a run, and on the way to what is asked next, each execution that is made in a state is made by the running one, and each that is spawned by who
@@ -39,29 +42,34 @@ abbrev pub way_makers : (source : Source) (input : List ℕ) (opts : Options) {j
 way_makers source input opts r d = ride_makers source (run_makers source input opts r) d.rides
 
 -- while task u has come to a state: who runs has its name alone there, and what is in hand is held; those that were made by then are all that are there,
--- and later than those that made them; and what those were to clean up then stays with them
-pub record UpheldAt (makers : Makers) (asked : Exec → Bool) (j : Journal) (w : World) (u : ℕ) (v : State) : Type 0 where
+-- and later than those that made them; what those were to clean up then stays with them; and of all that are there it is asked, where the state asks
+-- something
+pub record UpheldAt (makers : Makers) (asked : Exec → Bool) (source : Source) (j : Journal) (w : World) (u : ℕ) (v : State) : Type 0 where
   pub own : IsOwn j w u v
   pub hand : keys v.env.hand ≡ held u j
   pub made : Exec → Bool
   pub outlasts : OutlastWorld makers (now makers asked made) j (world_at w u v)
   pub there : AllMade made j (world_at w u v)
   pub later : (n : Exec) → made n ≡ true → makers.rank (makers.parent n) < makers.rank n
+  pub still : Exec → Bool
+  pub are_still : AreStill still j (world_at w u v)
+  pub last : (r : Request) (x : State) → quiet source v ≡ Asks r x → (n : Exec) → still n ≡ true → asked n ≡ true
 
 -- of a run in which all that was asked so far fits, no step forgets the running execution or calls a main, and nobody leaves its home for good, and of the
--- way to what is asked next, on which no step calls a main: such are those that are told, and so it is in each state on the way before which no step forgot it
+-- way to what is asked next, on which no step calls a main: such are those that are told, and so it is in each state on the way before which no step forgot
+-- it, where that is asked of those that are still there at the end of the way
 pub record LawUpheld : Type 0 where
   pub births : (source : Source) (input : List ℕ) (opts : Options) (j : Journal) (w : World)
       (r : Runs source input opts j w) → InRange opts → RunFits source input opts j w r → is_over j ≡ false →
       (p u n : ℕ) (s : State) (q : Asked) (d : AsksIn source opts j w p u n s q) →
       (b : MadeLaterTo source input opts j w r p u n s q d) × (b.makers ≡ way_makers source input opts r d)
-  pub upheld : (asked : Exec → Bool) (homes : ℕ → Value) (source : Source) (input : List ℕ) (opts : Options)
+  pub upheld : (homes : ℕ → Value) (source : Source) (input : List ℕ) (opts : Options)
       (j : Journal) (w : World) (r : Runs source input opts j w) → InRange opts → RunFits source input opts j w r →
       is_over j ≡ false → RunLeaves source input opts j w r → RunMeets names.Spares source input opts j w r →
       RunMeets (CallsNoMain source) source input opts j w r →
       (p u n : ℕ) (s : State) (q : Asked) (d : AsksIn source opts j w p u n s q) →
       RideMeets (CallsNoMain source) source (answered source d.given (drawn j w u)) (left opts j u) s n q d.rides →
       (b : MadeLaterTo source input opts j w r p u n s q d) →
-      RunKeeps (with_homes homes b.makers) asked source input opts r →
-      RideKeeps (with_homes homes b.makers) asked source (run_made source input opts r) d.rides →
-      RideWhile names.Spares (UpheldAt (with_homes homes b.makers) asked j w u) source (answered source d.given (drawn j w u)) (left opts j u) s n q d.rides
+      RunKeeps (with_homes homes b.makers) (way_still source input opts r d) source input opts r →
+      RideKeeps (with_homes homes b.makers) (way_still source input opts r d) source (run_made source input opts r) d.rides →
+      RideWhile names.Spares (UpheldAt (with_homes homes b.makers) (way_still source input opts r d) source j w u) source (answered source d.given (drawn j w u)) (left opts j u) s n q d.rides

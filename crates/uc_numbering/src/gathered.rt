@@ -26,61 +26,40 @@ fn push_stmt<'a>(found: &mut Vec<&'a Stmt>, s: &'a Stmt) -> Result<(), AllocErro
 {
     found.push(s)?;
     match &s.form {
-        StmtForm::Block { body } => {
-            push_stmts(found, body)?;
-            Ok(())
-        }
-        StmtForm::Empty => Ok(()),
-        StmtForm::Evaluate { .. } => Ok(()),
-        StmtForm::Declare { .. } => Ok(()),
+        StmtForm::Block { body } => push_stmts(found, body),
         StmtForm::If { chosen, other, .. } => {
             push_stmt(found, chosen)?;
-            push_maybe(found, other)?;
-            Ok(())
+            push_maybe(found, other)
         }
-        StmtForm::While { body, .. } => {
-            push_stmt(found, body)?;
-            Ok(())
-        }
-        StmtForm::Do { body, .. } => {
-            push_stmt(found, body)?;
-            Ok(())
-        }
-        StmtForm::For { body, .. } => {
-            push_stmt(found, body)?;
-            Ok(())
-        }
-        StmtForm::Break => Ok(()),
-        StmtForm::Continue => Ok(()),
-        StmtForm::Return { .. } => Ok(()),
         StmtForm::Try { body, handlers, .. } => {
             push_stmts(found, body)?;
-            push_handlers(found, handlers)?;
-            Ok(())
+            push_handlers(found, handlers)
         }
-        StmtForm::Throw { .. } => Ok(()),
-        StmtForm::Raise { .. } => Ok(()),
-        StmtForm::RaiseAt { .. } => Ok(()),
-        StmtForm::Enable { body, .. } => {
-            push_stmt(found, body)?;
-            Ok(())
-        }
-        StmtForm::Disable { body, .. } => {
-            push_stmt(found, body)?;
-            Ok(())
-        }
+        StmtForm::While { body, .. }
+        | StmtForm::Do { body, .. }
+        | StmtForm::For { body, .. }
+        | StmtForm::Enable { body, .. }
+        | StmtForm::Disable { body, .. } => push_stmt(found, body),
         StmtForm::Accept { clauses, other } => {
             push_clauses(found, clauses)?;
-            push_maybe(found, other)?;
-            Ok(())
+            push_maybe(found, other)
         }
-        StmtForm::Print { .. } => Ok(()),
-        StmtForm::PrintTogether { .. } => Ok(()),
-        StmtForm::Read { .. } => Ok(()),
-        StmtForm::Resume => Ok(()),
-        StmtForm::Suspend => Ok(()),
-        StmtForm::Yield => Ok(()),
-        StmtForm::Migrate { .. } => Ok(()),
+        StmtForm::Empty
+        | StmtForm::Evaluate { .. }
+        | StmtForm::Declare { .. }
+        | StmtForm::Break
+        | StmtForm::Continue
+        | StmtForm::Return { .. }
+        | StmtForm::Throw { .. }
+        | StmtForm::Raise { .. }
+        | StmtForm::RaiseAt { .. }
+        | StmtForm::Print { .. }
+        | StmtForm::PrintTogether { .. }
+        | StmtForm::Read { .. }
+        | StmtForm::Resume
+        | StmtForm::Suspend
+        | StmtForm::Yield
+        | StmtForm::Migrate { .. } => Ok(()),
     }
 }
 

@@ -158,8 +158,7 @@ fn push_item<'a>(
 {
     match &item.form {
         ItemForm::Class { class } => {
-            push_members(found, classes, places, &class.name, &class.members)?;
-            Ok(())
+            push_members(found, classes, places, &class.name, &class.members)
         }
         ItemForm::Routine { routine } => {
             found.push(defined_by(classes, places, routine))?;
@@ -197,6 +196,7 @@ pub fn routines_of<'a>(alloc: Global, program: &'a Program) -> Result<Vec<Define
     let classes = classes_in(alloc, &program.items)?;
     let objects = objects_in(alloc, &classes)?;
     let places = places_of_classes(alloc, &objects)?;
-    let found = routines_in(alloc, &objects, &places, &program.items)?;
-    Ok(found)
+    let found = routines_in(alloc, &objects, &places, &program.items);
+    drop(places);
+    found
 }

@@ -101,30 +101,30 @@ fn push_site(
             found.push(site)?;
             Ok(())
         }
-        StmtForm::Block { .. } => Ok(()),
-        StmtForm::Empty => Ok(()),
-        StmtForm::Evaluate { .. } => Ok(()),
-        StmtForm::Declare { .. } => Ok(()),
-        StmtForm::If { .. } => Ok(()),
-        StmtForm::While { .. } => Ok(()),
-        StmtForm::Do { .. } => Ok(()),
-        StmtForm::For { .. } => Ok(()),
-        StmtForm::Break => Ok(()),
-        StmtForm::Continue => Ok(()),
-        StmtForm::Return { .. } => Ok(()),
-        StmtForm::Try { .. } => Ok(()),
-        StmtForm::Throw { .. } => Ok(()),
-        StmtForm::Raise { .. } => Ok(()),
-        StmtForm::RaiseAt { .. } => Ok(()),
-        StmtForm::Enable { .. } => Ok(()),
-        StmtForm::Disable { .. } => Ok(()),
-        StmtForm::Print { .. } => Ok(()),
-        StmtForm::PrintTogether { .. } => Ok(()),
-        StmtForm::Read { .. } => Ok(()),
-        StmtForm::Resume => Ok(()),
-        StmtForm::Suspend => Ok(()),
-        StmtForm::Yield => Ok(()),
-        StmtForm::Migrate { .. } => Ok(()),
+        StmtForm::Block { .. }
+        | StmtForm::Empty
+        | StmtForm::Evaluate { .. }
+        | StmtForm::Declare { .. }
+        | StmtForm::If { .. }
+        | StmtForm::While { .. }
+        | StmtForm::Do { .. }
+        | StmtForm::For { .. }
+        | StmtForm::Break
+        | StmtForm::Continue
+        | StmtForm::Return { .. }
+        | StmtForm::Try { .. }
+        | StmtForm::Throw { .. }
+        | StmtForm::Raise { .. }
+        | StmtForm::RaiseAt { .. }
+        | StmtForm::Enable { .. }
+        | StmtForm::Disable { .. }
+        | StmtForm::Print { .. }
+        | StmtForm::PrintTogether { .. }
+        | StmtForm::Read { .. }
+        | StmtForm::Resume
+        | StmtForm::Suspend
+        | StmtForm::Yield
+        | StmtForm::Migrate { .. } => Ok(()),
     }
 }
 
@@ -153,10 +153,7 @@ fn names_of<'a>(alloc: Global, class: Option<&'a Class>) -> Result<Vec<&'a Name>
     ensures few { IfOk result (λ v. length v.items ≤ MEMBERS) }
 {
     match class {
-        Some(class) => {
-            let names = members_of(alloc, class)?;
-            Ok(names)
-        }
+        Some(class) => members_of(alloc, class),
         None => Ok(Vec::new(alloc)),
     }
 }
@@ -189,6 +186,5 @@ pub fn sites_of(alloc: Global, program: &Program) -> Result<Vec<Site>, AllocErro
     ensures { IfOk result (λ v. v.items ≡ sites_of program.now) }
 {
     let routines = routines_of(alloc, program)?;
-    let sites = sites_in(alloc, &routines)?;
-    Ok(sites)
+    sites_in(alloc, &routines)
 }

@@ -41,37 +41,32 @@ fn push_texts(alloc: Global, found: &mut Vec<Text>, s: &Stmt) -> Result<(), Allo
     ensures { OnOk result (found.new.items ≡ found.old.items ++ own_texts s.now) }
 {
     match &s.form {
-        StmtForm::Print { items } => {
-            push_items(alloc, found, items)?;
-            Ok(())
+        StmtForm::Print { items } | StmtForm::PrintTogether { items } => {
+            push_items(alloc, found, items)
         }
-        StmtForm::PrintTogether { items } => {
-            push_items(alloc, found, items)?;
-            Ok(())
-        }
-        StmtForm::Block { .. } => Ok(()),
-        StmtForm::Empty => Ok(()),
-        StmtForm::Evaluate { .. } => Ok(()),
-        StmtForm::Declare { .. } => Ok(()),
-        StmtForm::If { .. } => Ok(()),
-        StmtForm::While { .. } => Ok(()),
-        StmtForm::Do { .. } => Ok(()),
-        StmtForm::For { .. } => Ok(()),
-        StmtForm::Break => Ok(()),
-        StmtForm::Continue => Ok(()),
-        StmtForm::Return { .. } => Ok(()),
-        StmtForm::Try { .. } => Ok(()),
-        StmtForm::Throw { .. } => Ok(()),
-        StmtForm::Raise { .. } => Ok(()),
-        StmtForm::RaiseAt { .. } => Ok(()),
-        StmtForm::Enable { .. } => Ok(()),
-        StmtForm::Disable { .. } => Ok(()),
-        StmtForm::Accept { .. } => Ok(()),
-        StmtForm::Read { .. } => Ok(()),
-        StmtForm::Resume => Ok(()),
-        StmtForm::Suspend => Ok(()),
-        StmtForm::Yield => Ok(()),
-        StmtForm::Migrate { .. } => Ok(()),
+        StmtForm::Block { .. }
+        | StmtForm::Empty
+        | StmtForm::Evaluate { .. }
+        | StmtForm::Declare { .. }
+        | StmtForm::If { .. }
+        | StmtForm::While { .. }
+        | StmtForm::Do { .. }
+        | StmtForm::For { .. }
+        | StmtForm::Break
+        | StmtForm::Continue
+        | StmtForm::Return { .. }
+        | StmtForm::Try { .. }
+        | StmtForm::Throw { .. }
+        | StmtForm::Raise { .. }
+        | StmtForm::RaiseAt { .. }
+        | StmtForm::Enable { .. }
+        | StmtForm::Disable { .. }
+        | StmtForm::Accept { .. }
+        | StmtForm::Read { .. }
+        | StmtForm::Resume
+        | StmtForm::Suspend
+        | StmtForm::Yield
+        | StmtForm::Migrate { .. } => Ok(()),
     }
 }
 
@@ -92,8 +87,7 @@ fn push_routine(alloc: Global, found: &mut Vec<Text>, defined: &Defined) -> Resu
 {
     let routine = defined.routine;
     let statements = statements_of(alloc, &routine.body)?;
-    push_all(alloc, found, &statements)?;
-    Ok(())
+    push_all(alloc, found, &statements)
 }
 
 fn texts_in(alloc: Global, routines: &[Defined]) -> Result<Vec<Text>, AllocError>
@@ -111,6 +105,5 @@ pub fn texts_of(alloc: Global, program: &Program) -> Result<Vec<Text>, AllocErro
     ensures { IfOk result (λ v. v.items ≡ texts_of program.now) }
 {
     let routines = routines_of(alloc, program)?;
-    let texts = texts_in(alloc, &routines)?;
-    Ok(texts)
+    texts_in(alloc, &routines)
 }

@@ -51,7 +51,7 @@ module _ (t : Table) (source : Source) where
 pub law_opened : LawOpened
 law_opened p formed accepted within input opts range j w r fits on finds = record {
   comes = λ n s c l. followed.comes n s c (leads n s c l);
-  scopes = λ n s c l. followed.scopes n s c (leads n s c l);
+  lives = λ n s c l. followed.lives n s c (leads n s c l);
   reads = λ n s c l f. followed.reads n s c (leads n s c l) (meets (table_of p) (source_of p) s (law_opens.comes p formed accepted within input opts range j w r fits on n s c) f);
 }
   where

@@ -131,7 +131,9 @@ fn note_constructor(
         routine,
         params: &params,
     };
-    note_inits(names, &built, &routine.inits)
+    let noted = note_inits(names, &built, &routine.inits);
+    drop(params);
+    noted
 }
 
 fn note_routine(
@@ -168,12 +170,11 @@ fn note_form(
         ≡ (is_some (found names.old x) || form_binds tables.now class x (member_form_at form.now))) }
 {
     match form {
-        MemberForm::Fields { .. } => Ok(()),
         MemberForm::Routine { routine } => {
             note_routine(alloc, names, tables, class, routine)?;
             Ok(())
         }
-        MemberForm::Proto { .. } => Ok(()),
+        MemberForm::Fields { .. } | MemberForm::Proto { .. } => Ok(()),
     }
 }
 
@@ -250,8 +251,7 @@ pub fn bound_fields(
     ensures { IfOk result (λ names. AreBound tables.now class.now place known names) }
 {
     if known {
-        let names = names_bound(alloc, tables, class, place)?;
-        return Ok(names);
+        return names_bound(alloc, tables, class, place);
     }
     Ok(Scope::new(alloc))
 }
@@ -279,5 +279,7 @@ pub fn is_bound_inside(
         return Ok(has_name(bound.names, name));
     }
     let names = names_bound(alloc, tables, class, place)?;
-    Ok(has_name(&names, name))
+    let inside = has_name(&names, name);
+    drop(names);
+    Ok(inside)
 }

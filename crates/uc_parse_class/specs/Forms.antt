@@ -10,13 +10,14 @@ use Rattle.uc_tree.specs.declared.kinds.Param.{Param}
 use Rattle.uc_tree.specs.declared.kinds.Role.TheVariants as role
 use Rattle.uc_tree.specs.declared.pos.Pos.{Pos}
 use Rattle.uc_tree.specs.declared.token.Sign.TheVariants as sign
+use Rattle.uc_tree.specs.Expressions.{Expr}
 use Rattle.uc_tree.specs.Statements.{Declarator}
 use Rattle.uc_tree.specs.Programs.{Init, Member, MemberForm, Item}
 use Rattle.uc_tree.specs.Programs as prog
 use Rattle.uc_grammar.specs.Names.{ClassPart, MemberPart, part_name}
 use Rattle.uc_grammar.specs.Form.{Form, bind, apply, many, listed, skip, look, inside, empty}
 use Rattle.uc_grammar.specs.Tables.{word_of, sign_of, is_comma, in_braces, any_token}
-use Rattle.uc_grammar.specs.Grammar.{mutex_kind_at, comma_list, param_form, init_form, field_form, field_rest, expect_sign, sign_or, name_form, before, expr_form, constant_of, params_form, plain_form, maker_form, sig_of, role_of, based_member, member_maker, based_item, outer_maker, outer_routine, free_routine, members_of, forward_of, class_rest, item_form, mark_form, member_form, member_routine, fields_rest}
+use Rattle.uc_grammar.specs.Grammar.{mutex_kind_at, comma_list, param_form, init_form, field_form, field_rest, expect_sign, sign_or, name_form, before, expr_form, params_form, plain_form, maker_form, sig_of, role_of, based_member, member_maker, based_item, outer_maker, outer_routine, free_routine, members_of, forward_of, class_rest, item_form, mark_form, member_form, member_routine, fields_rest}
 
 -- what follows the '_Mutex' of a kind
 abbrev pub mutex_kind_form : Form Kind
@@ -58,9 +59,9 @@ class_members_form = apply (members_of access.Private) (many in_braces (inside p
 abbrev pub class_after : Pos → Kind → List ℕ → Form Item
 class_after pos k n = sign_or sign.Semicolon (empty (forward_of pos k n)) (expect_sign sign.OpenBrace (class_rest pos k n))
 
--- what follows the name of a constant
-abbrev pub constant_after : Pos → Base → List ℕ → Form Item
-constant_after pos b n = expect_sign sign.Assign (apply (constant_of pos b n) (before expr_form sign.Semicolon))
+-- '=' expr ';'
+abbrev pub value_form : Form Expr
+value_form = expect_sign sign.Assign (before expr_form sign.Semicolon)
 
 -- what follows the name of a routine that is defined outside its class
 abbrev pub outer_after : Pos → Base → Owner → List ℕ → Form Item

@@ -6,17 +6,19 @@ ghost use Rattle.uc_parse_expr.specs.Faults.{token_of};
 ghost use Rattle.uc_grammar.specs.Spell.{kind_at};
 ghost use Rattle.uc_grammar.specs.Tables.{base_of, word_of};
 ghost use Rattle.uc_grammar.specs.Grammar.{using_rest, constant_rest, item_end, free_routine, outer_routine, based_item, outer_maker, word_item, item_form, inner, faults};
-ghost use Rattle.uc_parse_class.specs.Forms.{constant_after, outer_after, maker_after, based_after, named_item};
+ghost use Rattle.uc_parse_class.specs.Forms.{value_form, outer_after, maker_after, based_after, named_item};
 
 use crate::class::read_class;
 use crate::peek::read_scalar;
 use crate::routine::{read_maker, read_params, read_plain};
 use std::alloc::Global;
 use uc_grammar::fault::ParseFault;
+use uc_parse_expr::behind::{followed, kept};
 use uc_parse_expr::parse::read_expr;
 use uc_parse_expr::peek::{expect_sign, expect_word, is_sign, kind_at, pos_at, read_name};
 use uc_parse_simple::peek::{base_at, skip_sign};
 use uc_tree::class::Sig;
+use uc_tree::expr::Expr;
 use uc_tree::kinds::{Base, Owner, Role};
 use uc_tree::name::Name;
 use uc_tree::pos::Pos;
@@ -44,40 +46,25 @@ fn read_using(tokens: &[Token], pos: Pos, from: u32, room: u16) -> Result<(Item,
     ))
 }
 
-// What follows the name of a constant.
-fn read_constant_after(
+// The value of a constant, between `=` and `;`.
+fn read_value(
     alloc: Global,
     tokens: &[Token],
-    pos: Pos,
-    base: Base,
-    name: Name,
     from: u32,
     room: u16,
-) -> Result<(Item, u32), ParseFault>
+) -> Result<(Expr, u32), ParseFault>
     requires begins { from ≤ length tokens.now }
     requires few { length tokens.now < 2 ^ 32 }
-    ensures found { IfOk result (λ r. Spells (inner room)
-        (constant_after pos base name) tokens.now from r.1 r.0) }
+    ensures found { IfOk result (λ r. Spells (inner room) value_form tokens.now from r.1 r.0) }
     ensures fails { IfErr result
-        (λ f. Fails (inner room) (faults room) (constant_after pos base name) tokens.now from f) }
+        (λ f. Fails (inner room) (faults room) value_form tokens.now from f) }
     ensures moved { IfOk result (λ r. (from < r.1) × (r.1 ≤ length tokens.now)) }
     ensures within { IfErr result (λ f. token_of f ≤ length tokens.now) }
 {
     let at = expect_sign(tokens, from, Sign::Assign)?;
     let (value, end) = read_expr(alloc, tokens, at, room)?;
-    let to = expect_sign(tokens, end, Sign::Semicolon)?;
-    let constant = Constant {
-        pos,
-        base,
-        name,
-        value,
-    };
-    Ok((
-        Item {
-            form: ItemForm::Constant { constant },
-        },
-        to,
-    ))
+    let (value, to) = followed(value, tokens, end, Sign::Semicolon)?;
+    Ok((value, to))
 }
 
 // What follows `const`.
@@ -99,8 +86,19 @@ fn read_constant(
 {
     let (base, at) = read_scalar(tokens, from)?;
     let (name, end) = read_name(alloc, tokens, at)?;
-    let (item, to) = read_constant_after(alloc, tokens, pos, base, name, end, room)?;
-    Ok((item, to))
+    let (name, (value, to)) = kept(name, read_value(alloc, tokens, end, room))?;
+    let constant = Constant {
+        pos,
+        base,
+        name,
+        value,
+    };
+    Ok((
+        Item {
+            form: ItemForm::Constant { constant },
+        },
+        to,
+    ))
 }
 
 // What follows the signature of a routine: `;` or a body.
@@ -249,15 +247,12 @@ fn read_based_after(
     ensures moved { IfOk result (λ r. (from < r.1) × (r.1 ≤ length tokens.now)) }
     ensures within { IfErr result (λ f. token_of f ≤ length tokens.now) }
 {
-    if is_sign(tokens, from, Sign::Scope) {
-        let class = name.copy(alloc)?;
-        let owner = Owner::Class(class);
-        let (item, to) = read_outer_routine(alloc, tokens, pos, base, owner, from + 1, room)?;
-        return Ok((item, to));
-    }
     let name = name.copy(alloc)?;
-    let (item, to) = read_free_routine(alloc, tokens, pos, base, name, from, room)?;
-    Ok((item, to))
+    if is_sign(tokens, from, Sign::Scope) {
+        let owner = Owner::Class(name);
+        return read_outer_routine(alloc, tokens, pos, base, owner, from + 1, room);
+    }
+    read_free_routine(alloc, tokens, pos, base, name, from, room)
 }
 
 // What follows the base of a routine.
@@ -378,14 +373,11 @@ fn read_named_item(
     ensures moved { IfOk result (λ r. (from < r.1) × (r.1 ≤ length tokens.now)) }
     ensures within { IfErr result (λ f. token_of f ≤ length tokens.now) }
 {
+    let name = name.copy(alloc)?;
     if is_sign(tokens, from, Sign::Scope) {
-        let class = name.copy(alloc)?;
-        let (item, to) = read_outer_maker(alloc, tokens, pos, class, from + 1, room)?;
-        return Ok((item, to));
+        return read_outer_maker(alloc, tokens, pos, name, from + 1, room);
     }
-    let base = name.copy(alloc)?;
-    let (item, to) = read_based_item(alloc, tokens, pos, Base::Named(base), from, room)?;
-    Ok((item, to))
+    read_based_item(alloc, tokens, pos, Base::Named(name), from, room)
 }
 
 // An item that begins with the word of a base, or a class.
@@ -407,14 +399,8 @@ fn read_word_item(
     ensures within { IfErr result (λ f. token_of f ≤ length tokens.now) }
 {
     match base_at(tokens, from) {
-        Some(base) => {
-            let (item, to) = read_based_item(alloc, tokens, pos, base, from + 1, room)?;
-            Ok((item, to))
-        }
-        None => {
-            let (item, to) = read_class(alloc, tokens, pos, from, room)?;
-            Ok((item, to))
-        }
+        Some(base) => read_based_item(alloc, tokens, pos, base, from + 1, room),
+        None => read_class(alloc, tokens, pos, from, room),
     }
 }
 
@@ -435,21 +421,9 @@ pub fn read_item(
 {
     let pos = pos_at(tokens, from);
     match kind_at(tokens, from) {
-        Some(TokenKind::Word(Word::Using)) => {
-            let (item, to) = read_using(tokens, pos, from + 1, room)?;
-            Ok((item, to))
-        }
-        Some(TokenKind::Word(Word::Const)) => {
-            let (item, to) = read_constant(alloc, tokens, pos, from + 1, room)?;
-            Ok((item, to))
-        }
-        Some(TokenKind::Name(name)) => {
-            let (item, to) = read_named_item(alloc, tokens, pos, name, from + 1, room)?;
-            Ok((item, to))
-        }
-        _ => {
-            let (item, to) = read_word_item(alloc, tokens, pos, from, room)?;
-            Ok((item, to))
-        }
+        Some(TokenKind::Word(Word::Using)) => read_using(tokens, pos, from + 1, room),
+        Some(TokenKind::Word(Word::Const)) => read_constant(alloc, tokens, pos, from + 1, room),
+        Some(TokenKind::Name(name)) => read_named_item(alloc, tokens, pos, name, from + 1, room),
+        _ => read_word_item(alloc, tokens, pos, from, room),
     }
 }

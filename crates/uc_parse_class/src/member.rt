@@ -283,19 +283,16 @@ fn read_based_rest(
     ensures moved { IfOk result (λ r. (from < r.1) × (r.1 ≤ length tokens.now)) }
     ensures within { IfErr result (λ f. token_of f ≤ length tokens.now) }
 {
-    if is_sign(tokens, from, Sign::OpenParen) {
-        let name = name.copy(alloc)?;
-        let (form, to) = read_member_routine(alloc, tokens, place, base, name, from + 1, room)?;
-        return Ok((form, to));
-    }
     let name = name.copy(alloc)?;
+    if is_sign(tokens, from, Sign::OpenParen) {
+        return read_member_routine(alloc, tokens, place, base, name, from + 1, room);
+    }
     let start = FieldStart {
         pos,
         by_ref: false,
         name,
     };
-    let (form, to) = read_fields_rest(alloc, tokens, place, base, start, from, room)?;
-    Ok((form, to))
+    read_fields_rest(alloc, tokens, place, base, start, from, room)
 }
 
 // What follows the base of a member, which stands at `place`.
@@ -363,22 +360,11 @@ fn read_named_member(
     ensures moved { IfOk result (λ r. (from < r.1) × (r.1 ≤ length tokens.now)) }
     ensures within { IfErr result (λ f. token_of f ≤ length tokens.now) }
 {
-    if is_sign(tokens, from, Sign::OpenParen) {
-        let name = name.copy(alloc)?;
-        let (form, to) = read_member_maker(
-            alloc,
-            tokens,
-            pos,
-            Role::Constructor,
-            name,
-            from + 1,
-            room,
-        )?;
-        return Ok((form, to));
-    }
     let name = name.copy(alloc)?;
-    let (form, to) = read_based_member(alloc, tokens, pos, Base::Named(name), from, room)?;
-    Ok((form, to))
+    if is_sign(tokens, from, Sign::OpenParen) {
+        return read_member_maker(alloc, tokens, pos, Role::Constructor, name, from + 1, room);
+    }
+    read_based_member(alloc, tokens, pos, Base::Named(name), from, room)
 }
 
 // A member that begins with the word of a base.
@@ -401,10 +387,7 @@ fn read_word_member(
     ensures within { IfErr result (λ f. token_of f ≤ length tokens.now) }
 {
     match base_at(tokens, from) {
-        Some(base) => {
-            let (form, to) = read_based_member(alloc, tokens, pos, base, from + 1, room)?;
-            Ok((form, to))
-        }
+        Some(base) => read_based_member(alloc, tokens, pos, base, from + 1, room),
         None => Err(ParseFault::Syntax { token: from }),
     }
 }
@@ -450,17 +433,8 @@ pub fn read_member(
 {
     let pos = pos_at(tokens, from);
     match kind_at(tokens, from) {
-        Some(TokenKind::Sign(Sign::Tilde)) => {
-            let (form, to) = read_destructor(alloc, tokens, pos, from + 1, room)?;
-            Ok((form, to))
-        }
-        Some(TokenKind::Name(name)) => {
-            let (form, to) = read_named_member(alloc, tokens, pos, name, from + 1, room)?;
-            Ok((form, to))
-        }
-        _ => {
-            let (form, to) = read_word_member(alloc, tokens, pos, from, room)?;
-            Ok((form, to))
-        }
+        Some(TokenKind::Sign(Sign::Tilde)) => read_destructor(alloc, tokens, pos, from + 1, room),
+        Some(TokenKind::Name(name)) => read_named_member(alloc, tokens, pos, name, from + 1, room),
+        _ => read_word_member(alloc, tokens, pos, from, room),
     }
 }

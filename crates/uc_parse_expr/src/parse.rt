@@ -12,11 +12,12 @@ ghost use Rattle.uc_parse_expr.specs.Loops.{parts_form, links_form};
 ghost use Rattle.uc_grammar.specs.Text.{IsExpr, ExprFails};
 ghost use Rattle.uc_parse_expr.specs.Found.{OnlyExpr, NeverExpr, NoExpr, FirstTooDeep};
 
+use crate::behind::{followed, kept};
 use crate::ops::{
     PartStart, assign_at, binary_at, is_binary_at, is_comma_at, is_part_at, part_start_at, tighter,
     unary_at,
 };
-use crate::peek::{expect_sign, is_sign, kind_at, pos_at, read_name};
+use crate::peek::{is_sign, kind_at, pos_at, read_name};
 use std::alloc::Global;
 use uc_grammar::fault::ParseFault;
 use uc_grammar::level::Level;
@@ -97,7 +98,7 @@ fn read_expr_after(
     match assign_at(tokens, from) {
         Some(op) => {
             let sign = pos_at(tokens, from);
-            let (value, to) = read_right(alloc, tokens, from + 1, room)?;
+            let (first, (value, to)) = kept(first, read_right(alloc, tokens, from + 1, room))?;
             let e = Expr::assign(alloc, pos, sign, op, first, value)?;
             Ok((e, to))
         }
@@ -152,7 +153,10 @@ fn read_right_after(
     match assign_at(tokens, from) {
         Some(op) => {
             let sign = pos_at(tokens, from);
-            let (value, to) = read_inner_right(alloc, tokens, from + 1, room)?;
+            let (first, (value, to)) = kept(
+                first,
+                read_inner_right(alloc, tokens, from + 1, room),
+            )?;
             let e = Expr::assign(alloc, pos, sign, op, first, value)?;
             Ok((e, to))
         }
@@ -360,7 +364,7 @@ fn read_chain_after(
     ensures moved { IfOk result (λ r. (from ≤ r.1) × (r.1 ≤ length tokens.now)) }
     ensures within { IfErr result (λ f. token_of f ≤ length tokens.now) }
 {
-    let (rest, to) = read_links(alloc, tokens, level, from, room)?;
+    let (first, (rest, to)) = kept(first, read_links(alloc, tokens, level, from, room))?;
     let e = Expr::chained(alloc, pos, first, rest)?;
     Ok((e, to))
 }
@@ -493,7 +497,7 @@ fn read_postfix_after(
     ensures moved { IfOk result (λ r. (from ≤ r.1) × (r.1 ≤ length tokens.now)) }
     ensures within { IfErr result (λ f. token_of f ≤ length tokens.now) }
 {
-    let (parts, to) = read_parts(alloc, tokens, from, room)?;
+    let (root, (parts, to)) = kept(root, read_parts(alloc, tokens, from, room))?;
     let e = Expr::with_parts(alloc, pos, root, parts)?;
     Ok((e, to))
 }
@@ -554,7 +558,7 @@ fn read_part(
         }
         Some(PartStart::Index) => {
             let (index, at) = read_inner_expr(alloc, tokens, from + 1, room)?;
-            let to = expect_sign(tokens, at, Sign::CloseBracket)?;
+            let (index, to) = followed(index, tokens, at, Sign::CloseBracket)?;
             Ok((
                 Part {
                     sign,
@@ -612,7 +616,7 @@ pub fn read_closed_arguments(
         return Ok((Vec::new(alloc), from + 1));
     }
     let (all, at) = read_arguments(alloc, tokens, from, room)?;
-    let to = expect_sign(tokens, at, close)?;
+    let (all, to) = followed(all, tokens, at, close)?;
     Ok((all, to))
 }
 
@@ -710,7 +714,7 @@ fn read_primary(
         )),
         Some(TokenKind::Sign(Sign::OpenParen)) => {
             let (e, at) = read_inner_expr(alloc, tokens, from + 1, room)?;
-            let to = expect_sign(tokens, at, Sign::CloseParen)?;
+            let (e, to) = followed(e, tokens, at, Sign::CloseParen)?;
             Ok((e, to))
         }
         _ => Err(ParseFault::Syntax { token: from }),

@@ -13,11 +13,12 @@ ghost use Rattle.uc_parse_simple.specs.Parts.{simple_of};
 use crate::peek::{base_at, is_name_at};
 use std::alloc::Global;
 use uc_grammar::fault::ParseFault;
+use uc_parse_expr::behind::{followed, kept};
 use uc_parse_expr::ops::is_comma_at;
 use uc_parse_expr::parse::{
     read_arguments, read_closed_arguments, read_expr, read_expr_from, read_inner_expr,
 };
-use uc_parse_expr::peek::{expect_sign, is_sign, kind_at, pos_at, read_name, sign_at};
+use uc_parse_expr::peek::{is_sign, kind_at, pos_at, read_name, sign_at};
 use uc_tree::declare::{Declarator, ForForm, ForStart, Start, StartForm};
 use uc_tree::expr::{Expr, ExprForm};
 use uc_tree::kinds::Base;
@@ -59,7 +60,7 @@ pub fn read_length(
         return Ok((None, from));
     }
     let (length, at) = read_inner_expr(alloc, tokens, from + 1, room)?;
-    let to = expect_sign(tokens, at, Sign::CloseBracket)?;
+    let (length, to) = followed(length, tokens, at, Sign::CloseBracket)?;
     Ok((Some(length), to))
 }
 
@@ -91,7 +92,7 @@ pub fn read_start(
         }
         Some(Sign::OpenParen) => {
             let (args, at) = read_arguments(alloc, tokens, from + 1, room)?;
-            let to = expect_sign(tokens, at, Sign::CloseParen)?;
+            let (args, to) = followed(args, tokens, at, Sign::CloseParen)?;
 
             Ok((
                 Start {
@@ -143,7 +144,7 @@ pub fn read_declarator(
     let pos = pos_at(tokens, from);
     let (name, at) = read_name(alloc, tokens, from)?;
     let (len, end) = read_length(alloc, tokens, at, room)?;
-    let (start, to) = read_start(alloc, tokens, end, room)?;
+    let (len, (start, to)) = kept(len, read_start(alloc, tokens, end, room))?;
 
     Ok((
         Declarator {
@@ -357,7 +358,7 @@ pub fn read_simple_stmt(
     ensures within { IfErr result (λ f. token_of f ≤ length tokens.now) }
 {
     let (s, at) = read_simple(alloc, tokens, from, room)?;
-    let to = expect_sign(tokens, at, Sign::Semicolon)?;
+    let (s, to) = followed(s, tokens, at, Sign::Semicolon)?;
 
     match s {
         Simple::Declares {
@@ -405,7 +406,7 @@ pub fn read_for_start(
         ));
     }
     let (s, at) = read_simple(alloc, tokens, from, room)?;
-    let to = expect_sign(tokens, at, Sign::Semicolon)?;
+    let (s, to) = followed(s, tokens, at, Sign::Semicolon)?;
 
     match s {
         Simple::Declares {
@@ -452,6 +453,6 @@ pub fn read_maybe_expr(
         return Ok((None, from + 1));
     }
     let (value, at) = read_expr(alloc, tokens, from, room)?;
-    let to = expect_sign(tokens, at, close)?;
+    let (value, to) = followed(value, tokens, at, close)?;
     Ok((Some(value), to))
 }

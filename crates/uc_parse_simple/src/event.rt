@@ -10,6 +10,7 @@ ghost use Rattle.uc_parse_simple.specs.Forms.{one_event_form, member_names_form}
 use crate::peek::{is_less_at, skip_sign};
 use std::alloc::Global;
 use uc_grammar::fault::ParseFault;
+use uc_parse_expr::behind::followed;
 use uc_parse_expr::ops::is_comma_at;
 use uc_parse_expr::parse::{read_closed_arguments, read_expr};
 use uc_parse_expr::peek::{expect_sign, expect_word, is_sign, is_word, pos_at, read_name};
@@ -264,7 +265,7 @@ pub fn read_condition(
 {
     let at = expect_sign(tokens, from, Sign::OpenParen)?;
     let (test, end) = read_expr(alloc, tokens, at, room)?;
-    let to = expect_sign(tokens, end, Sign::CloseParen)?;
+    let (test, to) = followed(test, tokens, end, Sign::CloseParen)?;
     Ok((test, to))
 }
 

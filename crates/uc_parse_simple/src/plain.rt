@@ -13,6 +13,7 @@ use crate::print::{read_cin, read_outs, read_together};
 use std::alloc::Global;
 use uc_grammar::fault::ParseFault;
 use uc_grammar::start::StmtStart;
+use uc_parse_expr::behind::{followed, kept};
 use uc_parse_expr::parse::read_postfix;
 use uc_parse_expr::peek::{expect_sign, is_sign, is_word};
 use uc_tree::declare::Raised;
@@ -75,7 +76,7 @@ fn read_throw(
         ));
     }
     let (raised, at) = read_raised(alloc, tokens, from, room)?;
-    let to = expect_sign(tokens, at, Sign::Semicolon)?;
+    let (raised, to) = followed(raised, tokens, at, Sign::Semicolon)?;
     Ok((
         Stmt {
             pos,
@@ -114,7 +115,7 @@ fn read_raise(
     }
     let (raised, at) = read_raised(alloc, tokens, from, room)?;
     let (s, end) = read_target(alloc, tokens, pos, raised, at, room)?;
-    let to = expect_sign(tokens, end, Sign::Semicolon)?;
+    let (s, to) = followed(s, tokens, end, Sign::Semicolon)?;
     Ok((s, to))
 }
 
@@ -147,7 +148,7 @@ fn read_target(
             from,
         ));
     }
-    let (target, to) = read_postfix(alloc, tokens, from + 1, room)?;
+    let (raised, (target, to)) = kept(raised, read_postfix(alloc, tokens, from + 1, room))?;
     Ok((
         Stmt {
             pos,
@@ -175,7 +176,7 @@ fn read_cluster(
     ensures within { IfErr result (λ f. token_of f ≤ length tokens.now) }
 {
     let (cluster, at) = read_postfix(alloc, tokens, from, room)?;
-    let to = expect_sign(tokens, at, Sign::CloseParen)?;
+    let (cluster, to) = followed(cluster, tokens, at, Sign::CloseParen)?;
     Ok((cluster, to))
 }
 
@@ -198,7 +199,7 @@ fn read_migrate(
 {
     let at = expect_sign(tokens, from, Sign::OpenParen)?;
     let (cluster, end) = read_cluster(alloc, tokens, at, room)?;
-    let to = expect_sign(tokens, end, Sign::Semicolon)?;
+    let (cluster, to) = followed(cluster, tokens, end, Sign::Semicolon)?;
     Ok((
         Stmt {
             pos,
@@ -303,38 +304,17 @@ pub fn read_plain(
     ensures within { IfErr result (λ f. token_of f ≤ length tokens.now) }
 {
     match start {
-        StmtStart::Return => {
-            let (s, to) = read_return(alloc, tokens, pos, from + 1, room)?;
-            Ok((s, to))
-        }
-        StmtStart::Throw => {
-            let (s, to) = read_throw(alloc, tokens, pos, from + 1, room)?;
-            Ok((s, to))
-        }
-        StmtStart::Raise => {
-            let (s, to) = read_raise(alloc, tokens, pos, from + 1, room)?;
-            Ok((s, to))
-        }
+        StmtStart::Return => read_return(alloc, tokens, pos, from + 1, room),
+        StmtStart::Throw => read_throw(alloc, tokens, pos, from + 1, room),
+        StmtStart::Raise => read_raise(alloc, tokens, pos, from + 1, room),
         StmtStart::Print => {
             let (items, to) = read_outs(alloc, tokens, from + 1, room)?;
             let form = StmtForm::Print { items };
             Ok((Stmt { pos, form }, to))
         }
-        StmtStart::PrintTogether => {
-            let (s, to) = read_together(alloc, tokens, pos, from + 1, room)?;
-            Ok((s, to))
-        }
-        StmtStart::Cin => {
-            let (s, to) = read_cin(alloc, tokens, pos, from + 1, room)?;
-            Ok((s, to))
-        }
-        StmtStart::Migrate => {
-            let (s, to) = read_migrate(alloc, tokens, pos, from + 1, room)?;
-            Ok((s, to))
-        }
-        _ => {
-            let (s, to) = read_bare(alloc, tokens, start, pos, from, room)?;
-            Ok((s, to))
-        }
+        StmtStart::PrintTogether => read_together(alloc, tokens, pos, from + 1, room),
+        StmtStart::Cin => read_cin(alloc, tokens, pos, from + 1, room),
+        StmtStart::Migrate => read_migrate(alloc, tokens, pos, from + 1, room),
+        _ => read_bare(alloc, tokens, start, pos, from, room),
     }
 }

@@ -10,6 +10,7 @@ ghost use Rattle.uc_parse_simple.specs.Forms.{out_items_form, places_form};
 use crate::peek::{is_in_at, is_out_at, text_at};
 use std::alloc::Global;
 use uc_grammar::fault::ParseFault;
+use uc_parse_expr::behind::followed;
 use uc_parse_expr::parse::{read_expr_from, read_postfix, read_sum};
 use uc_parse_expr::peek::{expect_sign, expect_word, is_sign, is_word, pos_at};
 use uc_tree::declare::{OutForm, OutItem};
@@ -134,7 +135,7 @@ pub fn read_outs(
     ensures within { IfErr result (λ f. token_of f ≤ length tokens.now) }
 {
     let (items, at) = read_items(alloc, tokens, from, room)?;
-    let to = expect_sign(tokens, at, Sign::Semicolon)?;
+    let (items, to) = followed(items, tokens, at, Sign::Semicolon)?;
     Ok((items, to))
 }
 
@@ -213,8 +214,7 @@ pub fn read_cin(
 {
     if is_sign(tokens, from, Sign::ShiftRight) {
         let (places, at) = read_places(alloc, tokens, from + 1, room)?;
-        let to = expect_sign(tokens, at, Sign::Semicolon)?;
-
+        let (places, to) = followed(places, tokens, at, Sign::Semicolon)?;
         return Ok((
             Stmt {
                 pos,
@@ -228,7 +228,7 @@ pub fn read_cin(
         form: ExprForm::Cin,
     };
     let (value, at) = read_expr_from(alloc, tokens, pos, primary, from, room)?;
-    let to = expect_sign(tokens, at, Sign::Semicolon)?;
+    let (value, to) = followed(value, tokens, at, Sign::Semicolon)?;
     Ok((
         Stmt {
             pos,

@@ -15,6 +15,7 @@ use crate::peek::{handler_at, start_at};
 use std::alloc::Global;
 use uc_grammar::fault::ParseFault;
 use uc_grammar::start::StmtStart;
+use uc_parse_expr::behind::{followed, kept};
 use uc_parse_expr::peek::{expect_sign, expect_word, pos_at};
 use uc_parse_simple::declare::{read_for_start, read_maybe_expr};
 use uc_parse_simple::event::{
@@ -157,8 +158,14 @@ fn read_for_head(
 {
     let open = expect_sign(tokens, from, Sign::OpenParen)?;
     let (start, first) = read_for_start(alloc, tokens, open, room)?;
-    let (test, second) = read_maybe_expr(alloc, tokens, Sign::Semicolon, first, room)?;
-    let (step, at) = read_maybe_expr(alloc, tokens, Sign::CloseParen, second, room)?;
+    let (start, (test, second)) = kept(
+        start,
+        read_maybe_expr(alloc, tokens, Sign::Semicolon, first, room),
+    )?;
+    let ((start, test), (step, at)) = kept(
+        (start, test),
+        read_maybe_expr(alloc, tokens, Sign::CloseParen, second, room),
+    )?;
     Ok((Head::For { start, test, step }, at))
 }
 
@@ -443,7 +450,7 @@ fn read_do_condition(
 {
     let at = expect_word(tokens, from, Word::While)?;
     let (test, end) = read_condition(alloc, tokens, at, room)?;
-    let to = expect_sign(tokens, end, Sign::Semicolon)?;
+    let (test, to) = followed(test, tokens, end, Sign::Semicolon)?;
     Ok((test, to))
 }
 
@@ -465,7 +472,7 @@ fn read_do_test(
     ensures moved { IfOk result (λ r. (from ≤ r.1) × (r.1 ≤ length tokens.now)) }
     ensures within { IfErr result (λ f. token_of f ≤ length tokens.now) }
 {
-    let (test, to) = read_do_condition(alloc, tokens, from, room)?;
+    let (body, (test, to)) = kept(body, read_do_condition(alloc, tokens, from, room))?;
     let s = Stmt::do_of(alloc, pos, body, test)?;
     Ok((s, to))
 }

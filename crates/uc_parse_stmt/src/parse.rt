@@ -23,7 +23,7 @@ use crate::head::{
 use crate::peek::{in_braces_at, is_handler_at, is_maybe_word, is_or_at};
 use std::alloc::Global;
 use uc_grammar::fault::ParseFault;
-use uc_parse_expr::peek::expect_sign;
+use uc_parse_expr::behind::{followed, kept};
 use uc_tree::limits::NESTING;
 use uc_tree::pos::Pos;
 use uc_tree::stmt::{Clause, Handler, Stmt, StmtForm};
@@ -168,7 +168,8 @@ fn read_headed(
     ensures moved { IfOk result (λ r. (from ≤ r.1) × (r.1 ≤ length tokens.now)) }
     ensures within { IfErr result (λ f. token_of f ≤ length tokens.now) }
 {
-    let (bodies, at) = read_bodies(alloc, tokens, else_of(&head), from, room)?;
+    let word = else_of(&head);
+    let (head, (bodies, at)) = kept(head, read_bodies(alloc, tokens, word, from, room))?;
     let (s, to) = read_close(alloc, tokens, pos, head, bodies, at, room)?;
     Ok((s, to))
 }
@@ -192,7 +193,7 @@ fn read_bodies(
     ensures within { IfErr result (λ f. token_of f ≤ length tokens.now) }
 {
     let (body, at) = read_inner_stmt(alloc, tokens, from, room)?;
-    let (other, end) = read_maybe_stmt(alloc, tokens, word, at, room)?;
+    let (body, (other, end)) = kept(body, read_maybe_stmt(alloc, tokens, word, at, room))?;
     Ok((Bodies { body, other }, end))
 }
 
@@ -266,7 +267,7 @@ pub fn read_block_rest(
     ensures within { IfErr result (λ f. token_of f ≤ length tokens.now) }
 {
     let (all, at) = read_stmts(alloc, tokens, from, room)?;
-    let to = expect_sign(tokens, at, Sign::CloseBrace)?;
+    let (all, to) = followed(all, tokens, at, Sign::CloseBrace)?;
     Ok((all, to))
 }
 
@@ -288,13 +289,13 @@ fn read_handlers(
     ensures moved { IfOk result (λ r. (from < r.1) × (r.1 ≤ length tokens.now)) }
     ensures within { IfErr result (λ f. token_of f ≤ length tokens.now) }
 {
-    let (body, end) = read_block_rest(alloc, tokens, from, room)?;
+    let (first, (body, end)) = kept(first, read_block_rest(alloc, tokens, from, room))?;
     let mut all = Vec::new(alloc);
     all.push(handler_of(first, body))?;
     let mut at = end;
     'items: while is_handler_at(tokens, at) {
         let (head, open) = read_handler_head(alloc, tokens, at, room)?;
-        let (body, end) = read_block_rest(alloc, tokens, open, room)?;
+        let (head, (body, end)) = kept(head, read_block_rest(alloc, tokens, open, room))?;
         all.push(handler_of(head, body))?;
         at = end;
     }
@@ -321,8 +322,8 @@ fn read_try(
     ensures within { IfErr result (λ f. token_of f ≤ length tokens.now) }
 {
     let (body, end) = read_block_rest(alloc, tokens, from, room)?;
-    let (first, at) = read_handler_head(alloc, tokens, end, room)?;
-    let (handlers, to) = read_handlers(alloc, tokens, first, at, room)?;
+    let (body, (first, at)) = kept(body, read_handler_head(alloc, tokens, end, room))?;
+    let (body, (handlers, to)) = kept(body, read_handlers(alloc, tokens, first, at, room))?;
     let form = StmtForm::Try {
         brace,
         body,
@@ -349,13 +350,13 @@ fn read_clauses(
     ensures moved { IfOk result (λ r. (from < r.1) × (r.1 ≤ length tokens.now)) }
     ensures within { IfErr result (λ f. token_of f ≤ length tokens.now) }
 {
-    let (body, end) = read_inner_stmt(alloc, tokens, from, room)?;
+    let (first, (body, end)) = kept(first, read_inner_stmt(alloc, tokens, from, room))?;
     let mut all = Vec::new(alloc);
     all.push(clause_of(first, body))?;
     let mut at = end;
     'items: while is_or_at(tokens, at) {
         let (head, open) = read_clause_head(alloc, tokens, at + 1, room)?;
-        let (body, end) = read_inner_stmt(alloc, tokens, open, room)?;
+        let (head, (body, end)) = kept(head, read_inner_stmt(alloc, tokens, open, room))?;
         all.push(clause_of(head, body))?;
         at = end;
     }
@@ -382,7 +383,10 @@ fn read_accept(
     ensures within { IfErr result (λ f. token_of f ≤ length tokens.now) }
 {
     let (clauses, at) = read_clauses(alloc, tokens, first, from, room)?;
-    let (other, to) = read_maybe_stmt(alloc, tokens, Some(Word::AcceptElse), at, room)?;
+    let (clauses, (other, to)) = kept(
+        clauses,
+        read_maybe_stmt(alloc, tokens, Some(Word::AcceptElse), at, room),
+    )?;
     let s = Stmt::accept(alloc, pos, clauses, other)?;
     Ok((s, to))
 }

@@ -14,3 +14,4 @@ pub mod Undoings
 pub mod UndoingSources
 pub mod UndoingWorlds
 pub mod TakenRuns
+pub mod Naming

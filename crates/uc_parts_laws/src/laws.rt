@@ -1,6 +1,7 @@
 // The laws: each is a function whose contract is the law.
 
 ghost use Rattle.uc_parts_laws.specs.Leaving.{LawLeaving};
+ghost use Rattle.uc_parts_laws.specs.Naming.{LawNaming};
 ghost use Rattle.uc_parts_laws.specs.PartsLaws.{LawParts, LawPartsSources};
 ghost use Rattle.uc_parts_laws.specs.PartsRuns.{LawKeptParts, LawPartsRuns};
 ghost use Rattle.uc_parts_laws.specs.UndoingLaws.{LawTaking, LawUndoing};
@@ -45,4 +46,10 @@ pub fn law_undoing()
 /// build is taken over by what stands behind the call.
 pub fn law_taking()
     ensures { LawTaking }
+{}
+
+/// Of those that are still there at the end of a way no coroutine was forgotten on it, where the first cell of each
+/// that is forgotten names its execution.
+pub fn law_naming()
+    ensures { LawNaming }
 {}

@@ -38,6 +38,8 @@ use Rattle.uc_rooted_runs.specs.OutlastRuns.{with_homes, made_behind, ride_made,
 use Rattle.uc_rooted_runs.specs.OutlastNames.{NamesAt, RideNames, SpawnsNew, MayName, RunNames}
 use Rattle.uc_rooted_runs.specs.Upwards.{IsBased}
 use Rattle.uc_rooted_runs.specs.MadeRuns.{IsMade, AllMade}
+use Rattle.uc_rooted_runs.specs.Still.{AreStill}
+use Rattle.uc_life_laws.proofs.Fewer.{both_members, both_env}
 use Rattle.uc_rooted_runs.specs.KeptRuns.{KeepsAt, Keeps, RideKeeps, SpawnsKept, MayKeep, RunKeeps, LawKeptRuns, IsStood}
 use Rattle.uc_rooted_runs.proofs.Binds.{law_binds}
 use Rattle.uc_rooted_runs.proofs.MainRuns.{law_mains}
@@ -132,17 +134,27 @@ module _ (made : Exec → Bool) where
 
   pub in_world : (source : Source) (j : Journal) (x : World) → AllMade made j x → ((v : ℕ) → task_count j ≤ v → x.tasks v ≡ first_state (routine_of source source.main) 0) → (n : Exec) (cs : List Active) → Lives j x n cs → IsMade made n
   in_world source j x all later n cs (inl i) =
-      ⊎_elim (λ lt. subst (IsMade made) (sym i.2) (all.running i.0 lt)) (λ le. inl (i.2 ∙ ap (λ (s : State). s.env.exec) (later i.0 le))) (cases_lt i.0 (task_count j))
+      ⊎_elim (λ lt. subst (IsMade made) (sym i.2) (all.running i.0 lt i.1)) (λ le. inl (i.2 ∙ ap (λ (s : State). s.env.exec) (later i.0 le))) (cases_lt i.0 (task_count j))
   in_world source j x all later n cs (inr (inl (v, inl i))) = in_parked n cs (home.Task (x.tasks v).env.own) (x.tasks v).env.house.parked i (all.tasks v).house
   in_world source j x all later n cs (inr (inl (v, inr i))) = in_hand n cs (x.tasks v).env.hand i (all.tasks v).hand
   in_world source j x all later n cs (inr (inr (q, i))) = in_members n cs (home.Object q) (x.homes q) i (all.homes q)
 
--- so what it has of others is based where it stood
-pub based_of : (t : Table) (few : Few) (makers : Makers) (asked made : Exec → Bool) (yet : Exec → List Active → Value → Ty → Bool) (own : Exec → Value → Ty → Bool) (j : Journal) (x : World) → ((w : Value) (b : Ty) → Base few (main_of 0) w b → own (main_of 0) w b ≡ true) → ((n : Exec) → made n ≡ true → makers.rank (makers.parent n) < makers.rank n) → (n : Exec) → IsMade made n → (w : Value) (b : Ty) → Base few n w b → own n w b ≡ false → IsStood t few makers asked yet j x n w b → IsBased t few makers (now makers asked made) yet j x n w b
-based_of t few makers asked made yet own j x first later n (inl e) w b k f s =
+-- all that are still there are among those
+pub all_still : (still : Exec → Bool) (j : Journal) (x : World) → AreStill still j x → AllMade still j x
+all_still still j x h = record {
+  running = λ u lt e. inr (h.running u lt e);
+  tasks = λ u. both_env (λ n y. still n ≡ true) (λ n y. still n ≡ true) (λ n y. IsMade still n) (λ n y a b. inr a) (x.tasks u).env (h.tasks u) (h.tasks u);
+  homes = λ o. both_members (λ n y. still n ≡ true) (λ n y. still n ≡ true) (λ n y. IsMade still n) (λ n y a b. inr a) (home.Object o) (x.homes o) (h.homes o) (h.homes o);
+}
+
+-- so what it has of others is based where it stood, if it is asked
+pub based_of : (t : Table) (few : Few) (makers : Makers) (asked made : Exec → Bool) (yet : Exec → List Active → Value → Ty → Bool) (own : Exec → Value → Ty → Bool) (j : Journal) (x : World) → ((w : Value) (b : Ty) → Base few (main_of 0) w b → own (main_of 0) w b ≡ true) → ((n : Exec) → made n ≡ true → makers.rank (makers.parent n) < makers.rank n) → (n : Exec) → IsMade made n → IsMade asked n → (w : Value) (b : Ty) → Base few n w b → own n w b ≡ false → IsStood t few makers yet j x n w b → IsBased t few makers (now makers asked made) yet j x n w b
+based_of t few makers asked made yet own j x first later n (inl e) g w b k f s =
     no_both (own n w b) (ap (λ m. own m w b) e ∙ first w b (subst (λ m. Base few m w b) e k)) f
-based_of t few makers asked made yet own j x first later n (inr e) w b k f s = record {
-  asked = ap (λ (c : Bool). if c then made n else false) s.is_asked ∙ e;
+based_of t few makers asked made yet own j x first later n (inr e) (inl g) w b k f s =
+    no_both (own n w b) (ap (λ m. own m w b) g ∙ first w b (subst (λ m. Base few m w b) g k)) f
+based_of t few makers asked made yet own j x first later n (inr e) (inr g) w b k f s = record {
+  asked = ap (λ (c : Bool). if c then made n else false) g ∙ e;
   later = later n e;
   active = s.active;
   lives = s.lives;

@@ -17,3 +17,5 @@ pub mod OutlastNames
 pub mod UnmarkedRuns
 pub mod MadeRuns
 pub mod KeptRuns
+pub mod StillSteps
+pub mod StillRuns

@@ -147,7 +147,7 @@ module _ (source : Source) (serials : Home → ℕ) (made : Exec → Bool) (all 
 
   world_made : AllMade made j w
   world_made = record {
-    running = λ u lt. let z = x.tasks u lt in all (w.tasks u).env.exec z.env_named.exec_below;
+    running = λ u lt e. let z = x.tasks u lt in all (w.tasks u).env.exec z.env_named.exec_below;
     tasks = λ u. ⊎_elim (λ lt. task_made u lt) (λ le. first_env (λ n y. IsMade made n) source (w.tasks u) (later u le)) (cases_lt u (task_count j));
     homes = λ o. home_made o (w.homes o) refl;
   }

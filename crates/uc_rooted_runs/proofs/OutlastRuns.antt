@@ -77,10 +77,10 @@ module _ (source : Source) (seats : Seating) (up other : Exec → Bool) where
   state_fewer : (s : State) → HeldState source seats up s → ((x : Exec) → other x ≡ true → up x ≡ true) → HeldState source seats other s
   state_fewer s h f = record { soon = λ x u p. h.soon x (f x u) p; env = env_fewer s.env f h.env }
 
-  asked_fewer : (form : Form) (s : State) → HeldAsked source seats up form s → ((x : Exec) → other x ≡ true → up x ≡ true) → HeldAsked source seats other form s
+  pub asked_fewer : (form : Form) (s : State) → HeldAsked source seats up form s → ((x : Exec) → other x ≡ true → up x ≡ true) → HeldAsked source seats other form s
   asked_fewer form s h f = record { soon = λ x u p. h.soon x (f x u) p; env = env_fewer s.env f h.env }
 
-  ask_fewer : (r : Request) (s : State) → HeldAsk source seats up r s → ((x : Exec) → other x ≡ true → up x ≡ true) → HeldAsk source seats other r s
+  pub ask_fewer : (r : Request) (s : State) → HeldAsk source seats up r s → ((x : Exec) → other x ≡ true → up x ≡ true) → HeldAsk source seats other r s
   ask_fewer (ask.Fault m) s h f = tt
   ask_fewer r s h f = asked_fewer (form_of_request r) s h f
 
@@ -99,16 +99,16 @@ module _ (source : Source) (seats : Seating) (up other : Exec → Bool) where
       by x u p false e = inr (refl, (f x u e).1)
 
 -- a ride of so many ticks begins, or goes on: without one that is left, it rests
-abbrev Riding : Source → Seating → (Exec → Bool) → ℕ → State → Type 0
+abbrev pub Riding : Source → Seating → (Exec → Bool) → ℕ → State → Type 0
 Riding source seats up zero s = HeldAsked source seats up JustGo s
 Riding source seats up (suc q) s = HeldState source seats up s
 
-riding : (source : Source) (seats : Seating) (up : Exec → Bool) (q : ℕ) (s : State) → HeldAsked source seats up JustGo s → Riding source seats up q s
+pub riding : (source : Source) (seats : Seating) (up : Exec → Bool) (q : ℕ) (s : State) → HeldAsked source seats up JustGo s → Riding source seats up q s
 riding source seats up zero s h = h
 riding source seats up (suc q) s h = law_held.goes_on source seats up s h
 
 -- where no run is over, no fault was asked
-no_fault : (source : Source) (seats : Seating) (up : Exec → Bool) (r : Request) (s : State) → ((m : ℕ) → r ≡ ask.Fault m → ⊥) → HeldAsk source seats up r s → HeldAsked source seats up (form_of_request r) s
+pub no_fault : (source : Source) (seats : Seating) (up : Exec → Bool) (r : Request) (s : State) → ((m : ℕ) → r ≡ ask.Fault m → ⊥) → HeldAsk source seats up r s → HeldAsked source seats up (form_of_request r) s
 no_fault source seats up (ask.Fault m) s f h = absurd (f m refl)
 no_fault source seats up r s f h = h
 

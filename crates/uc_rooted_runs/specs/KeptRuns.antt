@@ -7,7 +7,6 @@ use Rattle.uc_entry.specs.declared.request.Asked.{Asked}
 use Rattle.uc_entry.specs.declared.request.Request.{Request}
 use Rattle.uc_entry.specs.declared.request.Request.TheVariants as ask
 use Rattle.uc_acts.specs.Journal.{Journal, is_over}
-use Rattle.uc_acts.specs.Acts.{act}
 use Rattle.uc_acts.specs.KernelRuns.{InRange}
 use Rattle.uc_machine.specs.declared.exec.Exec.{Exec}
 use Rattle.uc_machine.specs.Pieces.{Value, Todo, SetUpNow, Finish, Active, State, Goes}
@@ -80,9 +79,8 @@ LawKeptRuns =
     OutlastWorld (with_homes homes b.makers) (now (with_homes homes b.makers) asked (run_made source input opts r)) j w
 
 -- what one that lives has of others stood in what the one that made it was to clean up, or had of others, as it made this one, or stands in what that one
--- has now; so it is asked of this one
-pub record IsStood (t : Table) (few : Few) (makers : Makers) (asked : Exec → Bool) (yet : Exec → List Active → Value → Ty → Bool) (j : Journal) (x : World) (n : Exec) (w : Value) (b : Ty) : Type 0 where
-  pub is_asked : asked n ≡ true
+-- has now
+pub record IsStood (t : Table) (few : Few) (makers : Makers) (yet : Exec → List Active → Value → Ty → Bool) (j : Journal) (x : World) (n : Exec) (w : Value) (b : Ty) : Type 0 where
   pub active : List Active
   pub lives : IsThere j x (makers.parent n) active
   pub stood : Stands t few (HadBefore t few makers n) b w ⊎

@@ -13,3 +13,4 @@ pub mod OutlastNames
 pub mod UnmarkedRuns
 pub mod MadeRuns
 pub mod KeptRuns
+pub mod Still

@@ -3,7 +3,7 @@ use Rattle.std.specs.Prelude.{◌≡◌, ℕ, ◌<◌, ◌⊎◌, Bool, true, fa
 use Rattle.uc_tree.specs.Source.{Source}
 use Rattle.uc_entry.specs.declared.entry.Options.{Options}
 use Rattle.uc_acts.specs.Journal.{Journal, is_over}
-use Rattle.uc_acts.specs.Known.{task_count}
+use Rattle.uc_acts.specs.Known.{has_ended, task_count}
 use Rattle.uc_acts.specs.KernelRuns.{InRange}
 use Rattle.uc_machine.specs.declared.exec.Exec.{Exec}
 use Rattle.uc_machine.specs.declared.exec.Home.TheVariants.{Object}
@@ -17,9 +17,9 @@ use Rattle.uc_rooted_runs.specs.OutlastRuns.{run_made}
 abbrev pub IsMade : (Exec → Bool) → Exec → Type 0
 IsMade made n = (n ≡ main_of 0) ⊎ (made n ≡ true)
 
--- so it is of all in a world: what runs in tasks that were spawned, and what does not run
+-- so it is of all in a world: what runs in tasks that were spawned and have not ended, and what does not run
 pub record AllMade (made : Exec → Bool) (j : Journal) (x : World) : Type 0 where
-  pub running : (u : ℕ) → u < task_count j → IsMade made (x.tasks u).env.exec
+  pub running : (u : ℕ) → u < task_count j → has_ended u j ≡ false → IsMade made (x.tasks u).env.exec
   pub tasks : (u : ℕ) → EnvBy (λ n y. IsMade made n) (x.tasks u).env
   pub homes : (o : ℕ) → MembersBy (λ n y. IsMade made n) (Object o) (x.homes o)
 

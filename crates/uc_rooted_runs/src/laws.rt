@@ -10,6 +10,7 @@ ghost use Rattle.uc_rooted_runs.specs.KeptRuns.{LawKeptRuns};
 ghost use Rattle.uc_rooted_runs.specs.MadeRuns.{LawMadeRuns};
 ghost use Rattle.uc_rooted_runs.specs.OutlastNames.{LawOutlastNames};
 ghost use Rattle.uc_rooted_runs.specs.Outlasting.{LawOutlasting};
+ghost use Rattle.uc_rooted_runs.specs.Still.{LawStill};
 ghost use Rattle.uc_rooted_runs.specs.UnmarkedRuns.{LawUnmarkedRuns};
 ghost use Rattle.uc_rooted_runs.specs.Upwards.{LawUpwards};
 
@@ -76,4 +77,9 @@ pub fn law_unmarked_runs()
 /// left before they go, as names tell the rest.
 pub fn law_kept_runs()
     ensures { LawKeptRuns }
+{}
+
+/// All that are there in a run were not forgotten, and are no main of a task that has ended.
+pub fn law_still()
+    ensures { LawStill }
 {}

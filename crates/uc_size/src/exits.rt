@@ -17,31 +17,31 @@ pub fn declared_by(s: &Stmt) -> u64
     ensures small { result ≤ stmt_size s.now }
 {
     match &s.form {
-        StmtForm::Block { .. } => 0,
-        StmtForm::Empty => 0,
-        StmtForm::Evaluate { .. } => 0,
         StmtForm::Declare { declarators, .. } => declarators.len() as u64,
-        StmtForm::If { .. } => 0,
-        StmtForm::While { .. } => 0,
-        StmtForm::Do { .. } => 0,
-        StmtForm::For { .. } => 0,
-        StmtForm::Break => 0,
-        StmtForm::Continue => 0,
-        StmtForm::Return { .. } => 0,
-        StmtForm::Try { .. } => 0,
-        StmtForm::Throw { .. } => 0,
-        StmtForm::Raise { .. } => 0,
-        StmtForm::RaiseAt { .. } => 0,
-        StmtForm::Enable { .. } => 0,
-        StmtForm::Disable { .. } => 0,
-        StmtForm::Accept { .. } => 0,
-        StmtForm::Print { .. } => 0,
-        StmtForm::PrintTogether { .. } => 0,
-        StmtForm::Read { .. } => 0,
-        StmtForm::Resume => 0,
-        StmtForm::Suspend => 0,
-        StmtForm::Yield => 0,
-        StmtForm::Migrate { .. } => 0,
+        StmtForm::Block { .. }
+        | StmtForm::Empty
+        | StmtForm::Evaluate { .. }
+        | StmtForm::If { .. }
+        | StmtForm::While { .. }
+        | StmtForm::Do { .. }
+        | StmtForm::For { .. }
+        | StmtForm::Break
+        | StmtForm::Continue
+        | StmtForm::Return { .. }
+        | StmtForm::Try { .. }
+        | StmtForm::Throw { .. }
+        | StmtForm::Raise { .. }
+        | StmtForm::RaiseAt { .. }
+        | StmtForm::Enable { .. }
+        | StmtForm::Disable { .. }
+        | StmtForm::Accept { .. }
+        | StmtForm::Print { .. }
+        | StmtForm::PrintTogether { .. }
+        | StmtForm::Read { .. }
+        | StmtForm::Resume
+        | StmtForm::Suspend
+        | StmtForm::Yield
+        | StmtForm::Migrate { .. } => 0,
     }
 }
 
@@ -67,36 +67,34 @@ pub fn exits_of_stmt(s: &Stmt, scope: u64) -> u64
 {
     match &s.form {
         StmtForm::Block { body } => exits_of_stmts(body, scope),
-        StmtForm::Empty => 0,
-        StmtForm::Evaluate { .. } => 0,
-        StmtForm::Declare { .. } => 0,
         StmtForm::If { chosen, other, .. } => {
             exits_of_stmt(chosen, scope).saturating_add(exits_of_maybe(other, scope))
         }
         StmtForm::While { body, .. } => exits_of_stmt(body, scope),
         StmtForm::Do { body, .. } => exits_of_stmt(body, scope),
         StmtForm::For { start, body, .. } => exits_of_stmt(body, scope + declared_by_for(start)),
-        StmtForm::Break => scope,
-        StmtForm::Continue => scope,
-        StmtForm::Return { .. } => scope,
         StmtForm::Try { body, handlers, .. } => {
             exits_of_stmts(body, scope).saturating_add(exits_of_handlers(handlers, scope))
         }
-        StmtForm::Throw { .. } => 0,
-        StmtForm::Raise { .. } => 0,
-        StmtForm::RaiseAt { .. } => 0,
         StmtForm::Enable { body, .. } => exits_of_stmt(body, scope + 1),
         StmtForm::Disable { body, .. } => exits_of_stmt(body, scope + 1),
         StmtForm::Accept { clauses, other } => {
             exits_of_clauses(clauses, scope).saturating_add(exits_of_maybe(other, scope))
         }
-        StmtForm::Print { .. } => 0,
-        StmtForm::PrintTogether { .. } => 0,
-        StmtForm::Read { .. } => 0,
-        StmtForm::Resume => 0,
-        StmtForm::Suspend => 0,
-        StmtForm::Yield => 0,
-        StmtForm::Migrate { .. } => 0,
+        StmtForm::Break | StmtForm::Continue | StmtForm::Return { .. } => scope,
+        StmtForm::Empty
+        | StmtForm::Evaluate { .. }
+        | StmtForm::Declare { .. }
+        | StmtForm::Throw { .. }
+        | StmtForm::Raise { .. }
+        | StmtForm::RaiseAt { .. }
+        | StmtForm::Print { .. }
+        | StmtForm::PrintTogether { .. }
+        | StmtForm::Read { .. }
+        | StmtForm::Resume
+        | StmtForm::Suspend
+        | StmtForm::Yield
+        | StmtForm::Migrate { .. } => 0,
     }
 }
 

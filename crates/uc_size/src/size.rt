@@ -25,11 +25,11 @@ pub fn size_of_expr(e: &Expr) -> u64
     ensures { result ≡ capped (expr_size e.now) }
 {
     match &e.form {
-        ExprForm::Number { .. } => 1,
-        ExprForm::Character { .. } => 1,
-        ExprForm::Truth { .. } => 1,
-        ExprForm::Name { .. } => 1,
-        ExprForm::Cin => 1,
+        ExprForm::Number { .. }
+        | ExprForm::Character { .. }
+        | ExprForm::Truth { .. }
+        | ExprForm::Name { .. }
+        | ExprForm::Cin => 1,
         ExprForm::Postfix { root, parts } => node(size_of_expr(root), size_of_parts(parts), 0),
         ExprForm::Unary { operand, .. } => node(size_of_expr(operand), 0, 0),
         ExprForm::Chain { first, rest } => node(size_of_expr(first), size_of_links(rest), 0),
@@ -53,10 +53,9 @@ fn size_of_part(part: &Part) -> u64
     ensures { result ≡ capped (part_size part.now) }
 {
     match &part.form {
-        PartForm::Field { .. } => 1,
         PartForm::Index { index } => node(size_of_expr(index), 0, 0),
         PartForm::Call { args } => node(size_of_exprs(args), 0, 0),
-        PartForm::Step { .. } => 1,
+        PartForm::Field { .. } | PartForm::Step { .. } => 1,
     }
 }
 
@@ -183,7 +182,6 @@ pub fn size_of_stmt(s: &Stmt) -> u64
 {
     match &s.form {
         StmtForm::Block { body } => node(size_of_stmts(body), 0, 0),
-        StmtForm::Empty => 1,
         StmtForm::Evaluate { value } => node(size_of_expr(value), 0, 0),
         StmtForm::Declare { declarators, .. } => node(size_of_declarators(declarators), 0, 0),
         StmtForm::If {
@@ -207,8 +205,6 @@ pub fn size_of_stmt(s: &Stmt) -> u64
             size_of_maybe_expr(test).saturating_add(size_of_maybe_expr(step)),
             size_of_stmt(body),
         ),
-        StmtForm::Break => 1,
-        StmtForm::Continue => 1,
         StmtForm::Return { value } => node(size_of_maybe_expr(value), 0, 0),
         StmtForm::Try { body, handlers, .. } => node(
             size_of_stmts(body),
@@ -232,9 +228,12 @@ pub fn size_of_stmt(s: &Stmt) -> u64
         StmtForm::Print { items } => node(size_of_out_items(items), 0, 0),
         StmtForm::PrintTogether { items } => node(size_of_out_items(items), 0, 0),
         StmtForm::Read { places } => node(size_of_exprs(places), 0, 0),
-        StmtForm::Resume => 1,
-        StmtForm::Suspend => 1,
-        StmtForm::Yield => 1,
+        StmtForm::Empty
+        | StmtForm::Break
+        | StmtForm::Continue
+        | StmtForm::Resume
+        | StmtForm::Suspend
+        | StmtForm::Yield => 1,
         StmtForm::Migrate { cluster } => node(size_of_expr(cluster), 0, 0),
     }
 }

@@ -59,6 +59,50 @@ pub(crate) fn give_back(
     }
 }
 
+// A return of 0 out of a routine, at its end; of the newest operand; or of 0. They stand apart, and are handed no cell, so that none is made
+// where an op is executed.
+#[inline(never)]
+pub(crate) fn fall_off(
+    code: &Code,
+    line: u32,
+    work: &mut Work,
+    stop: &mut Stop,
+    asked: &mut Asked,
+) -> Result<QuietResult, AllocError>
+    ensures ok { IfOk result (λ how. Does code.now line Op.Return work.old
+        (ended how stop.new asked.new) work.new) }
+{
+    give_back(code, line, work, stop, asked, Cell::Number(0))
+}
+
+#[inline(never)]
+pub(crate) fn return_value(
+    code: &Code,
+    line: u32,
+    work: &mut Work,
+    stop: &mut Stop,
+    asked: &mut Asked,
+) -> Result<QuietResult, AllocError>
+    ensures ok { IfOk result (λ how. Does code.now line Op.ReturnValue work.old
+        (ended how stop.new asked.new) work.new) }
+{
+    end(code, line, work.top(), work, stop, asked)
+}
+
+#[inline(never)]
+pub(crate) fn return_none(
+    code: &Code,
+    line: u32,
+    work: &mut Work,
+    stop: &mut Stop,
+    asked: &mut Asked,
+) -> Result<QuietResult, AllocError>
+    ensures ok { IfOk result (λ how. Does code.now line Op.ReturnNone work.old
+        (ended how stop.new asked.new) work.new) }
+{
+    end(code, line, Cell::Number(0), work, stop, asked)
+}
+
 // The main of a task ends, unless it is held up in its own object.
 pub(crate) fn end_task(
     code: &Code,

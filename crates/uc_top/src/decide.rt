@@ -292,10 +292,14 @@ fn do_text<R: Threads + Wait + Sync, G: Gate + Sync>(
     ensures refused { IfErr result (TextRefused text.now) }
 {
     match lex(alloc, text) {
-        Ok(tokens) => match do_tokens(rt, gate, alloc, text, &tokens, input, purpose) {
-            Ok(run) => Ok(run),
-            Err(refusal) => Err(refusal),
-        },
+        Ok(tokens) => {
+            let ran = do_tokens(rt, gate, alloc, text, &tokens, input, purpose);
+            drop(tokens);
+            match ran {
+                Ok(run) => Ok(run),
+                Err(refusal) => Err(refusal),
+            }
+        }
         Err(LexFault::NoMemory) => Err(Refusal::NoMemory),
         Err(LexFault::BadByte { at }) => Err(fault_at(text, LexicalFault::BadByte, at)),
         Err(LexFault::OpenComment { at }) => Err(fault_at(text, LexicalFault::OpenComment, at)),
@@ -334,10 +338,14 @@ fn do_tokens<R: Threads + Wait + Sync, G: Gate + Sync>(
     ensures refused { IfErr result (TokensRefused text.now tokens.now) }
 {
     match parse(alloc, tokens) {
-        Ok(program) => match do_program(rt, gate, alloc, &program, input, purpose) {
-            Ok(run) => Ok(run),
-            Err(refusal) => Err(refusal),
-        },
+        Ok(program) => {
+            let ran = do_program(rt, gate, alloc, &program, input, purpose);
+            drop(program);
+            match ran {
+                Ok(run) => Ok(run),
+                Err(refusal) => Err(refusal),
+            }
+        }
         Err(ParseFault::Syntax { token }) => Err(Refusal::Syntax(place_of(text, tokens, token))),
         Err(ParseFault::TooDeep { token }) => {
             Err(Refusal::TooDeep(place_of(text, tokens, token)))
@@ -374,10 +382,14 @@ fn do_program<R: Threads + Wait + Sync, G: Gate + Sync>(
     ensures refused { IfErr result (ProgramRefused program.now) }
 {
     match check(alloc, program) {
-        Ok(checked) => match run_program(rt, gate, alloc, &checked, input, purpose) {
-            Ok(run) => Ok(run),
-            Err(refusal) => Err(refusal),
-        },
+        Ok(checked) => {
+            let ran = run_program(rt, gate, alloc, &checked, input, purpose);
+            drop(checked);
+            match ran {
+                Ok(run) => Ok(run),
+                Err(refusal) => Err(refusal),
+            }
+        }
         Err(RuleFault::Rule { rule, pos }) => Err(Refusal::Broken(rule, pos)),
         Err(RuleFault::NoMemory) => Err(Refusal::NoMemory),
     }

@@ -80,10 +80,14 @@ pub(crate) fn run_program<R: Threads + Wait + Sync, G: Gate + Sync>(
     ensures refused { IfErr result (ProgramRefused checked.now) }
 {
     match lower(alloc, checked) {
-        Ok(code) => match do_code(rt, gate, alloc, checked, &code, input, purpose) {
-            Ok(run) => Ok(run),
-            Err(_) => Err(Refusal::NoMemory),
-        },
+        Ok(code) => {
+            let ran = do_code(rt, gate, alloc, checked, &code, input, purpose);
+            drop(code);
+            match ran {
+                Ok(run) => Ok(run),
+                Err(_) => Err(Refusal::NoMemory),
+            }
+        }
         Err(LowerFault::FrameTooLarge { .. }) => Err(Refusal::FrameTooLarge),
         Err(LowerFault::CodeTooLarge { .. }) => Err(Refusal::CodeTooLarge),
         Err(LowerFault::NoMemory) => Err(Refusal::NoMemory),
@@ -114,8 +118,7 @@ fn do_code<R: Threads + Wait + Sync, G: Gate + Sync>(
 {
     match purpose {
         Purpose::Run { opts, journal } => {
-            let run = run_code(rt, gate, alloc, checked, code, input, opts, journal)?;
-            Ok(run)
+            run_code(rt, gate, alloc, checked, code, input, opts, journal)
         }
         Purpose::Check => Ok(done_with(alloc, Vec::new(alloc))),
         Purpose::Lower => {
@@ -216,8 +219,7 @@ fn run_main<R: Threads + Wait + Sync, G: Gate + Sync>(
 {
     let mut bytes = Vec::with_capacity(alloc, input.len())?;
     bytes.extend_from_slice(input)?;
-    let journal = run_processors(rt, alloc, code, main, bytes, opts, gate)?;
-    Ok(journal)
+    run_processors(rt, alloc, code, main, bytes, opts, gate)
 }
 
 // What a journal prints, and behind it its text where that is asked for.

@@ -132,8 +132,7 @@ fn put_placed<E: Sink>(err: &mut E, pos: Pos, reason: &[u8]) -> Result<(), SinkF
     let line = line_buffer.format(pos.line).as_bytes();
     let mut col_buffer = Buffer::new();
     let col = col_buffer.format(pos.col).as_bytes();
-    put_pieces(err, &[b"ucpp: ", line, b":", col, b": ", reason, b"\n"])?;
-    Ok(())
+    put_pieces(err, &[b"ucpp: ", line, b":", col, b": ", reason, b"\n"])
 }
 
 /// Puts pieces one after another.

@@ -123,7 +123,7 @@ law_found_texts text p is within input opts j w r range fits found on = record {
     finds = λ n s c l x todo e. typed.finds n s c (reads n s c l) x todo e;
   };
   knows = λ n s c l. all.comes n s c (leads n s c l);
-  scopes = λ n s c l. all.scopes n s c (leads n s c l);
+  lives = λ n s c l. all.lives n s c (leads n s c l);
 }
   where
     well : IsWellTyped p

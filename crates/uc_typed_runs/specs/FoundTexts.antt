@@ -18,7 +18,7 @@ use Rattle.uc_sound.specs.Tables.{table_of}
 use Rattle.uc_sound.specs.WellTyped.{IsTextOf}
 use Rattle.uc_state_laws.specs.Endings.{RunHolds, LeadsHold}
 use Rattle.uc_state_laws.specs.Limits.{IsWithinLimits}
-use Rattle.uc_life_laws.specs.LifeStates.{LifeState}
+use Rattle.uc_life_laws.specs.Lives.{LivesState}
 use Rattle.uc_life_laws.specs.Knowing.{KnowsState}
 use Rattle.uc_life_laws.specs.Opened.{any}
 use Rattle.uc_life_laws.specs.FoundReads.{ObjectsRight, Reads}
@@ -28,7 +28,7 @@ use Rattle.uc_typed_runs.specs.TypedRuns.{IsTyped}
 pub record Founds (t : Table) (s : State) : Type 0 where
   pub objects : (c : CleanUp) (rest : Stmts) (todo : List Todo) →
       s.run.control ≡ Rest (Scoped c rest) ∷ todo → ObjectsRight t c todo s
-  pub reads : KnowsState t any [] s → Reads t any s
+  pub reads : LivesState t any s → Reads t any s
 
 -- but in the four states from which a clean-up comes to the variable that it ends, and reads it
 abbrev pub FoundsOutside : Table → ℕ → State → Type 0
@@ -46,7 +46,7 @@ pub record IsInOrder (t : Table) (source : Source) (j : Journal) (w : World) : T
   pub typed : IsTyped t source (LeadsHold (FoundsOutside t) source 0) j w
   pub knows : (n : ℕ) (s : State) (c : Comes source j w n s) → Led t source j w n s c →
       KnowsState t any [] s
-  pub scopes : (n : ℕ) (s : State) (c : Comes source j w n s) → Led t source j w n s c → LifeState t any s
+  pub lives : (n : ℕ) (s : State) (c : Comes source j w n s) → Led t source j w n s c → LivesState t any s
 
 -- of each program whose text is accepted and which is within its limits, as long as all that was asked so far fits
 abbrev pub LawFoundTexts : Type 0

@@ -44,11 +44,14 @@ pub fn ask_unary(op: UnaryOp, entity: Option<Entity>, at: Pos, found: &mut Found
     ensures breaks { found.new ≡ first_break_after found.old (unary_visit at op entity) }
 {
     match op {
-        UnaryOp::Minus => ask_operand(entity, Entity::Value { sort: Sort::Int }, at, found),
-        UnaryOp::Plus => ask_operand(entity, Entity::Value { sort: Sort::Int }, at, found),
+        UnaryOp::Minus | UnaryOp::Plus => ask_operand(
+            entity,
+            Entity::Value { sort: Sort::Int },
+            at,
+            found,
+        ),
         UnaryOp::Not => ask_operand(entity, Entity::Value { sort: Sort::Bool }, at, found),
-        UnaryOp::Increment => ask_change(entity, at, found),
-        UnaryOp::Decrement => ask_change(entity, at, found),
+        UnaryOp::Increment | UnaryOp::Decrement => ask_change(entity, at, found),
     }
 }
 
@@ -199,14 +202,6 @@ fn by_path(entity: Entity) -> Entity
     ensures { result ≡ by_path entity }
 {
     match entity {
-        Entity::Value { .. } => entity,
-        Entity::Place { .. } => entity,
-        Entity::Array { .. } => entity,
-        Entity::Input => entity,
-        Entity::Fail => entity,
-        Entity::Operation { .. } => entity,
-        Entity::Main => entity,
-        Entity::Routine { .. } => entity,
         Entity::Method {
             class,
             member,
@@ -218,8 +213,16 @@ fn by_path(entity: Entity) -> Entity
             inner,
             by_path: true,
         },
-        Entity::ClassName => entity,
-        Entity::Missing => entity,
+        Entity::Value { .. }
+        | Entity::Place { .. }
+        | Entity::Array { .. }
+        | Entity::Input
+        | Entity::Fail
+        | Entity::Operation { .. }
+        | Entity::Main
+        | Entity::Routine { .. }
+        | Entity::ClassName
+        | Entity::Missing => entity,
     }
 }
 

@@ -124,19 +124,15 @@ pub fn binary_gives(op: BinaryOp) -> Entity
     let truth = Entity::Value { sort: Sort::Bool };
     let number = Entity::Value { sort: Sort::Int };
     match op {
-        BinaryOp::Or => truth,
-        BinaryOp::And => truth,
-        BinaryOp::Equal => truth,
-        BinaryOp::NotEqual => truth,
-        BinaryOp::Less => truth,
-        BinaryOp::LessEqual => truth,
-        BinaryOp::Greater => truth,
-        BinaryOp::GreaterEqual => truth,
-        BinaryOp::Add => number,
-        BinaryOp::Sub => number,
-        BinaryOp::Mul => number,
-        BinaryOp::Div => number,
-        BinaryOp::Rem => number,
+        BinaryOp::Or
+        | BinaryOp::And
+        | BinaryOp::Equal
+        | BinaryOp::NotEqual
+        | BinaryOp::Less
+        | BinaryOp::LessEqual
+        | BinaryOp::Greater
+        | BinaryOp::GreaterEqual => truth,
+        BinaryOp::Add | BinaryOp::Sub | BinaryOp::Mul | BinaryOp::Div | BinaryOp::Rem => number,
     }
 }
 
@@ -215,10 +211,8 @@ fn operation_takes(operation: Operation, count: usize) -> bool
 {
     match operation {
         Operation::Wait => count == 0 || count == 1,
-        Operation::Signal => count == 0,
-        Operation::SignalBlock => count == 0,
-        Operation::Front => count == 0,
-        Operation::Empty => count == 0,
+        Operation::Signal | Operation::SignalBlock => count == 0,
+        Operation::Front | Operation::Empty => count == 0,
     }
 }
 
@@ -226,9 +220,9 @@ fn operation_gives(operation: Operation) -> Entity
     ensures { result ≡ operation_gives operation }
 {
     match operation {
-        Operation::Wait => Entity::Value { sort: Sort::Void },
-        Operation::Signal => Entity::Value { sort: Sort::Void },
-        Operation::SignalBlock => Entity::Value { sort: Sort::Void },
+        Operation::Wait | Operation::Signal | Operation::SignalBlock => Entity::Value {
+            sort: Sort::Void,
+        },
         Operation::Front => Entity::Value { sort: Sort::Int },
         Operation::Empty => Entity::Value { sort: Sort::Bool },
     }
@@ -320,9 +314,8 @@ pub fn takes(tables: &Tables, count: usize, entity: Entity) -> bool
     ensures { result ≡ takes tables.now count entity }
 {
     match entity {
-        Entity::Fail => count == 0,
         Entity::Operation { operation } => operation_takes(operation, count),
-        Entity::Main => count == 0,
+        Entity::Fail | Entity::Main => count == 0,
         Entity::Routine { item } => routine_takes(tables, item, count),
         Entity::Method { class, member, .. } => method_takes(tables, class, member, count),
         _ => false,

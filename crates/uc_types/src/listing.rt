@@ -236,9 +236,9 @@ fn names_in_class<'x>(
         class,
         lengths,
     };
-    let list = members_in(alloc, &listed, &class.members)?;
-    let directory = NameTable::new(alloc, list)?;
-    Ok(directory)
+    let list = members_in(alloc, &listed, &class.members);
+    drop(names);
+    NameTable::new(alloc, list?)
 }
 
 fn names_in_each<'x>(
@@ -262,8 +262,7 @@ pub fn names_in_classes<'x>(
 ) -> Result<Vec<NameTable>, AllocError>
     ensures { IfOk result (λ v. v.items ≡ classes_seen bases.now 0 (classes_of bases.now.items)) }
 {
-    let directories = names_in_each(alloc, bases, bases.classes())?;
-    Ok(directories)
+    names_in_each(alloc, bases, bases.classes())
 }
 
 fn is_here(owner: &Owner) -> bool
@@ -346,6 +345,5 @@ pub fn names_outside(alloc: Global, bases: &Bases) -> Result<NameTable, AllocErr
 {
     let program = bases.program();
     let list = items_in(alloc, bases, &program.items)?;
-    let directory = NameTable::new(alloc, list)?;
-    Ok(directory)
+    NameTable::new(alloc, list)
 }

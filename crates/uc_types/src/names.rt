@@ -187,8 +187,7 @@ impl<'a> Names<'a> {
         ensures { OnOk result (self.new ≡ declared self.old base.now declarator.now) }
     {
         let meant = self.declared_meant(base, declarator);
-        self.push(&declarator.name, meant)?;
-        Ok(())
+        self.push(&declarator.name, meant)
     }
 
     fn param_meant(&self, param: &Param) -> NameMeaning
@@ -212,8 +211,7 @@ impl<'a> Names<'a> {
         ensures { OnOk result (self.new ≡ with_param self.old param.now) }
     {
         let meant = self.param_meant(param);
-        self.push(&param.name, meant)?;
-        Ok(())
+        self.push(&param.name, meant)
     }
 
     fn caught(&self, event: &Option<Name>) -> Option<Entity>
@@ -242,8 +240,7 @@ impl<'a> Names<'a> {
                     entity: self.caught(event),
                     origin: Origin::Local,
                 };
-                self.push(param, meant)?;
-                Ok(())
+                self.push(param, meant)
             }
             None => Ok(()),
         }

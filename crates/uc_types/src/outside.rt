@@ -139,8 +139,7 @@ fn push_owned<'a>(
         ≡ group_named groups.old.items name ++ routine_in name routine.now) }
 {
     match &routine.sig.owner {
-        Owner::Here => Ok(()),
-        Owner::Main => Ok(()),
+        Owner::Here | Owner::Main => Ok(()),
         Owner::Class(owner) => {
             if is_constructor(routine.sig.role) {
                 push(alloc, groups, places, owner, routine)?;
@@ -164,15 +163,15 @@ fn push_item<'a>(
         ≡ group_named groups.old.items name ++ constructor_in name item.now) }
 {
     match &item.form {
-        ItemForm::Class { .. } => Ok(()),
         ItemForm::Routine { routine } => {
             push_owned(alloc, groups, places, routine)?;
             Ok(())
         }
-        ItemForm::Constant { .. } => Ok(()),
-        ItemForm::Proto { .. } => Ok(()),
-        ItemForm::Forward { .. } => Ok(()),
-        ItemForm::Using { .. } => Ok(()),
+        ItemForm::Class { .. }
+        | ItemForm::Constant { .. }
+        | ItemForm::Proto { .. }
+        | ItemForm::Forward { .. }
+        | ItemForm::Using { .. } => Ok(()),
     }
 }
 
@@ -219,8 +218,8 @@ impl<'a> OuterConstructors<'a> {
     pub fn new(alloc: Global, items: &'a [Item]) -> Result<OuterConstructors<'a>, AllocError>
         ensures { IfOk result (λ c. c ≡ items.now) }
     {
-        let mut groups = Vec::new(alloc);
         let mut places = no_places(alloc)?;
+        let mut groups = Vec::new(alloc);
         push_items(alloc, &mut groups, &mut places, items)?;
         Ok(OuterConstructors {
             items,

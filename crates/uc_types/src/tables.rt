@@ -14,7 +14,7 @@ ghost use Rattle.uc_rules.specs.Names.{constructor_among, constructor_form, cons
 ghost use Rattle.uc_rules.specs.Scopes.{event_named, event_sort};
 ghost use Rattle.uc_rules.specs.Sorts.{class_at, class_named, sort_of};
 
-use crate::bases::{Bases, is_given};
+use crate::bases::{Bases, both, is_given};
 use crate::directory::NameTable;
 use crate::listing::{names_in_classes, names_outside, outer};
 use crate::members::{names_at, params_at, params_in_each};
@@ -135,18 +135,25 @@ impl<'a> Tables<'a> {
         ensures { IfOk result (λ t. t ≡ program.now) }
     {
         let bases = Bases::new(alloc, program)?;
-        let members = names_in_classes(alloc, &bases)?;
-        let outer = names_outside(alloc, &bases)?;
-        let params = params_in_each(alloc, bases.classes())?;
-        let constructors = OuterConstructors::new(alloc, &program.items)?;
-        Ok(Tables {
-            bases,
-            members,
-            outer,
-            params,
-            numbered,
-            constructors,
-        })
+        let members = names_in_classes(alloc, &bases);
+        let outer = names_outside(alloc, &bases);
+        let params = params_in_each(alloc, bases.classes());
+        let constructors = OuterConstructors::new(alloc, &program.items);
+        match both(both(members, outer), both(params, constructors)) {
+            Ok(((members, outer), (params, constructors))) => Ok(Tables {
+                bases,
+                members,
+                outer,
+                params,
+                numbered,
+                constructors,
+            }),
+            Err(fault) => {
+                drop(bases);
+                drop(numbered);
+                Err(fault)
+            }
+        }
     }
 
     /// The program.

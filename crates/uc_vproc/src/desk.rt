@@ -191,16 +191,18 @@ impl Desk {
     {
         let Desk {
             kernel,
-            notes: _,
-            registry: _,
-            code: _,
-            main: _,
+            notes,
+            registry,
+            ..
         } = self;
-        if kernel.abandoned() {
-            return Err(AllocError);
-        }
-        if kernel.ending().is_some() {
-            Ok(kernel.into_journal())
+        // By name, or the proof of each way out goes through both.
+        drop(notes);
+        drop(registry);
+        let abandoned = kernel.abandoned();
+        let over = kernel.ending().is_some();
+        let journal = kernel.into_journal();
+        if over && !abandoned {
+            Ok(journal)
         } else {
             Err(AllocError)
         }

@@ -1,4 +1,5 @@
 use Rattle.std.proofs.Common.{◌≡◌, ◌+◌, ◌-◌, ℕ, List, ◌∷◌, Bor, None, length, subst, ap, sym, refl, rules, arith, ◌∙◌}
+use Rattle.std.proofs.lemmas.Result.{on_ok_weaker}
 use Rattle.uc_tree.specs.Expressions as tree
 use Rattle.uc_tree.specs.Cells.{declared_cells, maybe_cells, stmt_cells}
 use Rattle.uc_tree.specs.Scopes.{alone_scopes, maybe_scopes, stmt_scopes}
@@ -120,8 +121,8 @@ stmt::lower_stmt-put_yield-requires t c =
     let size = ap (λ s. size_at s (objects_in c.args.out.now.marks)) is in
     omega (arith, size, c.requires.room)
 
-pub stmt::lower_stmt-returns-in_ok-put_yield-in-Yield : goal.stmt::lower_stmt-returns-in_ok-put_yield-in-Yield
-stmt::lower_stmt-returns-in_ok-put_yield-in-Yield t c = arm_yield c.args.names.now c.args.s.now c.s.inside.pos _ _ (stmt_is _ _ _ _ c.in-Yield.is c.s.view_is) c.in_ok-put_yield-in-Yield.ensures
+pub stmt::lower_stmt-returns-in-Yield : goal.stmt::lower_stmt-returns-in-Yield
+stmt::lower_stmt-returns-in-Yield t c = on_ok_weaker c.put_yield.result (arm_yield c.args.names.now c.args.s.now c.s.inside.pos _ _ (stmt_is _ _ _ _ c.in-Yield.is c.s.view_is)) c.put_yield.ensures
 
 pub stmt::lower_stmt-lower_try-requires : goal.stmt::lower_stmt-lower_try-requires
 stmt::lower_stmt-lower_try-requires t c =
@@ -129,9 +130,9 @@ stmt::lower_stmt-lower_try-requires t c =
     let less = asks.less in
     (omega (arith, less), (c.requires.inside, (asks.room, (asks.cells, (asks.scopes, asks.texts)))))
 
-pub stmt::lower_stmt-returns-in_ok-lower_try-in-Try : goal.stmt::lower_stmt-returns-in_ok-lower_try-in-Try
-stmt::lower_stmt-returns-in_ok-lower_try-in-Try t c =
-    arm_tried c.args.names.now c.args.s.now c.s.inside.pos c.in-Try.brace c.deref-in-Try.result.now _ c.deref-in-Try-2.result.now _ _ _ (stmt_is _ _ _ _ c.in-Try.is c.s.view_is) c.deref-in-Try.ensures.value c.deref-in-Try-2.ensures.value c.in_ok-lower_try-in-Try.ensures
+pub stmt::lower_stmt-returns-in-Try : goal.stmt::lower_stmt-returns-in-Try
+stmt::lower_stmt-returns-in-Try t c =
+    on_ok_weaker c.lower_try.result (arm_tried c.args.names.now c.args.s.now c.s.inside.pos c.in-Try.brace c.deref-in-Try.result.now _ c.deref-in-Try-2.result.now _ c.args.out.now c.lower_try.new.out (stmt_is _ _ _ _ c.in-Try.is c.s.view_is) c.deref-in-Try.ensures.value c.deref-in-Try-2.ensures.value) c.lower_try.ensures
 
 pub stmt::lower_stmt-lower_throw-requires : goal.stmt::lower_stmt-lower_throw-requires
 stmt::lower_stmt-lower_throw-requires t c =
@@ -139,8 +140,8 @@ stmt::lower_stmt-lower_throw-requires t c =
     let size = ap (λ s. size_at s (objects_in c.args.out.now.marks)) is in
     omega (arith, size, c.requires.room)
 
-pub stmt::lower_stmt-returns-in_ok-lower_throw-in-Throw : goal.stmt::lower_stmt-returns-in_ok-lower_throw-in-Throw
-stmt::lower_stmt-returns-in_ok-lower_throw-in-Throw t c = arm_thrown c.args.names.now c.args.s.now c.s.inside.pos c.in-Throw.raised _ _ (stmt_is _ _ _ _ c.in-Throw.is c.s.view_is) c.in_ok-lower_throw-in-Throw.ensures
+pub stmt::lower_stmt-returns-in-Throw : goal.stmt::lower_stmt-returns-in-Throw
+stmt::lower_stmt-returns-in-Throw t c = on_ok_weaker c.lower_throw.result (arm_thrown c.args.names.now c.args.s.now c.s.inside.pos c.in-Throw.raised _ _ (stmt_is _ _ _ _ c.in-Throw.is c.s.view_is)) c.lower_throw.ensures
 
 pub stmt::lower_stmt-lower_raise-requires : goal.stmt::lower_stmt-lower_raise-requires
 stmt::lower_stmt-lower_raise-requires t c =
@@ -148,8 +149,8 @@ stmt::lower_stmt-lower_raise-requires t c =
     let size = ap (λ s. size_at s (objects_in c.args.out.now.marks)) is in
     omega (arith, size, c.requires.room)
 
-pub stmt::lower_stmt-returns-in_ok-lower_raise-in-Raise : goal.stmt::lower_stmt-returns-in_ok-lower_raise-in-Raise
-stmt::lower_stmt-returns-in_ok-lower_raise-in-Raise t c = arm_resumed c.args.names.now c.args.s.now c.s.inside.pos c.in-Raise.raised _ _ (stmt_is _ _ _ _ c.in-Raise.is c.s.view_is) c.in_ok-lower_raise-in-Raise.ensures
+pub stmt::lower_stmt-returns-in-Raise : goal.stmt::lower_stmt-returns-in-Raise
+stmt::lower_stmt-returns-in-Raise t c = on_ok_weaker c.lower_raise.result (arm_resumed c.args.names.now c.args.s.now c.s.inside.pos c.in-Raise.raised _ _ (stmt_is _ _ _ _ c.in-Raise.is c.s.view_is)) c.lower_raise.ensures
 
 pub stmt::lower_stmt-lower_raise_at-requires : goal.stmt::lower_stmt-lower_raise_at-requires
 stmt::lower_stmt-lower_raise_at-requires t c =
@@ -157,8 +158,8 @@ stmt::lower_stmt-lower_raise_at-requires t c =
     let size = ap (λ s. size_at s (objects_in c.args.out.now.marks)) is in
     omega (arith, size, c.requires.room)
 
-pub stmt::lower_stmt-returns-in_ok-lower_raise_at-in-RaiseAt : goal.stmt::lower_stmt-returns-in_ok-lower_raise_at-in-RaiseAt
-stmt::lower_stmt-returns-in_ok-lower_raise_at-in-RaiseAt t c = arm_raised_at c.args.names.now c.args.s.now c.s.inside.pos c.in-RaiseAt.raised c.in-RaiseAt.target _ _ (stmt_is _ _ _ _ c.in-RaiseAt.is c.s.view_is) c.in_ok-lower_raise_at-in-RaiseAt.ensures
+pub stmt::lower_stmt-returns-in-RaiseAt : goal.stmt::lower_stmt-returns-in-RaiseAt
+stmt::lower_stmt-returns-in-RaiseAt t c = on_ok_weaker c.lower_raise_at.result (arm_raised_at c.args.names.now c.args.s.now c.s.inside.pos c.in-RaiseAt.raised c.in-RaiseAt.target _ _ (stmt_is _ _ _ _ c.in-RaiseAt.is c.s.view_is)) c.lower_raise_at.ensures
 
 pub stmt::lower_stmt-lower_enabling-requires : goal.stmt::lower_stmt-lower_enabling-requires
 stmt::lower_stmt-lower_enabling-requires t c =
@@ -166,9 +167,9 @@ stmt::lower_stmt-lower_enabling-requires t c =
     let less = asks.less in
     (omega (arith, less), (c.requires.inside, (asks.room, (asks.cells, (asks.scopes, asks.texts)))))
 
-pub stmt::lower_stmt-returns-in_ok-lower_enabling-in-Enable : goal.stmt::lower_stmt-returns-in_ok-lower_enabling-in-Enable
-stmt::lower_stmt-returns-in_ok-lower_enabling-in-Enable t c =
-    arm_enable c.args.names.now c.args.s.now c.s.inside.pos _ c.deref-in-Enable.result.now c.in-Enable.events.items _ _ _ _ (stmt_is _ _ _ _ c.in-Enable.is c.s.view_is) c.deref-in-Enable.ensures.value c.deref-in-Enable-2.ensures refl c.in_ok-lower_enabling-in-Enable.ensures
+pub stmt::lower_stmt-returns-in-Enable : goal.stmt::lower_stmt-returns-in-Enable
+stmt::lower_stmt-returns-in-Enable t c =
+    on_ok_weaker c.lower_enabling.result (arm_enable c.args.names.now c.args.s.now c.s.inside.pos _ c.deref-in-Enable.result.now c.in-Enable.events.items _ _ c.args.out.now c.lower_enabling.new.out (stmt_is _ _ _ _ c.in-Enable.is c.s.view_is) c.deref-in-Enable.ensures.value c.deref-in-Enable-2.ensures refl) c.lower_enabling.ensures
 
 pub stmt::lower_stmt-lower_enabling-requires-in-Disable : goal.stmt::lower_stmt-lower_enabling-requires-in-Disable
 stmt::lower_stmt-lower_enabling-requires-in-Disable t c =
@@ -176,9 +177,9 @@ stmt::lower_stmt-lower_enabling-requires-in-Disable t c =
     let less = asks.less in
     (omega (arith, less), (c.requires.inside, (asks.room, (asks.cells, (asks.scopes, asks.texts)))))
 
-pub stmt::lower_stmt-returns-in_ok-lower_enabling-in-Disable : goal.stmt::lower_stmt-returns-in_ok-lower_enabling-in-Disable
-stmt::lower_stmt-returns-in_ok-lower_enabling-in-Disable t c =
-    arm_disable c.args.names.now c.args.s.now c.s.inside.pos _ c.deref-in-Disable.result.now c.in-Disable.events.items _ _ _ _ (stmt_is _ _ _ _ c.in-Disable.is c.s.view_is) c.deref-in-Disable.ensures.value c.deref-in-Disable-2.ensures refl c.in_ok-lower_enabling-in-Disable.ensures
+pub stmt::lower_stmt-returns-in-Disable : goal.stmt::lower_stmt-returns-in-Disable
+stmt::lower_stmt-returns-in-Disable t c =
+    on_ok_weaker c.lower_enabling-in-Disable.result (arm_disable c.args.names.now c.args.s.now c.s.inside.pos _ c.deref-in-Disable.result.now c.in-Disable.events.items _ _ c.args.out.now c.lower_enabling-in-Disable.new.out (stmt_is _ _ _ _ c.in-Disable.is c.s.view_is) c.deref-in-Disable.ensures.value c.deref-in-Disable-2.ensures refl) c.lower_enabling-in-Disable.ensures
 
 pub stmt::lower_stmt-put_switch-requires : goal.stmt::lower_stmt-put_switch-requires
 stmt::lower_stmt-put_switch-requires t c =
@@ -186,8 +187,8 @@ stmt::lower_stmt-put_switch-requires t c =
     let size = ap (λ s. size_at s (objects_in c.args.out.now.marks)) is in
     omega (arith, size, c.requires.room)
 
-pub stmt::lower_stmt-returns-in_ok-put_switch-in-Resume : goal.stmt::lower_stmt-returns-in_ok-put_switch-in-Resume
-stmt::lower_stmt-returns-in_ok-put_switch-in-Resume t c = arm_resume c.args.names.now c.args.s.now c.s.inside.pos _ _ (stmt_is _ _ _ _ c.in-Resume.is c.s.view_is) c.in_ok-put_switch-in-Resume.ensures
+pub stmt::lower_stmt-returns-in-Resume : goal.stmt::lower_stmt-returns-in-Resume
+stmt::lower_stmt-returns-in-Resume t c = on_ok_weaker c.put_switch.result (arm_resume c.args.names.now c.args.s.now c.s.inside.pos _ _ (stmt_is _ _ _ _ c.in-Resume.is c.s.view_is)) c.put_switch.ensures
 
 pub stmt::lower_stmt-put_switch-requires-in-Suspend : goal.stmt::lower_stmt-put_switch-requires-in-Suspend
 stmt::lower_stmt-put_switch-requires-in-Suspend t c =
@@ -195,54 +196,54 @@ stmt::lower_stmt-put_switch-requires-in-Suspend t c =
     let size = ap (λ s. size_at s (objects_in c.args.out.now.marks)) is in
     omega (arith, size, c.requires.room)
 
-pub stmt::lower_stmt-returns-in_ok-put_switch-in-Suspend : goal.stmt::lower_stmt-returns-in_ok-put_switch-in-Suspend
-stmt::lower_stmt-returns-in_ok-put_switch-in-Suspend t c = arm_suspend c.args.names.now c.args.s.now c.s.inside.pos _ _ (stmt_is _ _ _ _ c.in-Suspend.is c.s.view_is) c.in_ok-put_switch-in-Suspend.ensures
+pub stmt::lower_stmt-returns-in-Suspend : goal.stmt::lower_stmt-returns-in-Suspend
+stmt::lower_stmt-returns-in-Suspend t c = on_ok_weaker c.put_switch-in-Suspend.result (arm_suspend c.args.names.now c.args.s.now c.s.inside.pos _ _ (stmt_is _ _ _ _ c.in-Suspend.is c.s.view_is)) c.put_switch-in-Suspend.ensures
 
-pub stmt::lower_stmt-returns-in_ok-put-in-Migrate : goal.stmt::lower_stmt-returns-in_ok-put-in-Migrate
-stmt::lower_stmt-returns-in_ok-put-in-Migrate t c = arm_migrate c.args.names.now c.args.s.now c.s.inside.pos c.in-Migrate.cluster _ _ _ (stmt_is _ _ _ _ c.in-Migrate.is c.s.view_is) c.in_ok-_told-in-Migrate.ensures.code c.in_ok-put-in-Migrate.ensures
+pub stmt::lower_stmt-returns-in_ok-_told-in-Migrate : goal.stmt::lower_stmt-returns-in_ok-_told-in-Migrate
+stmt::lower_stmt-returns-in_ok-_told-in-Migrate t c = on_ok_weaker c.put-in-Migrate.result (arm_migrate c.args.names.now c.args.s.now c.s.inside.pos c.in-Migrate.cluster _ _ _ (stmt_is _ _ _ _ c.in-Migrate.is c.s.view_is) c.in_ok-_told-in-Migrate.ensures.code) c.put-in-Migrate.ensures
 
-pub stmt::lower_stmt-returns-in_ok-put-in-Evaluate : goal.stmt::lower_stmt-returns-in_ok-put-in-Evaluate
-stmt::lower_stmt-returns-in_ok-put-in-Evaluate t c = arm_evaluate c.args.names.now c.args.s.now c.s.inside.pos c.in-Evaluate.value _ _ _ (stmt_is _ _ _ _ c.in-Evaluate.is c.s.view_is) c.in_ok-_told-in-Evaluate.ensures.code c.in_ok-put-in-Evaluate.ensures
+pub stmt::lower_stmt-returns-in_ok-_told-in-Evaluate : goal.stmt::lower_stmt-returns-in_ok-_told-in-Evaluate
+stmt::lower_stmt-returns-in_ok-_told-in-Evaluate t c = on_ok_weaker c.put.result (arm_evaluate c.args.names.now c.args.s.now c.s.inside.pos c.in-Evaluate.value _ _ _ (stmt_is _ _ _ _ c.in-Evaluate.is c.s.view_is) c.in_ok-_told-in-Evaluate.ensures.code) c.put.ensures
 
-pub stmt::lower_stmt-returns-in_ok-lower_declaration-in-Declare : goal.stmt::lower_stmt-returns-in_ok-lower_declaration-in-Declare
-stmt::lower_stmt-returns-in_ok-lower_declaration-in-Declare t c = arm_declare c.args.names.now c.args.s.now c.s.inside.pos c.in-Declare.base c.deref-in-Declare.result.now c.in-Declare.declarators.items _ _ (stmt_is _ _ _ _ c.in-Declare.is c.s.view_is) c.deref-in-Declare.ensures.value c.in_ok-lower_declaration-in-Declare.ensures
+pub stmt::lower_stmt-returns-in-Declare : goal.stmt::lower_stmt-returns-in-Declare
+stmt::lower_stmt-returns-in-Declare t c = on_ok_weaker c.lower_declaration.result (arm_declare c.args.names.now c.args.s.now c.s.inside.pos c.in-Declare.base c.deref-in-Declare.result.now c.in-Declare.declarators.items c.args.out.now c.lower_declaration.new.out (stmt_is _ _ _ _ c.in-Declare.is c.s.view_is) c.deref-in-Declare.ensures.value) c.lower_declaration.ensures
 
-pub stmt::lower_stmt-returns-in_ok-lower_items-in-Print : goal.stmt::lower_stmt-returns-in_ok-lower_items-in-Print
-stmt::lower_stmt-returns-in_ok-lower_items-in-Print t c = arm_print c.args.names.now c.args.s.now c.s.inside.pos c.deref-in-Print.result.now c.in-Print.items.items _ _ (stmt_is _ _ _ _ c.in-Print.is c.s.view_is) c.deref-in-Print.ensures.value c.in_ok-lower_items-in-Print.ensures
+pub stmt::lower_stmt-returns-in-Print : goal.stmt::lower_stmt-returns-in-Print
+stmt::lower_stmt-returns-in-Print t c = on_ok_weaker c.lower_items.result (arm_print c.args.names.now c.args.s.now c.s.inside.pos c.deref-in-Print.result.now c.in-Print.items.items _ _ (stmt_is _ _ _ _ c.in-Print.is c.s.view_is) c.deref-in-Print.ensures.value) c.lower_items.ensures
 
-pub stmt::lower_stmt-returns-in_ok-lower_together-in-PrintTogether : goal.stmt::lower_stmt-returns-in_ok-lower_together-in-PrintTogether
-stmt::lower_stmt-returns-in_ok-lower_together-in-PrintTogether t c = arm_print_together c.args.names.now c.args.s.now c.s.inside.pos c.deref-in-PrintTogether.result.now c.in-PrintTogether.items.items _ _ (stmt_is _ _ _ _ c.in-PrintTogether.is c.s.view_is) c.deref-in-PrintTogether.ensures.value c.in_ok-lower_together-in-PrintTogether.ensures
+pub stmt::lower_stmt-returns-in-PrintTogether : goal.stmt::lower_stmt-returns-in-PrintTogether
+stmt::lower_stmt-returns-in-PrintTogether t c = on_ok_weaker c.lower_together.result (arm_print_together c.args.names.now c.args.s.now c.s.inside.pos c.deref-in-PrintTogether.result.now c.in-PrintTogether.items.items _ _ (stmt_is _ _ _ _ c.in-PrintTogether.is c.s.view_is) c.deref-in-PrintTogether.ensures.value) c.lower_together.ensures
 
-pub stmt::lower_stmt-returns-in_ok-lower_targets-in-Read : goal.stmt::lower_stmt-returns-in_ok-lower_targets-in-Read
-stmt::lower_stmt-returns-in_ok-lower_targets-in-Read t c = arm_read c.args.names.now c.args.s.now c.s.inside.pos c.deref-in-Read.result.now c.in-Read.places.items _ _ (stmt_is _ _ _ _ c.in-Read.is c.s.view_is) c.deref-in-Read.ensures.value c.in_ok-lower_targets-in-Read.ensures
+pub stmt::lower_stmt-returns-in-Read : goal.stmt::lower_stmt-returns-in-Read
+stmt::lower_stmt-returns-in-Read t c = on_ok_weaker c.lower_targets.result (arm_read c.args.names.now c.args.s.now c.s.inside.pos c.deref-in-Read.result.now c.in-Read.places.items _ _ (stmt_is _ _ _ _ c.in-Read.is c.s.view_is) c.deref-in-Read.ensures.value) c.lower_targets.ensures
 
 pub stmt::lower_stmt-returns-in_ok-lower_stmts-in-Block : goal.stmt::lower_stmt-returns-in_ok-lower_stmts-in-Block
 stmt::lower_stmt-returns-in_ok-lower_stmts-in-Block t c = arm_block c.args.names.now c.args.s.now c.s.inside.pos c.deref.result.now c.in-Block.body.items _ _ _ _ _ (stmt_is _ _ _ _ c.in-Block.is c.s.view_is) c.deref.ensures.value c.open_scope-outside.ensures.outside c.open_scope-outside.ensures.opened c.in_ok-lower_stmts-in-Block.ensures c.leave_scope.ensures
 
-pub stmt::lower_stmt-returns-in_ok-lower_if-in-If : goal.stmt::lower_stmt-returns-in_ok-lower_if-in-If
-stmt::lower_stmt-returns-in_ok-lower_if-in-If t c = arm_if c.args.names.now c.args.s.now c.s.inside.pos c.in-If.test _ _ _ _ _ (stmt_is _ _ _ _ c.in-If.is c.s.view_is) c.deref-in-If.ensures c.in_ok-lower_if-in-If.ensures
+pub stmt::lower_stmt-returns-in-If : goal.stmt::lower_stmt-returns-in-If
+stmt::lower_stmt-returns-in-If t c = on_ok_weaker c.lower_if.result (arm_if c.args.names.now c.args.s.now c.s.inside.pos c.in-If.test _ _ _ c.args.out.now c.lower_if.new.out (stmt_is _ _ _ _ c.in-If.is c.s.view_is) c.deref-in-If.ensures) c.lower_if.ensures
 
-pub stmt::lower_stmt-returns-in_ok-lower_loop-in-While : goal.stmt::lower_stmt-returns-in_ok-lower_loop-in-While
-stmt::lower_stmt-returns-in_ok-lower_loop-in-While t c =
+pub stmt::lower_stmt-returns-in-While : goal.stmt::lower_stmt-returns-in-While
+stmt::lower_stmt-returns-in-While t c =
     let test : Bor tree.Expr = record { ref_ptr = (0, 0); now = c.in-While.test } in
-    arm_while c.args.names.now c.args.s.now c.s.inside.pos test _ _ _ _ _ (stmt_is _ _ _ _ c.in-While.is c.s.view_is) c.deref-in-While.ensures refl c.in_ok-lower_loop-in-While.ensures
+    on_ok_weaker c.lower_loop.result (arm_while c.args.names.now c.args.s.now c.s.inside.pos test _ _ _ c.args.out.now c.lower_loop.new.out (stmt_is _ _ _ _ c.in-While.is c.s.view_is) c.deref-in-While.ensures refl) c.lower_loop.ensures
 
-pub stmt::lower_stmt-returns-in_ok-lower_loop-in-Do : goal.stmt::lower_stmt-returns-in_ok-lower_loop-in-Do
-stmt::lower_stmt-returns-in_ok-lower_loop-in-Do t c =
+pub stmt::lower_stmt-returns-in-Do : goal.stmt::lower_stmt-returns-in-Do
+stmt::lower_stmt-returns-in-Do t c =
     let test : Bor tree.Expr = record { ref_ptr = (0, 0); now = c.in-Do.test } in
-    arm_do c.args.names.now c.args.s.now c.s.inside.pos test _ _ _ _ _ (stmt_is _ _ _ _ c.in-Do.is c.s.view_is) c.deref-in-Do.ensures refl c.in_ok-lower_loop-in-Do.ensures
+    on_ok_weaker c.lower_loop-in-Do.result (arm_do c.args.names.now c.args.s.now c.s.inside.pos test _ _ _ c.args.out.now c.lower_loop-in-Do.new.out (stmt_is _ _ _ _ c.in-Do.is c.s.view_is) c.deref-in-Do.ensures refl) c.lower_loop-in-Do.ensures
 
-pub stmt::lower_stmt-returns-in_ok-lower_for-in-For : goal.stmt::lower_stmt-returns-in_ok-lower_for-in-For
-stmt::lower_stmt-returns-in_ok-lower_for-in-For t c = arm_for_stmt c.args.names.now c.args.s.now c.s.inside.pos c.in-For.start c.in-For.test c.in-For.step _ _ _ _ (stmt_is _ _ _ _ c.in-For.is c.s.view_is) c.deref-in-For.ensures c.in_ok-lower_for-in-For.ensures
+pub stmt::lower_stmt-returns-in-For : goal.stmt::lower_stmt-returns-in-For
+stmt::lower_stmt-returns-in-For t c = on_ok_weaker c.lower_for.result (arm_for_stmt c.args.names.now c.args.s.now c.s.inside.pos c.in-For.start c.in-For.test c.in-For.step _ _ c.args.out.now c.lower_for.new.out (stmt_is _ _ _ _ c.in-For.is c.s.view_is) c.deref-in-For.ensures) c.lower_for.ensures
 
-pub stmt::lower_stmt-returns-in_ok-put_exit-in-Break : goal.stmt::lower_stmt-returns-in_ok-put_exit-in-Break
-stmt::lower_stmt-returns-in_ok-put_exit-in-Break t c = arm_break c.args.names.now c.args.s.now c.s.inside.pos _ _ (stmt_is _ _ _ _ c.in-Break.is c.s.view_is) c.in_ok-put_exit-in-Break.ensures
+pub stmt::lower_stmt-returns-in-Break : goal.stmt::lower_stmt-returns-in-Break
+stmt::lower_stmt-returns-in-Break t c = on_ok_weaker c.put_exit.result (arm_break c.args.names.now c.args.s.now c.s.inside.pos c.args.out.now c.put_exit.new.out (stmt_is _ _ _ _ c.in-Break.is c.s.view_is)) c.put_exit.ensures
 
-pub stmt::lower_stmt-returns-in_ok-put_exit-in-Continue : goal.stmt::lower_stmt-returns-in_ok-put_exit-in-Continue
-stmt::lower_stmt-returns-in_ok-put_exit-in-Continue t c = arm_continue c.args.names.now c.args.s.now c.s.inside.pos _ _ (stmt_is _ _ _ _ c.in-Continue.is c.s.view_is) c.in_ok-put_exit-in-Continue.ensures
+pub stmt::lower_stmt-returns-in-Continue : goal.stmt::lower_stmt-returns-in-Continue
+stmt::lower_stmt-returns-in-Continue t c = on_ok_weaker c.put_exit-in-Continue.result (arm_continue c.args.names.now c.args.s.now c.s.inside.pos c.args.out.now c.put_exit-in-Continue.new.out (stmt_is _ _ _ _ c.in-Continue.is c.s.view_is)) c.put_exit-in-Continue.ensures
 
-pub stmt::lower_stmt-returns-in_ok-lower_return-in-Return : goal.stmt::lower_stmt-returns-in_ok-lower_return-in-Return
-stmt::lower_stmt-returns-in_ok-lower_return-in-Return t c = arm_return c.args.names.now c.args.s.now c.s.inside.pos c.in-Return.value _ _ (stmt_is _ _ _ _ c.in-Return.is c.s.view_is) c.in_ok-lower_return-in-Return.ensures
+pub stmt::lower_stmt-returns-in-Return : goal.stmt::lower_stmt-returns-in-Return
+stmt::lower_stmt-returns-in-Return t c = on_ok_weaker c.lower_return.result (arm_return c.args.names.now c.args.s.now c.s.inside.pos c.in-Return.value c.args.out.now c.lower_return.new.out (stmt_is _ _ _ _ c.in-Return.is c.s.view_is)) c.lower_return.ensures
 
 pub stmt::lower_if-lower_alone-requires : goal.stmt::lower_if-lower_alone-requires
 stmt::lower_if-lower_alone-requires t c =
@@ -516,9 +517,9 @@ stmt::lower_stmt-lower_accept-requires t c =
     let less = asks.less in
     (omega (arith, less), (c.requires.inside, (asks.room, (asks.cells, (asks.scopes, asks.texts)))))
 
-pub stmt::lower_stmt-returns-in_ok-lower_accept-in-Accept : goal.stmt::lower_stmt-returns-in_ok-lower_accept-in-Accept
-stmt::lower_stmt-returns-in_ok-lower_accept-in-Accept t c =
-    arm_accept c.args.names.now c.args.s.now c.s.inside.pos c.deref-in-Accept.result.now _ (maybe_at c.in-Accept.other) _ _ (stmt_is _ _ _ _ c.in-Accept.is c.s.view_is) c.deref-in-Accept.ensures.value c.in_ok-lower_accept-in-Accept.ensures
+pub stmt::lower_stmt-returns-in-Accept : goal.stmt::lower_stmt-returns-in-Accept
+stmt::lower_stmt-returns-in-Accept t c =
+    on_ok_weaker c.lower_accept.result (arm_accept c.args.names.now c.args.s.now c.s.inside.pos c.deref-in-Accept.result.now _ (maybe_at c.in-Accept.other) c.args.out.now c.lower_accept.new.out (stmt_is _ _ _ _ c.in-Accept.is c.s.view_is) c.deref-in-Accept.ensures.value) c.lower_accept.ensures
 
 pub accept::lower_branches-lower_maybe-requires : goal.accept::lower_branches-lower_maybe-requires
 accept::lower_branches-lower_maybe-requires t c =

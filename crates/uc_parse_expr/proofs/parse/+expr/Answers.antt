@@ -1,4 +1,4 @@
-use Rattle.std.proofs.Common.{rules, ◌≡◌, Some, None, inl, inr, refl, arith, [], ◌∷◌, ◌++◌}
+use Rattle.std.proofs.Common.{rules, ◌≡◌, Some, None, inl, inr, arith, [], ◌∷◌, ◌++◌}
 use Rattle.uc_tree.specs.declared.token.TokenKind.TheVariants as token
 use Rattle.uc_tree.specs.Expressions.{Expr}
 use Rattle.uc_grammar.specs.Names.{expr_name, unary_name, right_name}
@@ -51,7 +51,7 @@ pub read_closed_arguments-returns-in_err-all-clause-fails : goal.read_closed_arg
 read_closed_arguments-returns-in_err-all-clause-fails t c = let other : kind_at c.args.tokens.now c.args.from ≡ Some (token.Sign c.args.close) → ⊥ = search rules in let h : Fails (inner c.args.room) (faults c.args.room) (closed_arguments c.args.close) c.args.tokens.now c.args.from c.in_err-all.field-0.0 = inr (other, inl c.in_err-all.ensures.fails) in search (rules, h)
 
 pub read_closed_arguments-returns-clause-found : goal.read_closed_arguments-returns-clause-found
-read_closed_arguments-returns-clause-found t c = let other : kind_at c.args.tokens.now c.args.from ≡ Some (token.Sign c.args.close) → ⊥ = search rules in inr (other, record { middle = c.in_ok-all.at; left = c.in_ok-all.all.items; first = c.in_ok-all.ensures.found; second = (c.in_ok-to.ensures.found.0, (c.in_ok-to.ensures.found.1, refl)) })
+read_closed_arguments-returns-clause-found t c = let other : kind_at c.args.tokens.now c.args.from ≡ Some (token.Sign c.args.close) → ⊥ = search rules in let same : c.in_ok-all-2.all.items ≡ c.in_ok-all.all.items = search rules in inr (other, record { middle = c.in_ok-all.at; left = c.in_ok-all.all.items; first = c.in_ok-all.ensures.found; second = (c.in_ok-all-2.ensures.found.0, (c.in_ok-all-2.ensures.found.1, same)) })
 
 pub read_inner_expr-returns-then-room-eq0-clause-fails : goal.read_inner_expr-returns-then-room-eq0-clause-fails
 read_inner_expr-returns-then-room-eq0-clause-fails t c = rw c.if-room-eq0.true (no_room Expr expr_name c.args.tokens.now c.args.from)

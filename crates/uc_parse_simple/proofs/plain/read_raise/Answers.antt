@@ -17,7 +17,7 @@ returns-in_err-s-clause-fails c = let other : kind_at c.args.tokens.now c.args.f
     let h : Fails (inner c.args.room) (faults c.args.room) (raise_rest c.args.pos) c.args.tokens.now c.args.from c.in_err-s.field-0.0 = inr (other, inr (inl (c.in_ok-raised.at, c.in_ok-raised.raised, c.in_ok-raised.ensures.found, inl c.in_err-s.ensures.fails))) in
     let p = err_from_is_err_and c.from_residual-in_err-s.result c.from_residual-in_err-s.ensures.1 in rw (p.1, p.2) h
 
-pub returns-in_err-to-clause-fails : goal.returns-in_err-to-clause-fails
-returns-in_err-to-clause-fails c = let other : kind_at c.args.tokens.now c.args.from ≡ Some (token.Sign sign.Semicolon) → ⊥ = search rules in
-    let h : Fails (inner c.args.room) (faults c.args.room) (raise_rest c.args.pos) c.args.tokens.now c.args.from c.in_err-to.field-0.0 = inr (other, inr (inl (c.in_ok-raised.at, c.in_ok-raised.raised, c.in_ok-raised.ensures.found, inr (inl (c.in_ok-s.end, c.in_ok-s.s, c.in_ok-s.ensures.found, inl c.in_err-to.ensures.fails))))) in
-    let p = err_from_is_err_and c.from_residual-in_err-to.result c.from_residual-in_err-to.ensures.1 in rw (p.1, p.2) h
+pub returns-in_err-s-2-clause-fails : goal.returns-in_err-s-2-clause-fails
+returns-in_err-s-2-clause-fails c = let other : kind_at c.args.tokens.now c.args.from ≡ Some (token.Sign sign.Semicolon) → ⊥ = search rules in
+    let h : Fails (inner c.args.room) (faults c.args.room) (raise_rest c.args.pos) c.args.tokens.now c.args.from c.in_err-s-2.field-0.0 = inr (other, inr (inl (c.in_ok-raised.at, c.in_ok-raised.raised, c.in_ok-raised.ensures.found, inr (inl (c.in_ok-s.end, c.in_ok-s.s, c.in_ok-s.ensures.found, inl c.in_err-s-2.ensures.fails))))) in
+    let p = err_from_is_err_and c.from_residual-in_err-s-2.result c.from_residual-in_err-s-2.ensures.1 in rw (p.1, p.2) h

@@ -13,6 +13,6 @@ pub returns-in_err-test-clause-fails : goal.returns-in_err-test-clause-fails
 returns-in_err-test-clause-fails c = let h : Fails (inner c.args.room) (faults c.args.room) do_condition c.args.tokens.now c.args.from c.in_err-test.field-0.0 = behind_fails c.args.room c.args.tokens.now (token.Word word.While) (before condition_form sign.Semicolon) c.args.from c.in_ok-at.at _ c.in_ok-at.ensures.found (inl c.in_err-test.ensures.fails) in
     let p = err_from_is_err_and c.from_residual-in_err-test.result c.from_residual-in_err-test.ensures.1 in rw (p.1, p.2) h
 
-pub returns-in_err-to-clause-fails : goal.returns-in_err-to-clause-fails
-returns-in_err-to-clause-fails c = let h : Fails (inner c.args.room) (faults c.args.room) do_condition c.args.tokens.now c.args.from c.in_err-to.field-0.0 = behind_fails c.args.room c.args.tokens.now (token.Word word.While) (before condition_form sign.Semicolon) c.args.from c.in_ok-at.at _ c.in_ok-at.ensures.found (inr (inl (c.in_ok-test.end, c.in_ok-test.test, c.in_ok-test.ensures.found, inl c.in_err-to.ensures.fails))) in
-    let p = err_from_is_err_and c.from_residual-in_err-to.result c.from_residual-in_err-to.ensures.1 in rw (p.1, p.2) h
+pub returns-in_err-test-2-clause-fails : goal.returns-in_err-test-2-clause-fails
+returns-in_err-test-2-clause-fails c = let h : Fails (inner c.args.room) (faults c.args.room) do_condition c.args.tokens.now c.args.from c.in_err-test-2.field-0.0 = behind_fails c.args.room c.args.tokens.now (token.Word word.While) (before condition_form sign.Semicolon) c.args.from c.in_ok-at.at _ c.in_ok-at.ensures.found (inr (inl (c.in_ok-test.end, c.in_ok-test.test, c.in_ok-test.ensures.found, inl c.in_err-test-2.ensures.fails))) in
+    let p = err_from_is_err_and c.from_residual-in_err-test-2.result c.from_residual-in_err-test-2.ensures.1 in rw (p.1, p.2) h

@@ -17,23 +17,20 @@ invariant_of-result c =
     let ds = routines_of c.args.sizes.now in
     let routines : routines_in ds ≡ map held c.deref.result.now = sym n.routines ∙ sym (ap (λ rs. map held rs) c.deref.ensures.value) in
     let owners : owners_in ds ≡ c.deref-2.result.now = sym n.owners ∙ sym c.deref-2.ensures.value in
-    let routines_too : routines_in ds ≡ map held c.deref-3.result.now = sym n.routines ∙ sym (ap (λ rs. map held rs) c.deref-3.ensures.value) in
-    let owners_too : owners_in ds ≡ c.deref-4.result.now = sym n.owners ∙ sym c.deref-4.ensures.value in
     let classes : c.len-count.result ≡ length c.args.numbering.classes.items = search rules in
     let count : c.len-count.result ≡ length (classes_of c.args.sizes.now.items) = classes ∙ ap length n.classes ∙ length-map (classes_of c.args.sizes.now.items) (number_of_class c.args.sizes.now) in
-    let long = c.in_ok-routines.ensures.long in
-    let routines_last : routines_in ds ≡ map held c.deref-5.result.now = sym n.routines ∙ sym (ap (λ rs. map held rs) c.deref-5.ensures.value) in
-    let owners_last : owners_in ds ≡ c.deref-6.result.now = sym n.owners ∙ sym c.deref-6.ensures.value in
+    let known = c.in_ok-routines.ensures ds routines owners in
+    let long = known.long in
     record {
       fit = c.requires.fit;
       numbering = n;
-      alone_are = λ name. (c.in_ok-alone.ensures ds routines owners).at name;
-      objects_are = c.in_ok-note_classes.ensures.objects;
-      fields_are = c.in_ok-note_classes.ensures.fields;
+      alone_are = λ name. known.alone_are.at name;
+      objects_are = c.in_ok-classes.ensures.objects;
+      fields_are = c.in_ok-classes.ensures.fields;
       routines_are = record {
         long = omega (arith, count, long);
-        each = λ number t e. c.in_ok-routines.ensures.each ds number t routines_too owners_too e;
+        each = λ number t e. known.each number t e;
       };
-      events_are = c.in_ok-events.ensures;
-      builders_are = c.in_ok-builders.ensures ds routines_last owners_last;
+      events_are = c.in_ok-classes.ensures.events;
+      builders_are = known.builders_are;
     }

@@ -1,0 +1,11 @@
+pub mod Unreferring
+pub mod Scopes
+pub mod Offsets
+pub mod Variables
+pub mod CellFrames
+pub mod CellKeeping
+pub mod CellSteps
+pub mod CellWalk
+pub mod CellWorlds
+pub mod MainRoutine
+pub mod OwnCells

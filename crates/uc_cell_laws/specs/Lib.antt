@@ -1,0 +1,4 @@
+pub mod Scopes
+pub mod Places
+pub mod CellStates
+pub mod OwnCells

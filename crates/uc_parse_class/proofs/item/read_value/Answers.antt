@@ -1,0 +1,17 @@
+use Rattle.uc_parse_simple.proofs.Steps.{behind_fails}
+use Rattle.uc_tree.specs.declared.token.TokenKind.TheVariants as token
+use Rattle.uc_tree.specs.declared.token.Sign.TheVariants as sign
+use Rattle.uc_parse_class.specs.Forms.{value_form}
+use Rattle.uc_grammar.specs.Grammar.{before, expr_form, inner, faults}
+use Rattle.std.proofs.lemmas.Result.{err_from_is_err_and}
+use Rattle.uc_grammar.specs.Form.{Fails}
+use Rattle.std.proofs.Common.{inl, inr}
+use Rattle.uc_parse_class.proofs.item.read_value.Goals as goal
+
+pub returns-in_err-value-clause-fails : goal.returns-in_err-value-clause-fails
+returns-in_err-value-clause-fails c = let h : Fails (inner c.args.room) (faults c.args.room) value_form c.args.tokens.now c.args.from c.in_err-value.field-0.0 = behind_fails c.args.room c.args.tokens.now (token.Sign sign.Assign) (before expr_form sign.Semicolon) c.args.from c.in_ok-at.at _ c.in_ok-at.ensures.found (inl c.in_err-value.ensures.fails) in
+    let p = err_from_is_err_and c.from_residual-in_err-value.result c.from_residual-in_err-value.ensures.1 in rw (p.1, p.2) h
+
+pub returns-in_err-value-2-clause-fails : goal.returns-in_err-value-2-clause-fails
+returns-in_err-value-2-clause-fails c = let h : Fails (inner c.args.room) (faults c.args.room) value_form c.args.tokens.now c.args.from c.in_err-value-2.field-0.0 = behind_fails c.args.room c.args.tokens.now (token.Sign sign.Assign) (before expr_form sign.Semicolon) c.args.from c.in_ok-at.at _ c.in_ok-at.ensures.found (inr (inl (c.in_ok-value.end, c.in_ok-value.value, c.in_ok-value.ensures.found, inl c.in_err-value-2.ensures.fails))) in
+    let p = err_from_is_err_and c.from_residual-in_err-value-2.result c.from_residual-in_err-value-2.ensures.1 in rw (p.1, p.2) h
