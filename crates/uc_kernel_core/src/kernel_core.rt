@@ -35,6 +35,7 @@ use uc_input::reading::read_form;
 use uc_kernel_journal::KernelJournal;
 use uc_mutex::Entries;
 use uc_tree::limits::TASKS;
+use uc_tree::made::both;
 use uc_tree::site::Site;
 
 /// The journal of a run and the queues of its kernel.
@@ -125,6 +126,7 @@ impl KernelCore {
     }
 
     /// An entry that touches no queue.
+    #[inline(always)]
     pub(crate) fn put_quiet(&mut self, e: Entry)
         requires can { CanPut self.old e }
         requires quiet { is_quiet e.kind ≡ true }
@@ -146,6 +148,7 @@ impl KernelCore {
     }
 
     /// An entry by which its task goes to the back of the ready queue of its cluster.
+    #[inline(always)]
     pub(crate) fn put_back(&mut self, e: Entry)
         requires can { CanPut self.old e }
         requires back { is_back e.kind ≡ true }
@@ -158,6 +161,7 @@ impl KernelCore {
     }
 
     /// Whoever is inside goes out, and goes on to run.
+    #[inline(always)]
     pub(crate) fn put_out(&mut self, e: Entry)
         requires can { CanPut self.old e }
         requires exits { is_exit e.kind ≡ true }
@@ -170,6 +174,7 @@ impl KernelCore {
     }
 
     /// A task leaves an object: its call there is over, and has failed or not.
+    #[inline(always)]
     fn put_leave(&mut self, who: Actor, object: u32, failed: bool)
         requires can { CanPut self.old
             (Journal.asking kind.Leave who.processor who.task (cost who.ticks who.line) object
@@ -385,6 +390,7 @@ impl KernelCore {
     }
 
     /// A task prints: one entry for each item, of which the first alone carries the ticks.
+    #[inline(always)]
     pub(crate) fn print(&mut self, who: Actor, n: u8, items: &[Piece; 32])
         requires may { MayAct self.old who.processor who.task }
         requires items { (1 ≤ n) × (n ≤ 32) }
@@ -398,6 +404,7 @@ impl KernelCore {
     }
 
     /// One printed item, the first or a later one.
+    #[inline(always)]
     fn put_print(&mut self, who: Actor, first: bool, piece: Piece)
         requires going { is_over self.old.journal ≡ false }
         requires room { length self.old.journal < self.old.opts.entries + 40 }
@@ -494,18 +501,6 @@ fn got_after(failed: bool, form: u8, used: usize, input: &[u8]) -> Got
         return read_form(form, &input[used..]);
     }
     read_form(form, &[])
-}
-
-// Two parts, where there is memory for both.
-fn both<T: Drop, U: Drop>(
-    one: Result<T, AllocError>,
-    other: Result<U, AllocError>,
-) -> Result<(T, U), AllocError>
-    ensures { IfOk result (λ r. (one ≡ Ok r.0) × (other ≡ Ok r.1)) }
-{
-    let first = one?;
-    let second = other?;
-    Ok((first, second))
 }
 
 // Task 0 is inside object 0.
