@@ -1,25 +1,12 @@
 // Tables of the first place of each key.
 
-ghost use Rattle.std.specs.Prelude.{◌≡◌, [], ◌∷◌, IfOk, OnOk, Ok, Some, length, option_map};
+ghost use Rattle.std.specs.Prelude.{◌≡◌, [], ◌∷◌, IfOk, OnOk, Some, length, option_map};
 ghost use Rattle.uc_names.specs.Blocks.{found};
 ghost use Rattle.uc_check_index.specs.Firsts.{is_before, noted};
 
 use std::alloc::{AllocError, Global};
 use uc_names::scope::Scope;
 use uc_tree::name::Name;
-
-/// Two values that were made, where both were.
-// No table lives here across a `?`: what is dropped on such a way is dropped table by table.
-pub fn both<T: Drop, U: Drop>(
-    one: Result<T, AllocError>,
-    other: Result<U, AllocError>,
-) -> Result<(T, U), AllocError>
-    ensures { IfOk result (λ r. (one ≡ Ok r.0) × (other ≡ Ok r.1)) }
-{
-    let one = one?;
-    let other = other?;
-    Ok((one, other))
-}
 
 /// A table of no key.
 pub fn no_firsts(alloc: Global) -> Result<Scope, AllocError>

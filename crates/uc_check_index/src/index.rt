@@ -11,7 +11,7 @@ ghost use Rattle.uc_check_index.specs.Firsts.{any_named};
 ghost use Rattle.uc_check_index.specs.Indexed.{AreKeyed, AreNamed};
 ghost use Rattle.uc_check_index.specs.Topics.{class_name, constant_name, forward_name, proto_name, routine_name};
 
-use crate::firsts::{both, first_in, is_before};
+use crate::firsts::{first_in, is_before};
 use crate::keyed::firsts_by_key;
 use crate::keys::{kind_key, member_key, member_sig_key, sig_key};
 use crate::named::firsts_by_name;
@@ -22,6 +22,7 @@ use std::marker::Model;
 use uc_names::scope::Scope;
 use uc_tree::class::Sig;
 use uc_tree::kinds::{Forward, MutexMark};
+use uc_tree::made::both;
 use uc_tree::name::Name;
 use uc_tree::program::{Item, ItemForm, Program};
 

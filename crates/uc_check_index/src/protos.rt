@@ -12,7 +12,7 @@ ghost use Rattle.uc_check_index.specs.Marked.{mark_at};
 ghost use Rattle.uc_check_index.specs.Indexed.{AreProtos};
 ghost use Rattle.uc_check_index.specs.Topics.{form_role_key, form_sig_key, member_key_of};
 
-use crate::firsts::{both, first_in, no_firsts, note_key};
+use crate::firsts::{first_in, no_firsts, note_key};
 use crate::keys::{role_key, sig_key};
 use crate::topics::MemberTopic;
 use std::alloc::{AllocError, Global};
@@ -20,6 +20,7 @@ use std::marker::Model;
 use uc_names::scope::Scope;
 use uc_tree::class::{Class, Member, MemberForm, Sig};
 use uc_tree::kinds::MutexMark;
+use uc_tree::made::both;
 use uc_tree::program::{Item, ItemForm};
 
 /// A class, with tables of the prototypes among its members. Contracts see the class.

@@ -98,25 +98,3 @@ impl<X> List<X> {
         self.items.remove(at as usize)
     }
 }
-
-#[cfg(test)]
-mod tests {
-    use super::List;
-    use std::test::Fail;
-
-    #[test]
-    fn keeps_its_order(rt: HostRuntime) -> Result<(), Fail> {
-        let mut list = List::new(rt.alloc());
-        for x in [3u8, 1, 2] {
-            list.room()?;
-            list.push(x);
-        }
-        assert_eq!(rt; list.len(), 3);
-        *list.get_mut(1) = 9;
-        assert_eq!(rt; list.take(0), 3);
-        assert_eq!(rt; *list.get(0), 9);
-        assert_eq!(rt; *list.get(1), 2);
-        assert!(rt; !list.is_empty());
-        Ok(())
-    }
-}

@@ -35,6 +35,7 @@ use uc_input::reading::read_form;
 use uc_kernel_journal::KernelJournal;
 use uc_mutex::Entries;
 use uc_tree::limits::TASKS;
+use uc_tree::made::both;
 use uc_tree::site::Site;
 
 /// The journal of a run and the queues of its kernel.
@@ -494,18 +495,6 @@ fn got_after(failed: bool, form: u8, used: usize, input: &[u8]) -> Got
         return read_form(form, &input[used..]);
     }
     read_form(form, &[])
-}
-
-// Two parts, where there is memory for both.
-fn both<T: Drop, U: Drop>(
-    one: Result<T, AllocError>,
-    other: Result<U, AllocError>,
-) -> Result<(T, U), AllocError>
-    ensures { IfOk result (λ r. (one ≡ Ok r.0) × (other ≡ Ok r.1)) }
-{
-    let first = one?;
-    let second = other?;
-    Ok((first, second))
 }
 
 // Task 0 is inside object 0.

@@ -9,6 +9,7 @@ pub mod int;
 pub mod kinds;
 pub mod laws;
 pub mod limits;
+pub mod made;
 pub mod name;
 pub mod ops;
 pub mod pos;

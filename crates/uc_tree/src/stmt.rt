@@ -7,6 +7,7 @@ ghost use Rattle.uc_tree.specs.StatementViews.{maybe_at};
 use crate::declare::{Declarator, ForStart, OutItem, Raised};
 use crate::expr::Expr;
 use crate::kinds::{Base, EventName, HandlerKind, MemberName};
+use crate::made::both;
 use crate::name::Name;
 use crate::pos::Pos;
 use std::alloc::{AllocError, Global};
@@ -208,8 +209,7 @@ impl Stmt {
     ) -> Result<Stmt, AllocError>
         ensures { IfOk result (λ s. s ≡ If at test chosen (maybe_stmt_of other)) }
     {
-        let chosen = Box::new(alloc, chosen)?;
-        let other = boxed(alloc, other)?;
+        let (chosen, other) = both(boxed(alloc, chosen), maybe_boxed(alloc, other))?;
         Ok(Stmt {
             pos: at,
             form: StmtForm::If {
@@ -306,7 +306,7 @@ impl Stmt {
     ) -> Result<Stmt, AllocError>
         ensures { IfOk result (λ s. s ≡ Accept at (clauses_of clauses.items) (maybe_stmt_of other)) }
     {
-        let other = boxed(alloc, other)?;
+        let other = maybe_boxed(alloc, other)?;
         Ok(Stmt {
             pos: at,
             form: StmtForm::Accept { clauses, other },
@@ -314,12 +314,19 @@ impl Stmt {
     }
 }
 
-fn boxed(alloc: Global, s: Option<Stmt>) -> Result<Option<Box<Stmt>>, AllocError>
+fn boxed(alloc: Global, s: Stmt) -> Result<Box<Stmt>, AllocError>
+    ensures { IfOk result (λ b. b.value ≡ s) }
+{
+    let s = Box::new(alloc, s)?;
+    Ok(s)
+}
+
+fn maybe_boxed(alloc: Global, s: Option<Stmt>) -> Result<Option<Box<Stmt>>, AllocError>
     ensures { IfOk result (λ b. maybe_at b ≡ maybe_stmt_of s) }
 {
     match s {
         Some(s) => {
-            let s = Box::new(alloc, s)?;
+            let s = boxed(alloc, s)?;
             Ok(Some(s))
         }
         None => Ok(None),

@@ -1,6 +1,6 @@
 // The classes of a program by name, and what bases and declarators stand for.
 
-ghost use Rattle.std.specs.Prelude.{◌≡◌, IfOk, MatchOption, None, Ok, Some, if◌then◌else◌, map, option_map, slice_get};
+ghost use Rattle.std.specs.Prelude.{◌≡◌, IfOk, MatchOption, None, Some, if◌then◌else◌, map, option_map, slice_get};
 ghost use Rattle.uc_rules.specs.declared.rules.Sort.TheVariants.{Object};
 ghost use Rattle.uc_tree.specs.Cells.{classes_of};
 ghost use Rattle.uc_tree.specs.Constants.{constants_of, value_of_name};
@@ -22,21 +22,9 @@ use uc_tree::class::Class;
 use uc_tree::declare::Declarator;
 use uc_tree::expr::Expr;
 use uc_tree::kinds::Base;
+use uc_tree::made::both;
 use uc_tree::name::Name;
 use uc_tree::program::{Constant, Program};
-
-/// Two values that were made, where both were.
-// No table lives here across a `?`: what is dropped on such a way is dropped table by table.
-pub fn both<T: Drop, U: Drop>(
-    one: Result<T, AllocError>,
-    other: Result<U, AllocError>,
-) -> Result<(T, U), AllocError>
-    ensures { IfOk result (λ r. (one ≡ Ok r.0) × (other ≡ Ok r.1)) }
-{
-    let one = one?;
-    let other = other?;
-    Ok((one, other))
-}
 
 /// The classes and the sizes of a program. Contracts see the program.
 #[derive(Drop)]

@@ -14,7 +14,7 @@ ghost use Rattle.uc_rules.specs.Names.{constructor_among, constructor_form, cons
 ghost use Rattle.uc_rules.specs.Scopes.{event_named, event_sort};
 ghost use Rattle.uc_rules.specs.Sorts.{class_at, class_named, sort_of};
 
-use crate::bases::{Bases, both, is_given};
+use crate::bases::{Bases, is_given};
 use crate::directory::NameTable;
 use crate::listing::{names_in_classes, names_outside, outer};
 use crate::members::{names_at, params_at, params_in_each};
@@ -27,6 +27,7 @@ use uc_rules::rules::{Entity, NameMeaning, Sort};
 use uc_tree::class::{Class, Member, MemberForm, Routine, Sig};
 use uc_tree::declare::Declarator;
 use uc_tree::kinds::{Base, Param};
+use uc_tree::made::both;
 use uc_tree::name::Name;
 use uc_tree::program::{Item, ItemForm, Program};
 

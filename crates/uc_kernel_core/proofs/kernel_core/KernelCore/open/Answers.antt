@@ -7,14 +7,14 @@ use Rattle.uc_kernel_core.proofs.kernel_core.KernelCore.open.Goals as goal
 
 pub invariant_of-result : goal.invariant_of-result
 invariant_of-result c =
-    let all = c.in_ok-queues.ensures in
-    let parts = IfOk-at_ok _ all.0 c.both-parts.ensures in
-    let ones = IfOk-at_ok _ parts.0 c.both.ensures in
-    let tables = IfOk-at_ok _ parts.1 c.both-2.ensures in
-    let queues = IfOk-at_ok _ ones.0 c.both-queues.ensures in
-    let places = IfOk-at_ok _ ones.1 c.both-places.ensures in
-    let by_task = IfOk-at_ok _ tables.0 c.both-by_task.ensures in
-    let by_object = IfOk-at_ok _ tables.1 c.both-by_object.ensures in
+    let all = c.in_ok-queues.ensures.made in
+    let parts = IfOk-at_ok _ all.0 c.both-parts.ensures.made in
+    let ones = IfOk-at_ok _ parts.0 c.both.ensures.made in
+    let tables = IfOk-at_ok _ parts.1 c.both-2.ensures.made in
+    let queues = IfOk-at_ok _ ones.0 c.both-queues.ensures.made in
+    let places = IfOk-at_ok _ ones.1 c.both-places.ensures.made in
+    let by_task = IfOk-at_ok _ tables.0 c.both-by_task.ensures.made in
+    let by_object = IfOk-at_ok _ tables.1 c.both-by_object.ensures.made in
     let journal = IfOk-at_ok _ all.1 c.new-journal.ensures in
     let room = IfOk-at_ok _ queues.0 c.first_entries.ensures.room in
     let doors = IfOk-at_ok _ queues.0 c.first_entries.ensures.doors in
@@ -32,4 +32,4 @@ invariant_of-result c =
     }
 
 pub returns : goal.returns
-returns c = ap (λ (v : Told). seen v c.args.opts.now c.args.input.items) (IfOk-at_ok _ c.in_ok-queues.ensures.1 c.new-journal.ensures)
+returns c = ap (λ (v : Told). seen v c.args.opts.now c.args.input.items) (IfOk-at_ok _ c.in_ok-queues.ensures.made.1 c.new-journal.ensures)
