@@ -83,6 +83,7 @@ module _ (p : Program) (formed : IsFormed p) (accepted : breaks_of p ≡ []) (fe
       absurd (cc)
 
   fits_reference : (rs : List ℕ) (d r c i : ℕ) (v : Value) (x : List Link) (b : Ty) (w : Value) (e : Env) → at_depth rs d ≡ Some r → LiesInScope (table_of p) (source_of p) r (Frame e.exec d) v (Obj c) → IsField (table_of p) c i → owns_of p c i ≡ false → (table_of p).fields c i ≡ Cell b → further (FieldAt ((table_of p).shape c) i) v ≡ Place (Frame e.exec d) x → Fits (telling_of p few) rs (Place (Frame e.exec d) x) w e
+  unfolding part_lies
   fits_reference rs d r c i v x b w e at h f none is place = (exec_same e.exec, λ q j y k lt a n m. absurd (clash q j y k lt a))
     where
       t : Table

@@ -18,6 +18,7 @@ pub mod ArrayLists
 pub mod ArrayRuns
 pub mod Elements
 pub mod Wholes
+pub mod SitedSources
 pub mod Ended
 pub mod HomesLeft
 pub mod Found
