@@ -1,5 +1,5 @@
 -- Clean-ups come by quiet steps to where the scope opens in which an execution is ended, where the object is read that is destroyed.
-use Rattle.std.proofs.Common.{◌≡◌, ℕ, suc, ◌<◌, Bool, true, false, pos, List, [], ◌∷◌, drop, Option, Some, None, refl, sym, subst}
+use Rattle.std.proofs.Common.{◌≡◌, ℕ, suc, ◌<◌, inl, Bool, true, false, pos, List, [], ◌∷◌, drop, Option, Some, None, refl, sym, subst}
 use Rattle.std.specs.Prelude.{nat_lt, if◌then◌else◌}
 use Rattle.uc_tree.specs.declared.limits.TheConstants.{DESTRUCTOR}
 use Rattle.uc_entry.specs.Keyed.{find}
