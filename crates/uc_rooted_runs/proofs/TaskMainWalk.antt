@@ -1,5 +1,5 @@
 -- In every quiet step of a task mains of tasks alone end tasks, as long as none is called or set up, and so they do with answers.
-use Rattle.std.proofs.Common.{◌≡◌, ℕ, List, [], ◌∷◌, Option, Some, None, refl, subst}
+use Rattle.std.proofs.Common.{◌≡◌, ℕ, true, List, [], ◌∷◌, Option, Some, None, refl, subst}
 use Rattle.uc_tree.specs.Source.{CleanUp}
 use Rattle.uc_machine.specs.Pieces.{Active}
 use Rattle.std.specs.Prelude.{nat_lt, slice_get, drop}
@@ -20,8 +20,8 @@ use Rattle.uc_rooted_runs.specs.TaskMains.{EndsMembers, EndsEx, EndsState, EndsS
 use Rattle.uc_life_laws.proofs.Cells.{either}
 use Rattle.uc_rooted_runs.proofs.TaskMainKeeping as kept
 use Rattle.uc_life_laws.proofs.Parked as parked
-use Rattle.uc_rooted_runs.proofs.EndsSteps as steps
-use Rattle.uc_rooted_runs.proofs.EndsSteps.{Holding}
+use Rattle.uc_rooted_runs.proofs.TaskMainSteps as steps
+use Rattle.uc_rooted_runs.proofs.TaskMainSteps.{Holding}
 
 module _ (source : Source) (s : State) (st : EndsState s) where
   go : (todo : List Todo) (vs : List Value) → Holding s st todo → EndsState (at todo vs s)
