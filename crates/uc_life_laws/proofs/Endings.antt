@@ -324,8 +324,7 @@ objects_met : (t : Table) (code : Source) (n : ℕ) (s : State) → ObjectsOutsi
 objects_met t code zero s m h = m
 objects_met t code (suc n) s m h = record {
   opens = there_opens t any code n s h;
-  objects = λ c rest todo e. no_scope t any n s h c rest todo e;
-  finds = λ x. (x, finds t any n s x h);
+  finds = λ x. (x, finds t any n s x h, λ c rest todo e. no_scope t any n s h c rest todo e);
 }
 
 module _ (p : Program) (formed : IsFormed p) (accepted : breaks_of p ≡ []) (input : List ℕ) (opts : Options) (range : InRange opts) where

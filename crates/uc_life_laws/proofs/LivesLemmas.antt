@@ -2,7 +2,6 @@
 use Rattle.std.proofs.Common.{◌≡◌, ℕ, suc, ◌≤◌, ◌<◌, ◌⊎◌, inl, inr, ⊎_elim, Bool, true, false, List, [], ◌∷◌, length, Some, refl, sym, ap, ◌∙◌, subst, arith}
 use Rattle.std.specs.Prelude.{nat_eq, if◌then◌else◌, slice_get}
 use Rattle.std.proofs.lemmas.Bool.{eqb-true}
-use Rattle.uc_tree.specs.Source as src
 use Rattle.uc_tree.specs.Source.{Source, Routine, CleanUp}
 use Rattle.uc_machine.specs.declared.exec.Exec.{Exec}
 use Rattle.uc_machine.specs.declared.exec.Owner.{Owner}
@@ -15,8 +14,8 @@ use Rattle.uc_machine.specs.Quiet.{quiet}
 use Rattle.uc_typing.specs.Typing.{Ty, Sig, Table}
 use Rattle.uc_typing.specs.States.{Sound}
 use Rattle.uc_typing.proofs.Unwinds as un
-use Rattle.uc_life_laws.specs.Things.{Few, Holds}
-use Rattle.uc_life_laws.specs.LifeStates.{frame_at, BehindMark, Outwards, MarkHoldsBy, AllHoldBy, LifeStackBy, LifeExBy, LifeStateBy, StepIs, OpensAt, OpensAtBy, OpensBy, Clears}
+use Rattle.uc_life_laws.specs.Things.{Few}
+use Rattle.uc_life_laws.specs.LifeStates.{frame_at, BehindMark, Outwards, MarkHoldsBy, AllHoldBy, LifeStackBy, LifeExBy, LifeStateBy, StepIs, OpensBy, Clears}
 use Rattle.uc_life_laws.specs.Knowing.{InMaking, ClaimsEnv, ClaimsState, StepBy, VariablesKnown, Finds}
 use Rattle.uc_life_laws.specs.Kinds.{IsKept, Turned, stays, begins, goes_back, GoesOn, Parks, FollowsOn, Claimed}
 use Rattle.uc_life_laws.specs.Lives.{MakingAt, MakingIn, OutwardsOrMade, Lives, LivesState, FindsLiving, LawLives}
@@ -101,7 +100,7 @@ module _ (t : Table) (few : Few) where
   in_newer g gs (c ∷ older) w a (inl h) = inl (at_newer g gs c.frame c.this w a h)
   in_newer g gs (c ∷ older) w a (inr h) = inr (in_newer g gs older w a h)
 
-  all_newer : (n : Exec) (g : Sig) (gs : List Sig) (cs : List Active) → AllMore t few (OutwardsOrMade gs) (OutwardsOrMade (g ∷ gs)) n cs
+  pub all_newer : (n : Exec) (g : Sig) (gs : List Sig) (cs : List Active) → AllMore t few (OutwardsOrMade gs) (OutwardsOrMade (g ∷ gs)) n cs
   all_newer n g gs [] = tt
   all_newer n g gs (c ∷ older) =
       ((λ x todo w a h. ⊎_elim (λ h. inl h) (λ h. inr (⊎_elim (λ h. inl (at_newer g gs c.frame c.this w a h)) (λ h. inr (in_newer g gs older w a h)) h)) h), all_newer n g gs older)
@@ -114,7 +113,7 @@ module _ (t : Table) (few : Few) where
   in_older gs (c ∷ older) w a b l (inl h) = let d = b.0 in inl (at_older gs c.frame c.this w a (omega (arith, d, l)) h)
   in_older gs (c ∷ older) w a b l (inr h) = inr (in_older gs older w a b.1 (omega (arith, l)) h)
 
-  all_older : (n : Exec) (gs : List Sig) (cs : List Active) → Below cs → length cs ≤ length (others gs) → AllMore t few (OutwardsOrMade gs) (OutwardsOrMade (others gs)) n cs
+  pub all_older : (n : Exec) (gs : List Sig) (cs : List Active) → Below cs → length cs ≤ length (others gs) → AllMore t few (OutwardsOrMade gs) (OutwardsOrMade (others gs)) n cs
   all_older n gs [] b l = tt
   all_older n gs (c ∷ older) b l =
       let d = b.0 in
@@ -170,17 +169,11 @@ module _ (t : Table) (few : Few) where
           stack = subst (λ gs. LifeStackBy t few (OutwardsOrMade gs) u.env.exec u.env.frames (u.run ∷ u.callers)) (sym e) (stack_more t few (OutwardsOrMade gs) (OutwardsOrMade (others gs)) u.env.exec u.env.frames (u.run ∷ u.callers) (all_older u.env.exec gs (u.run ∷ u.callers) (below (OutwardsOrMade gs) u.env.exec u.env.frames (u.run ∷ u.callers) h.stack) (omega (arith, l))) h.stack);
         }
 
-  -- a scope that opens where what it is of holds what lies outwards of it
-  pub opens_lives : (gs : List Sig) (s : State) (l : List Todo) → OpensAt t few l s → OpensAtBy t few (OutwardsOrMade gs) l s
-  opens_lives gs s (pc.Rest (src.Scoped c rest) ∷ todo) h = λ k a x p b i binds.
-      known_more t few s.env.exec (Outwards t few s.env.exec s.run.frame s.run.this s.callers c todo) (OutwardsOrMade gs (Outwards t few s.env.exec s.run.frame s.run.this s.callers c todo) s.env.exec s.run.frame s.run.this s.callers) (λ v e y. inl y) b _ (h k a x p b i binds)
-  opens_lives gs s l h = tt
-
   pub lives_kept : IsKept (Lives t few)
   lives_kept = record {
     written = λ n gs x d k v h. (life_kept t few (OutwardsOrMade gs)).written n x d k v h;
     linked = λ n gs x l h. (life_kept t few (OutwardsOrMade gs)).linked n x l h;
-    unwound = λ n gs x why h. record { frames = h.frames; stack = h.stack };
+    unwound = λ n gs x why no h. record { frames = h.frames; stack = h.stack };
   }
 
   nothing_kept : IsParkedKept (λ n x. Unit {0})

@@ -42,7 +42,7 @@ use Rattle.uc_typed_runs.proofs.Worlds.{law_typed_runs}
 
 module _ (t : Table) (source : Source) where
   with_opens : (n : ℕ) (s : State) → Opens source s → FoundsOutside t n s → ObjectsFoundOutside t source n s
-  with_opens zero s o f = record { opens = o; objects = f.objects; reads = f.reads }
+  with_opens zero s o f = record { opens = o; reads = f }
   with_opens (suc n) s o f = tt
 
   ride_opens : (n : ℕ) {s u : State} {q k : ℕ} {a : Asked} (d : Rides source s q u k a) → RideMeets (Opens source) source s q u k a d → RideHolds (FoundsOutside t) source n s q u k a d → RideHolds (ObjectsFoundOutside t source) source n s q u k a d

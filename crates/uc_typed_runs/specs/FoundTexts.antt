@@ -1,13 +1,12 @@
 -- Runs of programs whose text is accepted, of which it is asked only what no state tells: that scopes of plain objects open where these are right, and of
 -- what is read, what is read elsewhere or of what is being built or destroyed.
-use Rattle.std.specs.Prelude.{◌≡◌, ℕ, zero, suc, false, List, [], ◌∷◌}
+use Rattle.std.specs.Prelude.{◌≡◌, ℕ, zero, suc, false, List, []}
 use Rattle.uc_tree.specs.Programs.{Program}
-use Rattle.uc_tree.specs.Source.{Source, CleanUp, Stmts, Scoped}
+use Rattle.uc_tree.specs.Source.{Source}
 use Rattle.uc_entry.specs.declared.entry.Options.{Options}
 use Rattle.uc_acts.specs.Journal.{Journal, is_over}
 use Rattle.uc_acts.specs.KernelRuns.{InRange}
-use Rattle.uc_machine.specs.Pieces.{Rest}
-use Rattle.uc_machine.specs.Quiet.{State, Todo}
+use Rattle.uc_machine.specs.Quiet.{State}
 use Rattle.uc_machine.specs.Answering.{answered}
 use Rattle.uc_meaning.specs.Runs.{World, Runs, drawn}
 use Rattle.uc_state_laws.specs.Fitting.{RunFits}
@@ -21,14 +20,12 @@ use Rattle.uc_state_laws.specs.Limits.{IsWithinLimits}
 use Rattle.uc_life_laws.specs.Lives.{LivesState}
 use Rattle.uc_life_laws.specs.Knowing.{KnowsState}
 use Rattle.uc_life_laws.specs.Opened.{any}
-use Rattle.uc_life_laws.specs.FoundReads.{ObjectsRight, Reads}
+use Rattle.uc_life_laws.specs.FoundReads.{ObjectsOpenRight, Reads}
 use Rattle.uc_typed_runs.specs.TypedRuns.{IsTyped}
 
--- where a scope of plain objects opens, these are right, and by some typing what the next step reads is, where no state tells it
-pub record Founds (t : Table) (s : State) : Type 0 where
-  pub objects : (c : CleanUp) (rest : Stmts) (todo : List Todo) →
-      s.run.control ≡ Rest (Scoped c rest) ∷ todo → ObjectsRight t c todo s
-  pub reads : LivesState t any s → Reads t any s
+-- by some typing what the next step reads is right, where no state tells it, and where a scope of plain objects opens, these are
+abbrev pub Founds : Table → State → Type 0
+Founds t s = LivesState t any s → (x : LivesState t any s) × (Reads t any s x × ObjectsOpenRight t x.0.sigs s)
 
 -- but in the four states from which a clean-up comes to the variable that it ends, and reads it
 abbrev pub FoundsOutside : Table → ℕ → State → Type 0
