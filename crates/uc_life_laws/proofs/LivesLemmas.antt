@@ -92,20 +92,20 @@ module _ (t : Table) (few : Few) where
   below K n fs [] h = tt
   below K n fs (c ∷ older) h = (h.0, below K n fs older h.2)
 
-  at_newer : (g : Sig) (gs : List Sig) (f : ℕ) (this w : Value) (a : Ty) → MakingAt gs f this w a → MakingAt (g ∷ gs) f this w a
+  pub at_newer : (g : Sig) (gs : List Sig) (f : ℕ) (this w : Value) (a : Ty) → MakingAt gs f this w a → MakingAt (g ∷ gs) f this w a
   at_newer g gs f this w a h = (h.0, un.deeper t g gs f h.0 h.1, h.2)
 
-  in_newer : (g : Sig) (gs : List Sig) (cs : List Active) (w : Value) (a : Ty) → MakingIn gs cs w a → MakingIn (g ∷ gs) cs w a
+  pub in_newer : (g : Sig) (gs : List Sig) (cs : List Active) (w : Value) (a : Ty) → MakingIn gs cs w a → MakingIn (g ∷ gs) cs w a
   in_newer g gs [] w a h = absurd h
   in_newer g gs (c ∷ older) w a (inl h) = inl (at_newer g gs c.frame c.this w a h)
   in_newer g gs (c ∷ older) w a (inr h) = inr (in_newer g gs older w a h)
 
-  pub all_newer : (n : Exec) (g : Sig) (gs : List Sig) (cs : List Active) → AllMore t few (OutwardsOrMade gs) (OutwardsOrMade (g ∷ gs)) n cs
+  all_newer : (n : Exec) (g : Sig) (gs : List Sig) (cs : List Active) → AllMore t few (OutwardsOrMade gs) (OutwardsOrMade (g ∷ gs)) n cs
   all_newer n g gs [] = tt
   all_newer n g gs (c ∷ older) =
       ((λ x todo w a h. ⊎_elim (λ h. inl h) (λ h. inr (⊎_elim (λ h. inl (at_newer g gs c.frame c.this w a h)) (λ h. inr (in_newer g gs older w a h)) h)) h), all_newer n g gs older)
 
-  at_older : (gs : List Sig) (f : ℕ) (this w : Value) (a : Ty) → f < length (others gs) → MakingAt gs f this w a → MakingAt (others gs) f this w a
+  pub at_older : (gs : List Sig) (f : ℕ) (this w : Value) (a : Ty) → f < length (others gs) → MakingAt gs f this w a → MakingAt (others gs) f this w a
   at_older gs f this w a l h = (h.0, older_sig gs f h.0 l h.1, h.2)
 
   pub in_older : (gs : List Sig) (cs : List Active) (w : Value) (a : Ty) → Below cs → length cs ≤ length (others gs) → MakingIn gs cs w a → MakingIn (others gs) cs w a
@@ -113,7 +113,7 @@ module _ (t : Table) (few : Few) where
   in_older gs (c ∷ older) w a b l (inl h) = let d = b.0 in inl (at_older gs c.frame c.this w a (omega (arith, d, l)) h)
   in_older gs (c ∷ older) w a b l (inr h) = inr (in_older gs older w a b.1 (omega (arith, l)) h)
 
-  pub all_older : (n : Exec) (gs : List Sig) (cs : List Active) → Below cs → length cs ≤ length (others gs) → AllMore t few (OutwardsOrMade gs) (OutwardsOrMade (others gs)) n cs
+  all_older : (n : Exec) (gs : List Sig) (cs : List Active) → Below cs → length cs ≤ length (others gs) → AllMore t few (OutwardsOrMade gs) (OutwardsOrMade (others gs)) n cs
   all_older n gs [] b l = tt
   all_older n gs (c ∷ older) b l =
       let d = b.0 in
@@ -156,7 +156,7 @@ module _ (t : Table) (few : Few) where
         by (p ∷ todo) h = tt
 
     -- behind a step by which the execution goes on, by the kinds that it then has
-    lives_turned : (source : Source) (u : State) (hs : List Sig) → LifeStateBy t few (OutwardsOrMade gs) (λ n x. Unit {0}) u → Turned t source s gs u hs → Lives t few u.env.exec hs (stopped u)
+    pub lives_turned : (source : Source) (u : State) (hs : List Sig) → LifeStateBy t few (OutwardsOrMade gs) (λ n x. Unit {0}) u → Turned t source s gs u hs → Lives t few u.env.exec hs (stopped u)
     lives_turned source u hs h (stays e n f v cs) = record { frames = h.frames; stack = subst (λ gs. LifeStackBy t few (OutwardsOrMade gs) u.env.exec u.env.frames (u.run ∷ u.callers)) (sym e) h.stack }
     lives_turned source u hs h (begins g a b e n cs f v) = record {
       frames = h.frames;
@@ -176,12 +176,12 @@ module _ (t : Table) (few : Few) where
     unwound = λ n gs x why no h. record { frames = h.frames; stack = h.stack };
   }
 
-  nothing_kept : IsParkedKept (λ n x. Unit {0})
+  pub nothing_kept : IsParkedKept (λ n x. Unit {0})
   nothing_kept = record { written = λ n x d k v h. h; linked = λ n x l h. h; begins = λ n r this. tt }
 
   -- whatever else is claimed (J), and holds of the state behind the step (W)
   module _ (J : Exec → List Sig → Ex → Type 0) (kept : IsKept J) (source : Source) (sound : Sound t source) (s : State) (x : ClaimsState t few J [] s) (claim : Lives t few s.env.exec x.sigs (stopped s)) where
-    same_length : length s.env.frames ≡ length x.sigs
+    pub same_length : length s.env.frames ≡ length x.sigs
     same_length = frames_length t few s.env.exec x.sigs s.env.frames (s.run ∷ s.callers) x.frames
 
     pub lives_step : Finds t few x.sigs x.run.sig x.run.scope s s.run.control x.run.own → OpensBy t few (OutwardsOrMade x.sigs) s → Clears t s → Parks J t source x.sigs s s.run.control → (W : State → Type 0) → StepIs W (quiet source s) → ((u : State) (hs : List Sig) → W u → Lives t few u.env.exec hs (stopped u) → Turned t source s x.sigs u hs → J u.env.exec hs (stopped u)) → StepBy t few (Claimed J t few) (ClaimsEnv t few J) source (quiet source s)

@@ -160,7 +160,7 @@ module _ (p : Program) (accepted : breaks_of p ≡ []) where
   stack_to : (s : State) → StackState Z s → StackStep Z (quiet.quiet source s)
   stack_to s st = stacking.walk Z source known s st
 
-  scope_there : (s : State) → StackState Z s → there.Opens source s → GoodBy Any s → (c : CleanUp) (rest : Stmts) (todo : List Todo) → s.run.control ≡ piece.Rest (src.Scoped c rest) ∷ todo → IsThere (frame_at s.run.frame s.env.frames) c
+  pub scope_there : (s : State) → StackState Z s → there.Opens source s → GoodBy Any s → (c : CleanUp) (rest : Stmts) (todo : List Todo) → s.run.control ≡ piece.Rest (src.Scoped c rest) ∷ todo → IsThere (frame_at s.run.frame s.env.frames) c
   scope_there s st o h c rest todo e =
       (good_counted rest c todo Any s.run.operands s (subst (λ (l : List Todo). GoodStepBy Any (quiet.act_todo source l s)) e (steps_to s st o h))).0
 
