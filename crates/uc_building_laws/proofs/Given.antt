@@ -83,15 +83,15 @@ module _ (t : Table) (few : Few) where
     pub known_there : (b : Ty) (v : Value) → Known t few n Before b v → Known t few n There b v
     known_there Num v h = tt
     known_there (Cell a) v h =
-        let no : (d : ℕ) → Cell a ≡ Raw d → ⊥ = λ d e. absurd (cc) in
-        record { is = h.is; passes = h.passes; rooted = λ i. lies_there (Cell a) v no (h.rooted i); held = λ m. absurd m; seated = λ i. ⊎_elim (λ l. inl (lies_there (Cell a) v no l)) (λ l. inr l) (h.seated i) }
+        let whole : (d : ℕ) → Cell a ≡ Raw d → ⊥ = λ d e. absurd (cc) in
+        record { is = h.is; passes = h.passes; rooted = λ i. lies_there (Cell a) v whole (h.rooted i); held = λ m. absurd m; seated = λ i. ⊎_elim (λ l. inl (lies_there (Cell a) v whole l)) (λ l. inr l) (h.seated i) }
     known_there (Obj d) v h =
-        let no : (e : ℕ) → Obj d ≡ Raw e → ⊥ = λ e q. absurd (cc) in
-        record { is = h.is; passes = h.passes; rooted = λ i. lies_there (Obj d) v no (h.rooted i); held = λ m. lies_there (Obj d) v no (h.held m); seated = λ i. absurd i }
+        let whole : (e : ℕ) → Obj d ≡ Raw e → ⊥ = λ e q. absurd (cc) in
+        record { is = h.is; passes = h.passes; rooted = λ i. lies_there (Obj d) v whole (h.rooted i); held = λ m. lies_there (Obj d) v whole (h.held m); seated = λ i. absurd i }
     known_there (Raw d) v h = record { is = h.is; passes = h.passes }
     known_there (Row m a) v h =
-        let no : (d : ℕ) → Row m a ≡ Raw d → ⊥ = λ d e. absurd (cc) in
-        record { is = h.is; passes = h.passes; rooted = λ i. lies_there (Row m a) v no (h.rooted i); held = λ k. absurd k; seated = λ i. ⊎_elim (λ l. inl (lies_there (Row m a) v no l)) (λ l. inr l) (h.seated i) }
+        let whole : (d : ℕ) → Row m a ≡ Raw d → ⊥ = λ d e. absurd (cc) in
+        record { is = h.is; passes = h.passes; rooted = λ i. lies_there (Row m a) v whole (h.rooted i); held = λ k. absurd k; seated = λ i. ⊎_elim (λ l. inl (lies_there (Row m a) v whole l)) (λ l. inr l) (h.seated i) }
     known_there Clu v h = record { is = h.is; passes = h.passes; rooted = λ i. absurd i; held = λ m. absurd m; seated = λ i. absurd i }
     known_there Pro v h = record { is = h.is; passes = h.passes; rooted = λ i. absurd i; held = λ m. absurd m; seated = λ i. absurd i }
 

@@ -120,7 +120,7 @@ module _ (t : Table) (heads : ℕ → ℕ → Bool) (few : Few) where
   built_kept = record {
     written = λ n gs x d k v h. ((lives_kept t few).written n gs x d k v h.0, ex_kept n gs x (frame_changed d (value_changed k (stored v) nought) x.frames) (λ e. frame_stored x.frames d k e v) h.1);
     linked = λ n gs x l h. ((lives_kept t few).linked n gs x l h.0, record { apart = h.1.apart; run = h.1.run; callers = h.1.callers });
-    unwound = λ n gs x why no h. ((lives_kept t few).unwound n gs x why no h.0, ex_unwound n gs x why no h.1);
+    unwound = λ n gs x why other h. ((lives_kept t few).unwound n gs x why other h.0, ex_unwound n gs x why other h.1);
   }
 
   pub fresh_built : (n : Exec) (kinds : List Sig) (r : Routine) (this : Value) → BuildsEx t heads few n kinds (fresh r this)

@@ -16,3 +16,4 @@ pub mod Kept
 pub mod Constructors
 pub mod Worlds
 pub mod BuiltRuns
+pub mod BuiltEndings

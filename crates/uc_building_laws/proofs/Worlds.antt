@@ -205,12 +205,12 @@ module _ (p : Program) (formed : IsFormed p) (accepted : breaks_of p ≡ []) whe
   knows s x = plain t any (Built t (heads_of p) any) [] s x.0
 
   -- what is claimed of constructors is forgotten
-  lives_by : (n : Exec) (g : Stage) (x : Ex) → ClaimsBy t any (Built t (heads_of p) any) n g x → ClaimsBy t any (Lives t any) n g x
+  pub lives_by : (n : Exec) (g : Stage) (x : Ex) → ClaimsBy t any (Built t (heads_of p) any) n g x → ClaimsBy t any (Lives t any) n g x
   lives_by n Fresh x k = record { sigs = k.sigs; frames = k.frames; run = k.run; callers = k.callers; claim = k.claim.0 }
   lives_by n Started x k = record { sigs = k.sigs; frames = k.frames; run = k.run; callers = k.callers; claim = k.claim.0 }
   lives_by n Ended x k = tt
 
-  pub lives : (s : State) → B s → LivesState t any s
+  abbrev pub lives : (s : State) → B s → LivesState t any s
   lives s x = (record { sigs = x.0.sigs; frames = x.0.frames; run = x.0.run; callers = x.0.callers; env = env_less (ClaimsSlot t any (Built t (heads_of p) any)) (ClaimsSlot t any (Lives t any)) (λ n y k. lives_by n y.links.stage y k) s.env x.0.env }, x.1.0)
 
   -- objects hold what is known where a scope opens

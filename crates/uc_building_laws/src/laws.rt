@@ -3,6 +3,7 @@
 ghost use Rattle.uc_building_laws.specs.Awaiting.{LawAwaited};
 ghost use Rattle.uc_building_laws.specs.BuildingLaws.{LawClears, LawKept, LawSteps};
 ghost use Rattle.uc_building_laws.specs.BuildingRuns.{LawBuilt, LawHeads};
+ghost use Rattle.uc_building_laws.specs.BuiltEndings.{LawBuiltEndings};
 ghost use Rattle.uc_building_laws.specs.BuiltRuns.{LawBuiltRuns};
 
 /// Of an object whose scope opens behind its constructor, each field in which something is bound holds
@@ -43,6 +44,12 @@ pub fn law_awaited()
 /// breaks no rule, as long as all that was asked before fits and each step found what it is to find.
 pub fn law_built()
     ensures { LawBuilt }
+{}
+
+/// So it is where of the states in which a clean-up comes to the variable that it ends, and reads it,
+/// nothing is asked.
+pub fn law_built_endings()
+    ensures { LawBuiltEndings }
 {}
 
 /// So in each such run of a program within its limits, as long as all that was asked before fits: all is

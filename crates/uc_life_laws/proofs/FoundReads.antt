@@ -158,7 +158,7 @@ module _ (t : Table) (numbers : Ty → ℕ → Bool) where
   has_object (Some c) o = inl (lies refl itself)
 
   -- what lies outside is a thing
-  outside_thing : (n : Exec) (cs : List Active) (w : Value) (a : Ty) → is_outside n w ≡ true → Things t few n cs w a
+  pub outside_thing : (n : Exec) (cs : List Active) (w : Value) (a : Ty) → is_outside n w ≡ true → Things t few n cs w a
   outside_thing n [] w a h = h
   outside_thing n (c ∷ older) w a h = inr (outside_thing n older w a h)
 
@@ -201,7 +201,7 @@ module _ (t : Table) (numbers : Ty → ℕ → Bool) where
     right_known Clu v r = record { is = r.is; passes = r.passes; rooted = λ k. absurd k; held = λ m. absurd m; seated = λ k. absurd k }
     right_known Pro v r = record { is = r.is; passes = r.passes; rooted = λ k. absurd k; held = λ m. absurd m; seated = λ k. absurd k }
 
-    right_holds : (o : Owner) (vs : List Value) (w : Value) (a : Ty) → HoldsRight t few n K o vs w a → Holds t few n K o vs w a
+    pub right_holds : (o : Owner) (vs : List Value) (w : Value) (a : Ty) → HoldsRight t few n K o vs w a → Holds t few n K o vs w a
     right_holds o vs w a h p b y i = right_known b (slice_index_or vs (address p) nought) (h p b y i)
 
   -- so a scope opens where what it is of holds what is known

@@ -173,7 +173,7 @@ module _ (t : Table) (few : Few) where
   lives_kept = record {
     written = λ n gs x d k v h. (life_kept t few (OutwardsOrMade gs)).written n x d k v h;
     linked = λ n gs x l h. (life_kept t few (OutwardsOrMade gs)).linked n x l h;
-    unwound = λ n gs x why no h. record { frames = h.frames; stack = h.stack };
+    unwound = λ n gs x why other h. record { frames = h.frames; stack = h.stack };
   }
 
   pub nothing_kept : IsParkedKept (λ n x. Unit {0})

@@ -65,7 +65,7 @@ main_ok t g Function line body e f = (tt, f, (tt, refl))
 main_ok t g Builder line body e f = (tt, f, refl)
 
 pub anything_kept : IsKept Anything
-anything_kept = record { written = λ n gs x d k v h. tt; linked = λ n gs x l h. tt; unwound = λ n gs x why no h. tt }
+anything_kept = record { written = λ n gs x d k v h. tt; linked = λ n gs x l h. tt; unwound = λ n gs x why other h. tt }
 
 module _ (t : Table) (few : Few) (Q : Exec → List Sig → Ex → Type 0) (kept : IsKept Q) where
   pub like : {e f : Env} → ClaimsEnv t few Q e → f.hand ≡ e.hand → f.house ≡ e.house → f.own ≡ e.own → ClaimsEnv t few Q f
@@ -224,12 +224,12 @@ module _ (t : Table) (few : Few) (Q : Exec → List Sig → Ex → Type 0) (kept
 
   -- why it is unwound is no matter, if that is no return
   thrown : (why : UnwindReason) (n : Exec) (x : Ex) → ((home : ℕ) → why ≡ reason.ReturnTo home → ⊥) → ClaimsEx t few Q n x → ClaimsEx t few Q n (sw.unwound_there why x)
-  thrown why n x no r = record {
+  thrown why n x other r = record {
     sigs = r.sigs;
     frames = frames_run t few n r.sigs x.frames x.run _ x.callers r.frames;
     run = record { sig = r.run.sig; own = r.run.own; scope = r.run.scope; base = r.run.base; frame = r.run.frame; values = r.run.values; this = r.run.this; ok = r.run.ok; ends = r.run.ends };
     callers = r.callers;
-    claim = kept.unwound n r.sigs x why no r.claim;
+    claim = kept.unwound n r.sigs x why other r.claim;
   }
 
   throw_in : (o : Option (Exec × Ex)) (s : State) → KnowsNext o → ClaimsSlot t few Q s.env.exec (sw.stopped s) → ClaimsEnv t few Q s.env → KnowsMoved (sw.throw_at o s)
