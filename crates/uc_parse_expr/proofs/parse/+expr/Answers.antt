@@ -1,4 +1,4 @@
-use Rattle.std.proofs.Common.{rules, ◌≡◌, Some, None, inl, inr, ◌+◌, arith, [], ◌∷◌, ◌++◌}
+use Rattle.std.proofs.Common.{rules, ◌≡◌, subst, Some, None, inl, inr, ◌+◌, arith, [], ◌∷◌, ◌++◌}
 use Rattle.std.proofs.lemmas.Result.{err_from_is_err_and}
 use Rattle.uc_tree.specs.declared.token.TokenKind.TheVariants as token
 use Rattle.uc_tree.specs.declared.token.Sign.TheVariants as sign
@@ -109,29 +109,29 @@ read_expr-returns-in_err-first-clause-fails t c = let h : Fails (inner c.args.ro
     let p = err_from_is_err_and c.from_residual.result c.from_residual.ensures.1 in rw (p.1, p.2) h
 
 pub read_expr-returns-in_err-e-clause-fails : goal.read_expr-returns-in_err-e-clause-fails
-read_expr-returns-in_err-e-clause-fails t c = let h : Fails (inner c.args.room) (faults c.args.room) expr_form c.args.tokens.now c.args.from c.in_err-e.field-0.0 = inr (inl (c.in_ok-first.at, c.in_ok-first.first, c.in_ok-first.ensures.found, rw (← c.pos_at-pos.ensures) c.in_err-e.ensures.fails)) in
+read_expr-returns-in_err-e-clause-fails t c = let h : Fails (inner c.args.room) (faults c.args.room) expr_form c.args.tokens.now c.args.from c.in_err-e.field-0.0 = inr (inl (c.in_ok-first.at, c.in_ok-first.first, c.in_ok-first.ensures.found, subst (λ p. Fails (inner c.args.room) (faults c.args.room) (expr_after p c.in_ok-first.first) c.args.tokens.now c.in_ok-first.at c.in_err-e.field-0.0) c.pos_at-pos.ensures c.in_err-e.ensures.fails)) in
     let p = err_from_is_err_and c.from_residual-in_err-e.result c.from_residual-in_err-e.ensures.1 in rw (p.1, p.2) h
 
 pub read_expr-returns-clause-found : goal.read_expr-returns-clause-found
-read_expr-returns-clause-found t c = record { middle = c.in_ok-first.at; left = c.in_ok-first.first; first = c.in_ok-first.ensures.found; second = rw (← c.pos_at-pos.ensures) c.in_ok-e.ensures.found }
+read_expr-returns-clause-found t c = record { middle = c.in_ok-first.at; left = c.in_ok-first.first; first = c.in_ok-first.ensures.found; second = subst (λ p. Spells (inner c.args.room) (expr_after p c.in_ok-first.first) c.args.tokens.now c.in_ok-first.at c.in_ok-e.to c.in_ok-e.e) c.pos_at-pos.ensures c.in_ok-e.ensures.found }
 
 pub read_right-returns-in_err-first-clause-fails : goal.read_right-returns-in_err-first-clause-fails
 read_right-returns-in_err-first-clause-fails t c = let h : Fails (inner c.args.room) (faults c.args.room) right_form c.args.tokens.now c.args.from c.in_err-first.field-0.0 = inl c.in_err-first.ensures.fails in
     let p = err_from_is_err_and c.from_residual.result c.from_residual.ensures.1 in rw (p.1, p.2) h
 
 pub read_right-returns-in_err-e-clause-fails : goal.read_right-returns-in_err-e-clause-fails
-read_right-returns-in_err-e-clause-fails t c = let h : Fails (inner c.args.room) (faults c.args.room) right_form c.args.tokens.now c.args.from c.in_err-e.field-0.0 = inr (inl (c.in_ok-first.at, c.in_ok-first.first, c.in_ok-first.ensures.found, rw (← c.pos_at-pos.ensures) c.in_err-e.ensures.fails)) in
+read_right-returns-in_err-e-clause-fails t c = let h : Fails (inner c.args.room) (faults c.args.room) right_form c.args.tokens.now c.args.from c.in_err-e.field-0.0 = inr (inl (c.in_ok-first.at, c.in_ok-first.first, c.in_ok-first.ensures.found, subst (λ p. Fails (inner c.args.room) (faults c.args.room) (right_after p c.in_ok-first.first) c.args.tokens.now c.in_ok-first.at c.in_err-e.field-0.0) c.pos_at-pos.ensures c.in_err-e.ensures.fails)) in
     let p = err_from_is_err_and c.from_residual-in_err-e.result c.from_residual-in_err-e.ensures.1 in rw (p.1, p.2) h
 
 pub read_right-returns-clause-found : goal.read_right-returns-clause-found
-read_right-returns-clause-found t c = record { middle = c.in_ok-first.at; left = c.in_ok-first.first; first = c.in_ok-first.ensures.found; second = rw (← c.pos_at-pos.ensures) c.in_ok-e.ensures.found }
+read_right-returns-clause-found t c = record { middle = c.in_ok-first.at; left = c.in_ok-first.first; first = c.in_ok-first.ensures.found; second = subst (λ p. Spells (inner c.args.room) (right_after p c.in_ok-first.first) c.args.tokens.now c.in_ok-first.at c.in_ok-e.to c.in_ok-e.e) c.pos_at-pos.ensures c.in_ok-e.ensures.found }
 
 pub read_postfix-returns-in_err-root-clause-fails : goal.read_postfix-returns-in_err-root-clause-fails
 read_postfix-returns-in_err-root-clause-fails t c = let h : Fails (inner c.args.room) (faults c.args.room) postfix_form c.args.tokens.now c.args.from c.in_err-root.field-0.0 = inl c.in_err-root.ensures.fails in
     let p = err_from_is_err_and c.from_residual.result c.from_residual.ensures.1 in rw (p.1, p.2) h
 
 pub read_postfix-returns-in_err-e-clause-fails : goal.read_postfix-returns-in_err-e-clause-fails
-read_postfix-returns-in_err-e-clause-fails t c = let h : Fails (inner c.args.room) (faults c.args.room) postfix_form c.args.tokens.now c.args.from c.in_err-e.field-0.0 = inr (inl (c.in_ok-root.at, c.in_ok-root.root, c.in_ok-root.ensures.found, rw (← c.pos_at-pos.ensures) c.in_err-e.ensures.fails)) in
+read_postfix-returns-in_err-e-clause-fails t c = let h : Fails (inner c.args.room) (faults c.args.room) postfix_form c.args.tokens.now c.args.from c.in_err-e.field-0.0 = inr (inl (c.in_ok-root.at, c.in_ok-root.root, c.in_ok-root.ensures.found, subst (λ p. Fails (inner c.args.room) (faults c.args.room) (postfix_after p c.in_ok-root.root) c.args.tokens.now c.in_ok-root.at c.in_err-e.field-0.0) c.pos_at-pos.ensures c.in_err-e.ensures.fails)) in
     let p = err_from_is_err_and c.from_residual-in_err-e.result c.from_residual-in_err-e.ensures.1 in rw (p.1, p.2) h
 
 pub read_postfix-returns-clause-found : goal.read_postfix-returns-clause-found
