@@ -1,5 +1,5 @@
 -- In runs of programs a task whose own object went has ended, by its own main: so no main is still there of a task whose object goes.
-use Rattle.std.proofs.Common.{◌≡◌, ℕ, zero, suc, ◌==◌, ◌<◌, ◌≤◌, ◌⊎◌, inl, inr, ⊎_elim, Bool, true, false, ◌||◌, List, [], ◌∷◌, ◌++◌, Option, refl, sym, ap, ◌∙◌, subst, arith}
+use Rattle.std.proofs.Common.{◌≡◌, ℕ, zero, suc, ◌==◌, ◌<◌, ◌≤◌, ◌⊎◌, inl, inr, ℤ, Bool, true, false, ◌||◌, List, [], ◌∷◌, ◌++◌, Option, refl, sym, ap, ◌∙◌, subst, arith}
 use Rattle.std.specs.Prelude.{if◌then◌else◌, map, pos}
 use Rattle.std.proofs.lemmas.Bool.{eqb-true, eq-eqb, cases_lt}
 use Rattle.uc_tree.specs.Programs.{Program}
@@ -30,7 +30,7 @@ use Rattle.uc_machine.specs.Executions.{exec_eq}
 use Rattle.uc_machine.specs.Pieces as piece
 use Rattle.uc_machine.specs.Pieces.{Value, Todo, State, Members, Asks, object_in}
 use Rattle.uc_machine.specs.Quiet.{quiet}
-use Rattle.uc_machine.specs.Answering.{child_of}
+use Rattle.uc_machine.specs.Answering.{answered, child_of}
 use Rattle.uc_machine.specs.Rides.{Rides, slices, goes_on, ticks, asks}
 use Rattle.uc_meaning.specs.Runs.{World, May, Runs, AsksIn, begun, more, gives, no_room, acts, bare, drawn, world_after}
 use Rattle.uc_resolve.specs.Resolve.{source_of}
@@ -75,7 +75,7 @@ use Rattle.uc_rooted_runs.specs.Still.{ride_still, still_asked, run_still}
 use Rattle.uc_rooted_runs.specs.TaskMains.{is_first, is_task_main, EndsIn, EndsState}
 use Rattle.uc_rooted_runs.proofs.EndSteps as last
 use Rattle.uc_rooted_runs.proofs.EndSteps.{EndStep, IsOver}
-use Rattle.uc_rooted_runs.proofs.EndedTasks.{ended_by}
+use Rattle.uc_rooted_runs.proofs.EndedTasks.{Asker, ended_by}
 use Rattle.uc_rooted_runs.proofs.OutlastNames.{born_there}
 use Rattle.uc_parts_laws.proofs.Naming.{ride_before, asked_before, now_asked}
 
@@ -159,7 +159,7 @@ module _ (p : Program) (formed : IsFormed p) (ok : breaks_of p ≡ []) where
     -- nobody is where all has gone
     nowhere : (v o : ℕ) (j : Journal) → Dead o j → is_at v o j ≡ false
     nowhere v o j d =
-        ap (λ xs. has xs v || (has (map (λ w. w.0) (waiting o j)) v || (has (stacked o j) v || has (map (λ b. b.0) (blocked_at o j)) v))) d.inside ∙ (ap (λ (xs : List (ℕ × ℕ)). has [] v || (has (map (λ w. w.0) xs) v || (has (stacked o j) v || has (map (λ b. b.0) (blocked_at o j)) v))) d.waits ∙ (ap (λ xs. has [] v || (has [] v || (has xs v || has (map (λ b. b.0) (blocked_at o j)) v))) d.stacks ∙ ap (λ xs. has [] v || (has [] v || (has [] v || has (map (λ b. b.0) xs) v))) d.blocks))
+        ap (λ (xs : List ℕ). has xs v || (has (map (λ w. w.0) (waiting o j)) v || (has (stacked o j) v || has (map (λ b. b.0) (blocked_at o j)) v))) d.inside ∙ (ap (λ (xs : List (ℕ × ℕ)). has [] v || (has (map (λ w. w.0) xs) v || (has (stacked o j) v || has (map (λ b. b.0) (blocked_at o j)) v))) d.waits ∙ (ap (λ (xs : List ℕ). has [] v || (has [] v || (has xs v || has (map (λ b. b.0) (blocked_at o j)) v))) d.stacks ∙ ap (λ (xs : List (ℕ × ℕ × ℤ)). has [] v || (has [] v || (has [] v || has (map (λ b. b.0) xs) v))) d.blocks))
 
     -- so a task whose own object has gone has ended
     gone_ended : {j : Journal} {w : World} (r : Runs (source_of p) input opts j w) → RunFits (source_of p) input opts j w r → RunAlone (source_of p) input opts j w r → is_over j ≡ false → (v : ℕ) → v < task_count j → is_gone (w.tasks v).env.own j ≡ true → has_ended v j ≡ true
@@ -265,12 +265,12 @@ module _ (p : Program) (formed : IsFormed p) (ok : breaks_of p ≡ []) where
         (omega (arith, lt, grown), x.1)
     ended (more {j} r o (no_room q t s le)) f a m n on v e = no_both (is_over (j ++ lone_limit ∷ [])) (over_limit j 0 0) on
     ended (more {j} {w} r o (acts q t n s asked d)) f al m n' on v e =
-        by (ended_by v opts (source_of p).sites input j q t n asked on e)
+        by (λ v g. ended r f.0 al.0 m.0 n'.0 o v g) (ended_by v opts (source_of p).sites input j q t n asked on e)
       where
         abbrev b : List Entry
         b = act opts (source_of p).sites input j q t n asked
 
-        stand : StandsState (part_of p) (source_of p) (own_object t j) _
+        stand : StandsState (part_of p) (source_of p) (own_object t j) (answered (source_of p) d.given (drawn j w t))
         stand =
             let x = both_run (part_of p) (source_of p) entered inner law_steps law_free law_drawn input opts range r f.0 al.0 o in
             standing_start (part_of p) (source_of p) inner entered.ends input opts range (rests r f.0 o q t n s asked d f.1 on) o (deep r f.0 o q t n s asked d f.1 on) x.standing q t n s asked d
@@ -286,12 +286,12 @@ module _ (p : Program) (formed : IsFormed p) (ok : breaks_of p ≡ []) where
         abbrev Claim : Type 0
         Claim = (v < task_count (j ++ b)) × (still_asked asked.request s (ride_still (source_of p) (run_still (source_of p) input opts r) d.rides) (main_of ((world_after (source_of p) b w t s).tasks v).env.own) ≡ false)
 
-        by : (has_ended v j ≡ true) ⊎ _ → Claim
-        by (inl g) =
-            let x = ended r f.0 al.0 m.0 n'.0 o v g in
+        by : ((v : ℕ) → has_ended v j ≡ true → (v < task_count j) × (run_still (source_of p) input opts r (main_of (w.tasks v).env.own) ≡ false)) → (has_ended v j ≡ true) ⊎ Asker v t asked.request → Claim
+        by before (inl g) =
+            let x = before v g in
             let own : ((world_after (source_of p) b w t s).tasks v).env.own ≡ (w.tasks v).env.own = own_after r f.0 o q t n s asked d f.1 on v x.0 in
-            (more_tasks x.0, no_more _ (ap (λ k. run_still (source_of p) input opts r (main_of k)) own ∙ x.1))
-        by (inr k) =
+            (more_tasks x.0, no_more (main_of ((world_after (source_of p) b w t s).tasks v).env.own) (ap (λ k. run_still (source_of p) input opts r (main_of k)) own ∙ x.1))
+        by before (inr k) =
             let same : v ≡ t = eqb-true v t k.same in
             let lt : t < task_count j = acts_on r f.0 o q t n s asked d f.1 on in
             let mine : Mine (own_object t j) s = ride_main (own_object t j) d.rides m.1 n'.1 stand k.asks in
@@ -333,15 +333,15 @@ module _ (p : Program) (formed : IsFormed p) (ok : breaks_of p ≡ []) where
           let grown = tasks_grow j (dispatch q t ∷ []) in
           record { object = y.object; named = y.named; place = y.place; task = y.task; there = omega (arith, lt, grown); own = y.own }
       task_of (more {j} r o (no_room q t s le)) f on l k x h e = no_both (is_over (j ++ lone_limit ∷ [])) (over_limit j 0 0) on
-      task_of (more {j} {w} r o (acts q t n s asked d)) f on l k x h e = by asked.request refl h k.1
+      task_of (more {j} {w} r o (acts q t n s asked d)) f on l k x h e = by (λ g. task_of r f.0 o l.0 k.0 x g e) asked.request refl h k.1
         where
           abbrev b : List Entry
           b = act opts (source_of p).sites input j q t n asked
 
           -- one that was there before
-          old_one : ride_made (source_of p) (run_made (source_of p) input opts r) d.rides x ≡ true → IsMainOf (j ++ b) (world_after (source_of p) b w t s) x
-          old_one g =
-              let y = task_of r f.0 o l.0 k.0 x (ride_old x e (run_made (source_of p) input opts r) d.rides l.1 g) e in
+          old_one : (run_made (source_of p) input opts r x ≡ true → IsMainOf j w x) → ride_made (source_of p) (run_made (source_of p) input opts r) d.rides x ≡ true → IsMainOf (j ++ b) (world_after (source_of p) b w t s) x
+          old_one before g =
+              let y = before (ride_old x e (run_made (source_of p) input opts r) d.rides l.1 g) in
               let lt = y.there in
               let grown = tasks_grow j b in
               record {
@@ -353,16 +353,16 @@ module _ (p : Program) (formed : IsFormed p) (ok : breaks_of p ≡ []) where
                 own = own_after r f.0 o q t n s asked d f.1 on y.task y.there ∙ y.own;
               }
 
-          by : (z : Request) → asked.request ≡ z → made_asked z (ride_made (source_of p) (run_made (source_of p) input opts r) d.rides) x ≡ true → SpawnsLater makers z s → IsMainOf (j ++ b) (world_after (source_of p) b w t s) x
-          by (ask.Spawn c) i g m = one (exec_eq x (main_of c)) refl g
+          by : (run_made (source_of p) input opts r x ≡ true → IsMainOf j w x) → (z : Request) → asked.request ≡ z → made_asked z (ride_made (source_of p) (run_made (source_of p) input opts r) d.rides) x ≡ true → SpawnsLater makers z s → IsMainOf (j ++ b) (world_after (source_of p) b w t s) x
+          by before (ask.Spawn c) i g m = one (exec_eq x (main_of c)) refl g
             where
               one : (z : Bool) → exec_eq x (main_of c) ≡ z → (if z then true else ride_made (source_of p) (run_made (source_of p) input opts r) d.rides x) ≡ true → IsMainOf (j ++ b) (world_after (source_of p) b w t s) x
               one true v g =
                   let is : x ≡ main_of c = same_exec x (main_of c) v in
                   let y = child r f.0 o q t n s asked d f.1 on c i in
                   record { object = c; named = is; place = ap (λ (m : Exec). object_in (makers.seat m).place) is ∙ ap object_in m.seat; task = y.task; there = y.there; own = y.own }
-              one false v g = old_one g
-          by z i g m = old_one g
+              one false v g = old_one before g
+          by before z i g m = old_one before g
 
       -- so none of those that are still there at the end is one of a task whose object went
       pub run_ends : (homes : ℕ → Value) (asked : Exec → Bool) {j : Journal} {w : World} (r : Runs (source_of p) input opts j w) → RunFits (source_of p) input opts j w r → RunAlone (source_of p) input opts j w r → RunMeets EndsState (source_of p) input opts j w r → RunMeets (FindsAll (source_of p)) (source_of p) input opts j w r → is_over j ≡ false → RunMeets (MakesLater (source_of p) makers) (source_of p) input opts j w r → RunSpawnsLater makers (source_of p) input opts j w r → ((x : Exec) → asked x ≡ true → run_still (source_of p) input opts r x ≡ true) → RunEnds (with_homes homes makers) asked (source_of p) input opts r
@@ -379,7 +379,7 @@ module _ (p : Program) (formed : IsFormed p) (ok : breaks_of p ≡ []) where
           whole = more r o (acts q t i s z d)
 
           by : (y : Request) → z.request ≡ y → NoMainOf (with_homes homes makers) asked (now (with_homes homes makers) asked (ride_made (source_of p) (run_made (source_of p) input opts r) d.rides)) y
-          by (ask.Gone c) e x u g i =
+          by (ask.Gone c) e = λ x u g i.
               let up = now_asked makers asked (ride_made (source_of p) (run_made (source_of p) input opts r) d.rides) x u in
               let made : run_made (source_of p) input opts r x ≡ true = ride_old x g (run_made (source_of p) input opts r) d.rides l.1 (now_made makers asked (ride_made (source_of p) (run_made (source_of p) input opts r) d.rides) x u) in
               let y = task_of r f.0 o l.0 k.0 x made g in
