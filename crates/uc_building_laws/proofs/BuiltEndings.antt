@@ -1,10 +1,11 @@
 -- A clean-up that reads the variable that it ends finds what it is to find, where objects are built by what stands before their scopes.
 use Rattle.std.proofs.Common.{◌≡◌, ℕ, zero, suc, false, List, [], ◌∷◌, sym, subst}
 use Rattle.uc_tree.specs.Programs.{Program}
-use Rattle.uc_tree.specs.Source.{Source}
+use Rattle.uc_tree.specs.Source.{Expr, Source}
 use Rattle.uc_entry.specs.declared.entry.Options.{Options}
 use Rattle.uc_acts.specs.Journal.{Journal, is_over}
 use Rattle.uc_acts.specs.KernelRuns.{InRange}
+use Rattle.uc_machine.specs.Pieces.{Todo, Eval, LoadNow}
 use Rattle.uc_machine.specs.Quiet.{State}
 use Rattle.uc_machine.specs.Answering.{answered}
 use Rattle.uc_meaning.specs.Runs.{World, Runs, drawn, gives, no_room, acts, begun, more}
@@ -19,22 +20,25 @@ use Rattle.uc_typing.specs.Typing.{Table}
 use Rattle.uc_sound.specs.SoundFormed.{IsFormed}
 use Rattle.uc_sound.specs.Tables.{table_of}
 use Rattle.uc_life_laws.specs.Things.{Few}
-use Rattle.uc_life_laws.specs.Lives.{LivesState}
+use Rattle.uc_life_laws.specs.LifeStates.{OpensAtBy}
+use Rattle.uc_life_laws.specs.Lives.{OutwardsOrMade, LivesState}
 use Rattle.uc_life_laws.specs.Opened.{any}
 use Rattle.uc_life_laws.proofs.Endings as endings
 use Rattle.uc_life_laws.proofs.Endings.{Ending, there_opens, no_scope}
 use Rattle.uc_building_laws.specs.Building.{heads_of}
 use Rattle.uc_building_laws.specs.BuildingRuns.{BindsAnew, MeetsBuilding}
-use Rattle.uc_building_laws.specs.BuiltEndings.{BuildingOutside, BuildingIsMet, LawBuiltEndings}
+use Rattle.uc_building_laws.specs.BuildingLaws.{BuildsAt}
+use Rattle.uc_building_laws.specs.BuiltLasting.{FindsBuilt}
+use Rattle.uc_building_laws.specs.BuiltEndings.{BuildingOutside, BuildingIsMet, BuiltOutside, LawBuiltEndings}
 use Rattle.uc_building_laws.proofs.Worlds.{lives, law_built}
 
--- nothing is bound there
-binds_none : (t : Table) (few : Few) (n : ℕ) (s : State) → Ending t few (suc n) s → BindsAnew t s s.run.control
-binds_none t few zero s h = subst (BindsAnew t s) (sym h.3) tt
-binds_none t few (suc zero) s h = subst (BindsAnew t s) (sym h.3) tt
-binds_none t few (suc (suc zero)) s h = subst (BindsAnew t s) (sym h.3) tt
-binds_none t few (suc (suc (suc zero))) s h = subst (BindsAnew t s) (sym h.3) tt
-binds_none t few (suc (suc (suc (suc n)))) s h = absurd h
+-- what holds of what comes first on such a way holds where it is
+at_ending : (t : Table) (few : Few) (n : ℕ) (s : State) (P : List Todo → Type 0) → ((l : List Todo) → P (LoadNow ∷ l)) → ((a : Expr) (l : List Todo) → P (Eval a ∷ l)) → Ending t few (suc n) s → P s.run.control
+at_ending t few zero s P f g h = subst P (sym h.3) (f _)
+at_ending t few (suc zero) s P f g h = subst P (sym h.3) (g _ _)
+at_ending t few (suc (suc zero)) s P f g h = subst P (sym h.3) (g _ _)
+at_ending t few (suc (suc (suc zero))) s P f g h = subst P (sym h.3) (g _ _)
+at_ending t few (suc (suc (suc (suc n)))) s P f g h = absurd h
 
 module _ (p : Program) (formed : IsFormed p) (accepted : breaks_of p ≡ []) where
   abbrev source : Source
@@ -50,17 +54,26 @@ module _ (p : Program) (formed : IsFormed p) (accepted : breaks_of p ≡ []) whe
   met zero s m h = m
   met (suc n) s m h = record {
     opens = there_opens t any source n s h;
-    anew = binds_none t any n s h;
-    finds = λ x. (x, (endings.finds t any n s (lives p formed accepted s x) h, record {
+    anew = at_ending t any n s (BindsAnew t s) (λ l. tt) (λ a l. tt) h;
+    finds = λ x. (x, (endings.finds t any n s (lives p formed accepted any s x) h, record {
       fields = λ c rest todo e. no_scope t any n s h c rest todo e;
       arrays = λ c rest todo e. no_scope t any n s h c rest todo e;
     }));
   }
 
+  -- so it is with the numbers of what is told
+  pub built_met : (few : Few) (n : ℕ) (s : State) → BuiltOutside p few n s → Ending t few n s → FindsBuilt t (heads_of p) few source s
+  built_met few zero s m h = m
+  built_met few (suc n) s m h = λ x.
+      (x, endings.finds t few n s (lives p formed accepted few s x) h, at_ending t few n s (λ l. OpensAtBy t few (OutwardsOrMade x.0.sigs) l s) (λ l. tt) (λ a l. tt) h, record {
+        at = at_ending t few n s (λ l. BuildsAt t (heads_of p) few x.0.sigs source s l) (λ l. tt) (λ a l. tt) h;
+        joins = m.joins;
+      })
+
   module _ (input : List ℕ) (opts : Options) (range : InRange opts) where
     module _ (j : Journal) (w : World) (r : Runs source input opts j w) (f : RunFits source input opts j w r) (on : is_over j ≡ false) (m : RunMeets M source input opts j w r) (n : ℕ) where
       there : (s : State) (c : Comes source j w n s) → LeadsMeet M source (answered source c.given (drawn j w n)) s c.leads → LivesState t any s
-      there s c l = lives p formed accepted s (law_built.comes p formed accepted input opts range j w r f on m n s c l)
+      there s c l = lives p formed accepted any s (law_built.comes p formed accepted input opts range j w r f on m n s c l)
 
     ran : {j : Journal} {w : World} (r : Runs source input opts j w) → RunFits source input opts j w r → RunHolds (BuildingOutside t (heads_of p) source) source input opts j w r → RunMeets M source input opts j w r
     ran begun f o = tt

@@ -186,7 +186,7 @@ module _ (t : Table) (heads : ℕ → ℕ → Bool) (few : Few) where
       left_more (b ∷ given) K L m ps c i w z = z
 
       joined : BuildsBy t heads few gs (Left t given u.run) u → Stands t heads few gs u → S given u
-      joined b st = (y.0, lives, by_kinds t heads few gs y.0.sigs (Left t given u.run) (Left t given u.run) u (left_more given) more b, stands_by t heads few gs y.0.sigs u more st)
+      joined b st = (y.0, (lives, by_kinds t heads few gs y.0.sigs (Left t given u.run) (Left t given u.run) u (left_more given) more b, stands_by t heads few gs y.0.sigs u more st))
 
     asks : (r : Request) (u : State) → Walked u → BuildsAsk t heads few gs r u → AskedBy t few (FollowsOn J t few source s gs) (ClaimsEnv t few J) source r u → AskedBy t few S (ClaimsEnv t few J) source r u
     asks ask.End u h b y = y
@@ -200,7 +200,7 @@ module _ (t : Table) (heads : ℕ → ℕ → Bool) (few : Few) where
 
     -- another execution goes on, by kinds of its own
     stops : (GoesOn s.run.control s.run.raised → ⊥) → (step : Step) → OnlyFaults step → StepJoins s step → StepBy t few (Claimed J t few) (ClaimsEnv t few J) source step → StepBy t few S (ClaimsEnv t few J) source step
-    stops other (Goes u) only j y = (y.0, y.1.0, record { apart = y.1.1.apart; run = y.1.1.run; callers = y.1.1.callers }, others_stand s other t heads few y.0.sigs u u.run.control j)
+    stops other (Goes u) only j y = (y.0, (y.1.0, record { apart = y.1.1.apart; run = y.1.1.run; callers = y.1.1.callers }, others_stand s other t heads few y.0.sigs u u.run.control j))
     stops other (Ticks u) only j y = absurd only
     stops other (Asks (ask.Fault n) u) only j y = (y.0, tt)
     stops other (Asks r u) only j y = absurd only

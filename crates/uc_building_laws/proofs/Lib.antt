@@ -17,3 +17,5 @@ pub mod Constructors
 pub mod Worlds
 pub mod BuiltRuns
 pub mod BuiltEndings
+pub mod Fewer
+pub mod BuiltLasting

@@ -70,13 +70,13 @@ use Rattle.uc_life_laws.proofs.Laying.{laid_out}
 use Rattle.uc_life_laws.proofs.LifeSteps.{life_kept}
 use Rattle.uc_life_laws.proofs.LifeWorlds.{stack_told}
 use Rattle.uc_life_laws.proofs.Opened.{law_opens}
-use Rattle.uc_life_laws.proofs.OpenedRuns.{scope_there, run_more, lead_more}
+use Rattle.uc_life_laws.proofs.OpenedRuns.{scope_there}
 use Rattle.uc_life_laws.proofs.Parked.{Ex}
 use Rattle.uc_life_laws.proofs.WorldsBy as by
 use Rattle.uc_life_laws.proofs.WorldsBy.{KeepsBy}
 use Rattle.uc_building_laws.specs.Building.{heads_of}
 use Rattle.uc_building_laws.specs.BuildingStates.{variable, of_wait, BuildsBy, Stands, Left, Built, BuiltState}
-use Rattle.uc_building_laws.specs.BuildingLaws.{Fair}
+use Rattle.uc_building_laws.specs.BuiltLasting.{FindsBuilt}
 use Rattle.uc_building_laws.specs.BuildingRuns.{OthersHold, MeetsBuilding, LawBuilt}
 use Rattle.uc_building_laws.proofs.Building.{whole_built}
 use Rattle.uc_building_laws.proofs.Constructors.{fair}
@@ -93,13 +93,13 @@ module _ (source : Source) (opts : Options) (P Q : State → Type 0) where
     abbrev comes : (s : State) → Leads source start s → Comes source j w n s
     comes s l = record { given = given; processor = processor; runs = runs_on; told = told; leads = l }
 
-    ride_to : {s u : State} {q k : ℕ} {a : Asked} (l : Leads source start s) → LeadsMeet P source start s l → (d : Rides source s q u k a) → RideMeets P source s q u k a d → RideMeets Q source s q u k a d
+    pub ride_to : {s u : State} {q k : ℕ} {a : Asked} (l : Leads source start s) → LeadsMeet P source start s l → (d : Rides source s q u k a) → RideMeets P source s q u k a d → RideMeets Q source s q u k a d
     ride_to l m rides.slices h = tt
     ride_to l m (rides.goes_on {s} e d) h = (turn s (comes s l) m h.0, ride_to (goes_on P source l e) (goes_met P source l e m h.0) d h.1)
     ride_to l m (rides.ticks {s} e d) h = (turn s (comes s l) m h.0, ride_to (ticks_on P source l e) (ticks_met P source l e m h.0) d h.1)
     ride_to l m (rides.asks {s} e) h = turn s (comes s l) m h
 
-    lead_to : {s u : State} (l : Leads source start s) → LeadsMeet P source start s l → (d : Leads source s u) → LeadsMeet P source s u d → LeadsMeet Q source s u d
+    pub lead_to : {s u : State} (l : Leads source start s) → LeadsMeet P source start s l → (d : Leads source s u) → LeadsMeet P source s u d → LeadsMeet Q source s u d
     lead_to l m runs.stays h = tt
     lead_to l m (runs.goes {s} e d) h = (turn s (comes s l) m h.0, lead_to (goes_on P source l e) (goes_met P source l e m h.0) d h.1)
     lead_to l m (runs.ticks {s} e d) h = (turn s (comes s l) m h.0, lead_to (ticks_on P source l e) (ticks_met P source l e m h.0) d h.1)
@@ -124,7 +124,7 @@ module _ (p : Program) (formed : IsFormed p) (accepted : breaks_of p ≡ []) whe
   abbrev t : Table
   t = table_of p
 
-  abbrev Z : ℕ → ℕ → Type 0
+  abbrev pub Z : ℕ → ℕ → Type 0
   Z = Sized p
 
   sound : Sound t source
@@ -133,10 +133,10 @@ module _ (p : Program) (formed : IsFormed p) (accepted : breaks_of p ≡ []) whe
   main : IsTask t source.main
   main = law_mains p formed accepted source.main (of_program refl)
 
-  laid : IsLaidOut Z t
+  pub laid : IsLaidOut Z t
   laid = laid_out p formed accepted
 
-  known : SourceIn Z source
+  pub known : SourceIn Z source
   known = law_accepted p accepted
 
   -- all that is known, and what constructors have bound
@@ -145,10 +145,10 @@ module _ (p : Program) (formed : IsFormed p) (accepted : breaks_of p ≡ []) whe
     abbrev J : Exec → List Sig → Ex → Type 0
     J n gs x = Built t (heads_of p) few n gs x
 
-    abbrev S : List Ty → State → Type 0
+    abbrev pub S : List Ty → State → Type 0
     S given s = BuiltState t (heads_of p) few given s
 
-    abbrev P : Exec → Ex → Type 0
+    abbrev pub P : Exec → Ex → Type 0
     P n x = ClaimsSlot t few J n x
 
     -- of the running execution
@@ -172,28 +172,25 @@ module _ (p : Program) (formed : IsFormed p) (accepted : breaks_of p ≡ []) whe
 
     first : (r n : ℕ) → Claimed J t few [] (first_state (routine_of source r) n) → S [] (first_state (routine_of source r) n)
     first r n y =
-        (y.0, y.1.0, record { apart = y.1.1.apart; run = y.1.1.run; callers = y.1.1.callers }, (law_steps.begins t (heads_of p) few y.0.sigs source r n (begins_open p (slice_get source.routines r) (law_opened p r))).stands)
+        (y.0, (y.1.0, record { apart = y.1.1.apart; run = y.1.1.run; callers = y.1.1.callers }, (law_steps.begins t (heads_of p) few y.0.sigs source r n (begins_open p (slice_get source.routines r) (law_opened p r))).stands))
 
     -- a step finds what it is to find, in a state in which that is known
-    abbrev Follows : State → Type 0
-    Follows s = S [] s → (x : S [] s) × StackState Z s × Finds t few x.0.sigs x.0.run.sig x.0.run.scope s s.run.control x.0.run.own × OpensBy t few (OutwardsOrMade x.0.sigs) s × Fair t (heads_of p) few x.0.sigs source s
+    abbrev pub Follows : State → Type 0
+    Follows s = StackState Z s × FindsBuilt t (heads_of p) few source s
 
-    keeps : KeepsBy t few source (λ s. Unit {0}) S P Follows
+    pub keeps : KeepsBy t few source (λ s. Unit {0}) S P Follows
     keeps = record {
       hand = λ given s x. x.0.env.hand;
-      handed = λ given hand s x h. (record { sigs = x.0.sigs; frames = x.0.frames; run = x.0.run; callers = x.0.callers; env = record { house = x.0.env.house; hand = h } }, x.1.0, record { apart = x.1.1.apart; run = x.1.1.run; callers = x.1.1.callers }, x.1.2);
+      handed = λ given hand s x h. (record { sigs = x.0.sigs; frames = x.0.frames; run = x.0.run; callers = x.0.callers; env = record { house = x.0.env.house; hand = h } }, (x.1.0, record { apart = x.1.1.apart; run = x.1.1.run; callers = x.1.1.callers }, x.1.2));
       told = λ q a s x h i. answers.told t few S P operand member source q a s x h i;
       spawned = λ o n s x i. first (child_main source s.run.control) n (answers.begins t few J (built_kept t (heads_of p) few) source sound fresh_main (child_main source s.run.control) n x.0 i);
       begins = λ i. first source.main 0 (answers.begins t few J (built_kept t (heads_of p) few) source sound fresh_main source.main 0 main i);
-      steps = λ s clear m l x. let y = m x in law_kept.steps t (heads_of p) few source p sound laid s y.1 y.0 y.2 y.3 y.4;
+      steps = λ s clear m l x. let y = m.1 x in law_kept.steps t (heads_of p) few source p sound laid s m.0 y.0 y.1 y.2 y.3;
     }
 
-    module _ (input : List ℕ) (opts : Options) (range : InRange opts) (j : Journal) (w : World) (r : Runs source input opts j w) (fits : RunFits source input opts j w r) (on : is_over j ≡ false) (below : PassesBelow few opts j) (first_passes : MainPasses t few (t.routine source.main).this 0) (meets : RunMeets Follows source input opts j w r) where
-      world : by.KnownWorld t few source Z laid known (λ s. Unit {0}) (λ w. Unit {0}) S P Follows (nothing_beside t source S Follows) keeps j w
-      world = by.run_known t few source Z laid known (λ s. Unit {0}) (λ w. Unit {0}) S P Follows (nothing_beside t source S Follows) keeps input opts range r fits meets on below first_passes
-
-      built : (n : ℕ) (s : State) (c : Comes source j w n s) → LeadsMeet Follows source (answered source c.given (drawn j w n)) s c.leads → S [] s
-      built n s c l =
+    module _ (input : List ℕ) (opts : Options) (range : InRange opts) (j : Journal) (w : World) (r : Runs source input opts j w) (fits : RunFits source input opts j w r) (on : is_over j ≡ false) (world : by.KnownWorld t few source Z laid known (λ s. Unit {0}) (λ w. Unit {0}) S P Follows (nothing_beside t source S Follows) keeps j w) where
+      pub built_from : (n : ℕ) (s : State) (c : Comes source j w n s) → LeadsMeet Follows source (answered source c.given (drawn j w n)) s c.leads → S [] s
+      built_from n s c l =
           (by.led t few source Z laid known (λ s. Unit {0}) (λ w. Unit {0}) S P Follows (nothing_beside t source S Follows) keeps c.leads l (stack_told t few Z laid source known c.given j w n (stacked.world_rests Z source known input opts r)) (by.starts t few source Z laid known (λ s. Unit {0}) (λ w. Unit {0}) S P Follows (nothing_beside t source S Follows) keeps input opts range (run_rests source input opts range r fits on).kernel on world c.processor n c.given c.runs c.told)).known
 
   -- where numbers are not tested
@@ -205,13 +202,13 @@ module _ (p : Program) (formed : IsFormed p) (accepted : breaks_of p ≡ []) whe
   knows s x = plain t any (Built t (heads_of p) any) [] s x.0
 
   -- what is claimed of constructors is forgotten
-  pub lives_by : (n : Exec) (g : Stage) (x : Ex) → ClaimsBy t any (Built t (heads_of p) any) n g x → ClaimsBy t any (Lives t any) n g x
-  lives_by n Fresh x k = record { sigs = k.sigs; frames = k.frames; run = k.run; callers = k.callers; claim = k.claim.0 }
-  lives_by n Started x k = record { sigs = k.sigs; frames = k.frames; run = k.run; callers = k.callers; claim = k.claim.0 }
-  lives_by n Ended x k = tt
+  pub lives_by : (few : Few) (n : Exec) (g : Stage) (x : Ex) → ClaimsBy t few (Built t (heads_of p) few) n g x → ClaimsBy t few (Lives t few) n g x
+  lives_by few n Fresh x k = record { sigs = k.sigs; frames = k.frames; run = k.run; callers = k.callers; claim = k.claim.0 }
+  lives_by few n Started x k = record { sigs = k.sigs; frames = k.frames; run = k.run; callers = k.callers; claim = k.claim.0 }
+  lives_by few n Ended x k = tt
 
-  abbrev pub lives : (s : State) → B s → LivesState t any s
-  lives s x = (record { sigs = x.0.sigs; frames = x.0.frames; run = x.0.run; callers = x.0.callers; env = env_less (ClaimsSlot t any (Built t (heads_of p) any)) (ClaimsSlot t any (Lives t any)) (λ n y k. lives_by n y.links.stage y k) s.env x.0.env }, x.1.0)
+  abbrev pub lives : (few : Few) (s : State) → BuiltState t (heads_of p) few [] s → LivesState t few s
+  lives few s x = (record { sigs = x.0.sigs; frames = x.0.frames; run = x.0.run; callers = x.0.callers; env = env_less (ClaimsSlot t few (Built t (heads_of p) few)) (ClaimsSlot t few (Lives t few)) (λ n y k. lives_by few n y.links.stage y k) s.env x.0.env }, x.1.0)
 
   -- objects hold what is known where a scope opens
   objects : (s : State) (x : B s) → OthersHold t (heads_of p) any x.0.sigs s → ObjectsOpen t x.0.sigs s
@@ -238,23 +235,24 @@ module _ (p : Program) (formed : IsFormed p) (accepted : breaks_of p ≡ []) whe
 
   module _ (input : List ℕ) (opts : Options) (range : InRange opts) where
     follows : (j : Journal) (w : World) (r : Runs source input opts j w) → RunFits source input opts j w r → is_over j ≡ false → RunMeets M source input opts j w r → (n : ℕ) (s : State) (c : Comes source j w n s) → LeadsMeet M source (answered source c.given (drawn j w n)) s c.leads → M s → Follows any s
-    follows j w r f on m n s c l h z =
-        let y = h.finds z in
+    follows j w r f on m n s c l h =
         let st : StackState Z s = (stacked.law_frame_runs p accepted input opts j w r).comes n s c in
-        let good : GoodBy Any s = (value_runs.law_runs p accepted input opts range j w r f on (run_more M (there.Opens source) (λ s x. x.opens) source input opts r m)).comes n s c (lead_more M (there.Opens source) (λ s x. x.opens) source c.leads l) in
-        (y.0, st, y.1.0, opens s y.0 st h.opens good y.1.1, fair p formed accepted any s (knows s y.0) h.anew (called.comes p formed accepted input opts range j w r f on n s c))
+        let good : GoodBy Any s = (value_runs.law_runs p accepted input opts range j w r f on (run_to source opts M (there.Opens source) input (λ j w r f on m n s c l h. h.opens) r f m)).comes n s c (lead_to source opts M (there.Opens source) j w n c.given c.processor c.runs c.told (λ s c l h. h.opens) runs.stays tt c.leads l) in
+        (st, λ z.
+            let y = h.finds z in
+            (y.0, y.1.0, opens s y.0 st h.opens good y.1.1, fair p formed accepted any s (knows s y.0) h.anew (called.comes p formed accepted input opts range j w r f on n s c)))
 
     module _ (j : Journal) (w : World) (r : Runs source input opts j w) (f : RunFits source input opts j w r) (on : is_over j ≡ false) (m : RunMeets M source input opts j w r) where
       here : (n : ℕ) (s : State) (c : Comes source j w n s) → LeadsMeet M source (answered source c.given (drawn j w n)) s c.leads → B s
       here n s c l =
-          built any input opts range j w r f on (record { objects = λ c n l. refl; raws = λ c n l. refl; clusters = λ n l. refl; processors = λ n l. refl }) (main_numbered t (λ a o. true) (t.routine source.main).this 0 (λ c. refl)) (run_to source opts M (Follows any) input follows r f m) n s c (lead_to source opts M (Follows any) j w n c.given c.processor c.runs c.told (follows j w r f on m n) runs.stays tt c.leads l)
+          built_from any input opts range j w r f on (by.run_known t any source Z laid known (λ s. Unit {0}) (λ w. Unit {0}) (S any) (P any) (Follows any) (nothing_beside t source (S any) (Follows any)) (keeps any) input opts range r f (run_to source opts M (Follows any) input follows r f m) on (record { objects = λ c n l. refl; raws = λ c n l. refl; clusters = λ n l. refl; processors = λ n l. refl }) (main_numbered t (λ a o. true) (t.routine source.main).this 0 (λ c. refl))) n s c (lead_to source opts M (Follows any) j w n c.given c.processor c.runs c.told (follows j w r f on m n) runs.stays tt c.leads l)
 
       met : (n : ℕ) (s : State) (c : Comes source j w n s) → LeadsMeet M source (answered source c.given (drawn j w n)) s c.leads → M s → MeetsObjects t source s
       met n s c l h = record {
         opens = h.opens;
         finds = λ z.
             let y = h.finds (here n s c l) in
-            (lives s y.0, y.1.0, objects s y.0 y.1.1);
+            (lives any s y.0, (y.1.0, objects s y.0 y.1.1));
       }
 
       led : (n : ℕ) (s : State) (c : Comes source j w n s) → LeadsMeet M source (answered source c.given (drawn j w n)) s c.leads → LeadsMeet (MeetsObjects t source) source (answered source c.given (drawn j w n)) s c.leads

@@ -19,6 +19,9 @@ use Rattle.uc_sound.specs.SoundFormed.{IsFormed}
 use Rattle.uc_sound.specs.Tables.{table_of}
 use Rattle.uc_building_laws.specs.Building.{heads_of}
 use Rattle.uc_building_laws.specs.BuildingRuns.{MeetsBuilding}
+use Rattle.uc_building_laws.specs.BuiltLasting.{FindsBuilt}
+use Rattle.uc_place_laws.specs.OpeningLaws.{IsCalled}
+use Rattle.uc_life_laws.specs.Things.{Few}
 
 -- a step finds what it is to find, but in the four states from which a clean-up comes to the variable that it ends, and reads it
 abbrev pub BuildingOutside : Table → (ℕ → ℕ → Bool) → Source → ℕ → State → Type 0
@@ -41,3 +44,9 @@ LawBuiltEndings =
     RunFits (source_of p) input opts j w r → is_over j ≡ false →
     RunHolds (BuildingOutside (table_of p) (heads_of p) (source_of p)) (source_of p) input opts j w r →
     BuildingIsMet (table_of p) (heads_of p) (source_of p) input opts j w r
+
+-- where other numbers are told: there a step finds what LawKept asks, and in those states what is called where the scope of an object opens next is its
+-- constructor
+abbrev pub BuiltOutside : Program → Few → ℕ → State → Type 0
+BuiltOutside p few zero s = FindsBuilt (table_of p) (heads_of p) few (source_of p) s
+BuiltOutside p few (suc n) s = IsCalled p (source_of p) s

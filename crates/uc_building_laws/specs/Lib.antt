@@ -4,4 +4,5 @@ pub mod BuildingLaws
 pub mod BuildingRuns
 pub mod BuiltRuns
 pub mod BuiltEndings
+pub mod BuiltLasting
 pub mod Awaiting

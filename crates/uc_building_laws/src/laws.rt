@@ -4,6 +4,7 @@ ghost use Rattle.uc_building_laws.specs.Awaiting.{LawAwaited};
 ghost use Rattle.uc_building_laws.specs.BuildingLaws.{LawClears, LawKept, LawSteps};
 ghost use Rattle.uc_building_laws.specs.BuildingRuns.{LawBuilt, LawHeads};
 ghost use Rattle.uc_building_laws.specs.BuiltEndings.{LawBuiltEndings};
+ghost use Rattle.uc_building_laws.specs.BuiltLasting.{LawBuiltLasting};
 ghost use Rattle.uc_building_laws.specs.BuiltRuns.{LawBuiltRuns};
 
 /// Of an object whose scope opens behind its constructor, each field in which something is bound holds
@@ -50,6 +51,12 @@ pub fn law_built()
 /// nothing is asked.
 pub fn law_built_endings()
     ensures { LawBuiltEndings }
+{}
+
+/// Where nobody has at hand what has gone, what constructors have bound is not gone: in each such run, as far
+/// as each step found what it was to find with the numbers of what is not gone.
+pub fn law_built_lasting()
+    ensures { LawBuiltLasting }
 {}
 
 /// So in each such run of a program within its limits, as long as all that was asked before fits: all is

@@ -101,7 +101,7 @@ module _ (p : Program) (formed : IsFormed p) (accepted : breaks_of p ≡ []) whe
     anew = h.1.anew;
     finds = λ x.
         let y = h.1.reads x in
-        (y.0, (found (table_of p) (λ a o. true) (source_of p) (law_sound p formed accepted) s new (lives p formed accepted s y.0) y.1.0, others_hold (table_of p) (heads_of p) y.0.0.sigs s y.1.1));
+        (y.0, (found (table_of p) (λ a o. true) (source_of p) (law_sound p formed accepted) s new (lives p formed accepted any s y.0) y.1.0, others_hold (table_of p) (heads_of p) y.0.0.sigs s y.1.1));
   }
   builds (suc n) s new h = tt
 
