@@ -34,7 +34,7 @@ inside_both t owns h (own_field k i f o) = own_field (inside_both t owns h k) i 
 inside_both t owns h (own_element k j l) = own_element (inside_both t owns h k) j l
 
 -- what lies in one place lies in the same memory
-inside_place : (t : Table) (owns : Owns) (o : Owner) (p : List Link) {a : Ty} {v : Value} {b : Ty} → Inside t owns (Place o p) a v b → (x : List Link) × (v ≡ Place o x)
+pub inside_place : (t : Table) (owns : Owns) (o : Owner) (p : List Link) {a : Ty} {v : Value} {b : Ty} → Inside t owns (Place o p) a v b → (x : List Link) × (v ≡ Place o x)
 inside_place t owns o p all_of_it = (p, refl)
 inside_place t owns o p (own_field {c = c} h i f q) = let k = inside_place t owns o p h in (FieldAt (t.shape c) i ∷ k.0, ap (further (FieldAt (t.shape c) i)) k.1)
 inside_place t owns o p (own_element {b = b} h j l) = let k = inside_place t owns o p h in (At (element_shape t b) j ∷ k.0, ap (further (At (element_shape t b) j)) k.1)
