@@ -3,4 +3,5 @@ pub mod BuildingStates
 pub mod BuildingLaws
 pub mod BuildingRuns
 pub mod BuiltRuns
+pub mod BuiltEndings
 pub mod Awaiting

@@ -157,7 +157,7 @@ module _ (p : Program) (formed : IsFormed p) (ok : breaks_of p ≡ []) (few : Fe
           spawned = subst (λ m. RunSpawnsLater m source input opts j w r) birth.1 birth.0.spawned;
           rides = subst (λ m. RideMeets (MakesLater source m) source (answered source d.given (drawn j w u)) (left opts j u) s n asked d.rides) birth.1 birth.0.rides;
         } in
-        let before = law_before_rides (table_of p) few own yet (source_of p) input opts j w r range fits on zero mine (run_leaves p formed ok input opts range r fits lone) (run_spares p formed ok few input opts range r fits lone fair reads) (law_finding.runs_bind p formed ok few input opts range j w r fits fair) found.calls found.finds (law_runs.runs p formed ok few input opts range j w r fits fair) (law_calls_runs.runs p formed ok few places input opts range j w r fits below first met fair).0 q u n s asked d (ride_map (put.Stands p (setting_of p few)) (BindsOwn (source_of p)) (λ v x. law_finding.binds few (source_of p) v (law_own_places.states (setting_of p few) v x.put)) d.rides stands) (ride_map (λ v. FindsAll (source_of p) v × CallsNoMain (source_of p) v) (CallsNoMain (source_of p)) (λ v x. x.1) d.rides finds) (ride_map (λ v. FindsAll (source_of p) v × CallsNoMain (source_of p) v) (FindsAll (source_of p)) (λ v x. x.0) d.rides finds) (ride_map (put.Stands p (setting_of p few)) (Puts (table_of p) few) (λ v x. law_puts (setting_of p few) v x.put) d.rides stands) (ride_calls p formed ok few places d.rides meets fairs there begins) births homes (law_kept_parts.runs (source_of p) (special_of p) births.makers homes (way_still (source_of p) input opts r d) input opts j w r (law_parts_runs.runs p formed ok homes input opts range j w r fits (λ o. refl)) births.made births.spawned (law_naming.runs (source_of p) births.makers homes input opts j w r q u n s asked d k.kept)) (law_kept_parts.ride (source_of p) (special_of p) births.makers homes (way_still (source_of p) input opts r d) (run_made (source_of p) input opts r) d.rides (law_parts_runs.rides p formed ok homes input opts range j w r fits (λ o. refl) on q u n s asked d) births.rides (law_naming.ride (source_of p) births.makers homes input opts j w r q u n s asked d k.keeps)) k.rooted in
+        let before = law_before_rides (table_of p) few own yet (source_of p) input opts j w r range fits on zero mine (run_leaves p formed ok input opts range r fits lone) (run_spares p formed ok few input opts range r fits lone fair reads) (law_finding.runs_bind p formed ok few input opts range j w r fits fair) found.calls found.finds (law_runs.runs p formed ok few input opts range j w r fits fair) (law_calls_runs.runs p formed ok few places input opts range j w r fits below first met fair).0 q u n s asked d (ride_map (put.Stands p (setting_of p few)) (BindsOwn (source_of p)) (λ v x. law_finding.binds few (source_of p) v (law_own_places.states (setting_of p few) v x.put)) d.rides stands) (ride_map (λ v. FindsAll (source_of p) v × CallsNoMain (source_of p) v) (CallsNoMain (source_of p)) (λ v x. x.1) d.rides finds) (ride_map (λ v. FindsAll (source_of p) v × CallsNoMain (source_of p) v) (FindsAll (source_of p)) (λ v x. x.0) d.rides finds) (ride_map (put.Stands p (setting_of p few)) (Puts (table_of p) few) (λ v x. law_puts (setting_of p few) v x.put) d.rides stands) (ride_calls p formed ok few places d.rides meets fairs there begins) births homes (law_kept_parts.runs (source_of p) (special_of p) births.makers homes (way_still (source_of p) input opts r d) input opts j w r (law_parts_runs.runs p formed ok homes input opts range j w r fits (λ o. refl)) births.made births.spawned (law_naming.runs (source_of p) births.makers homes input opts j w r q u n s asked d k.kept)) k.ends (law_kept_parts.ride (source_of p) (special_of p) births.makers homes (way_still (source_of p) input opts r d) (run_made (source_of p) input opts r) d.rides (law_parts_runs.rides p formed ok homes input opts range j w r fits (λ o. refl) on q u n s asked d) births.rides (law_naming.ride (source_of p) births.makers homes input opts j w r q u n s asked d k.keeps)) k.rooted in
         ride_told j w u (Upwards j w u (way_makers (source_of p) input opts r d)) d.rides before (ride_spares p formed ok few input opts range r fits lone fair reads on q u n s asked d fairs names) (ride_known d.rides meets there)
 
     along : (j : Journal) (w : World) (r : Runs (source_of p) input opts j w) → RunFits (source_of p) input opts j w r → is_over j ≡ false → PassesBelow few opts j → RunMeets (Meets (table_of p) few) (source_of p) input opts j w r → RunMeets (Fair (setting_of p few)) (source_of p) input opts j w r → RunMeets (ReadsOthers few) (source_of p) input opts j w r → RunMeets (StepApart (table_of p) few (source_of p)) (source_of p) input opts j w r → (q u n : ℕ) (s : State) (asked : Asked) (d : AsksIn (source_of p) opts j w q u n s asked) → RideMeets (Meets (table_of p) few) (source_of p) (answered (source_of p) d.given (drawn j w u)) (left opts j u) s n asked d.rides → RideMeets (Fair (setting_of p few)) (source_of p) (answered (source_of p) d.given (drawn j w u)) (left opts j u) s n asked d.rides → RideMeets (ReadsOthers few) (source_of p) (answered (source_of p) d.given (drawn j w u)) (left opts j u) s n asked d.rides → (k : IsKeptTo (table_of p) few own yet (source_of p) input opts j w r q u n s asked d) → RideMeets (StepApart (table_of p) few (source_of p)) (source_of p) (answered (source_of p) d.given (drawn j w u)) (left opts j u) s n asked d.rides × RideMeets (Upwards j w u (way_makers (source_of p) input opts r d)) (source_of p) (answered (source_of p) d.given (drawn j w u)) (left opts j u) s n asked d.rides

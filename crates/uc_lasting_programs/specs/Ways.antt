@@ -30,6 +30,7 @@ use Rattle.uc_running_laws.specs.OtherNames.{ReadsOthers}
 use Rattle.uc_putting_laws.specs.PuttingLaws.{setting_of, Fair}
 use Rattle.uc_request_laws.specs.ApartRuns.{StepApart}
 use Rattle.uc_rooted_runs.specs.OutlastRuns.{with_homes, run_made}
+use Rattle.uc_rooted_runs.specs.KeptRuns.{RunEnds}
 use Rattle.uc_rooted_runs.specs.Still.{way_still}
 use Rattle.uc_parts_laws.specs.Naming.{RideNamesOwn, RunNamesOwn}
 use Rattle.uc_making_laws.specs.Upheld.{way_makers}
@@ -42,6 +43,7 @@ module _ (t : Table) (few : Few) (own : Exec → Value → Ty → Bool) (yet : E
   -- it, where coroutines that are forgotten name their executions, and what those that live have of others was among it, where an object goes or is given up, or an event is raised at one
   pub record IsKeptTo (j : Journal) (w : World) (r : Runs source input opts j w) (p u n : ℕ) (s : State) (q : Asked) (d : AsksIn source opts j w p u n s q) : Type 0 where
     pub kept : RunNamesOwn (with_homes (home_of source input opts j w r) (way_makers source input opts r d)) (way_still source input opts r d) source input opts r
+    pub ends : RunEnds (with_homes (home_of source input opts j w r) (way_makers source input opts r d)) (way_still source input opts r d) source input opts r
     pub keeps : RideNamesOwn (with_homes (home_of source input opts j w r) (way_makers source input opts r d)) (way_still source input opts r d) source (run_made source input opts r) d.rides
     pub rooted : RideMeets (λ v. RootedOnWay t few own yet (with_homes (home_of source input opts j w r) (way_makers source input opts r d)) j w u v source) source (answered source d.given (drawn j w u)) (left opts j u) s n q d.rides
 

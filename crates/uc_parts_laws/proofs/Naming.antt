@@ -85,14 +85,12 @@ ride_forgets source still (asks {s} i) todo x c n e = no_both (still_behind s st
 module _ (source : Source) (seats : Seating) (up : Exec → Bool) (s : State) (never : (todo : List Todo) (vs : List Value) → quiet.quiet source s ≡ Goes (at (ForgetNow ∷ todo) vs s) → (x : Exec) → up x ≡ true → IsNamed x s → ⊥) where
   -- so nobody is named where a coroutine is forgotten next
   by_clean : (c : CleanUp) (todo : List Todo) (vs : List Value) → quiet.quiet source s ≡ Goes (at (piece.clean_todo c todo) vs s) → NamesBy source seats up c s → ForgetsBy source seats up c s
-  by_clean src.Forgets todo vs e h = λ x own i. never todo vs e x own.0 (h x own i)
-  by_clean src.Ends todo vs e h = h
+  by_clean src.Forgets todo vs e h = λ x own t i. never todo vs e x own.0 (h x own t i)
   by_clean (src.Destroys a) todo vs e h = h
   by_clean c todo vs e h = tt
 
   by_scope : (c : CleanUp) (b : Bool) (todo : List Todo) → quiet.quiet source s ≡ raising.scope_left c b todo s → NamesBy source seats up c s → ForgetsBy source seats up c s
   by_scope src.Forgets b todo e h = by_clean src.Forgets (piece.Unwind ∷ todo) [] e h
-  by_scope src.Ends b todo e h = h
   by_scope (src.Destroys a) b todo e h = h
   by_scope c b todo e h = tt
 
