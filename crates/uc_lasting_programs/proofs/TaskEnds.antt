@@ -267,7 +267,7 @@ module _ (p : Program) (formed : IsFormed p) (ok : breaks_of p ≡ []) where
     ended (more {j} {w} r o (acts q t n s asked d)) f al m n' on v e =
         by (λ v g. ended r f.0 al.0 m.0 n'.0 o v g) (ended_by v opts (source_of p).sites input j q t n asked on e)
       where
-        abbrev b : List Entry
+        b : List Entry
         b = act opts (source_of p).sites input j q t n asked
 
         stand : StandsState (part_of p) (source_of p) (own_object t j) (answered (source_of p) d.given (drawn j w t))
