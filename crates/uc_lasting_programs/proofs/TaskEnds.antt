@@ -283,7 +283,7 @@ module _ (p : Program) (formed : IsFormed p) (ok : breaks_of p ≡ []) where
         no_more x h =
             not_true _ (λ g. no_both (run_still (source_of p) input opts r x) (ride_before (source_of p) (run_still (source_of p) input opts r) d.rides x (asked_before asked.request s (ride_still (source_of p) (run_still (source_of p) input opts r) d.rides) x g)) h)
 
-        abbrev Claim : Type 0
+        Claim : Type 0
         Claim = (v < task_count (j ++ b)) × (still_asked asked.request s (ride_still (source_of p) (run_still (source_of p) input opts r) d.rides) (main_of ((world_after (source_of p) b w t s).tasks v).env.own) ≡ false)
 
         by : ((v : ℕ) → has_ended v j ≡ true → (v < task_count j) × (run_still (source_of p) input opts r (main_of (w.tasks v).env.own) ≡ false)) → (has_ended v j ≡ true) ⊎ Asker v t asked.request → Claim
