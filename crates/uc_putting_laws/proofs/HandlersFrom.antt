@@ -12,6 +12,15 @@ use Rattle.uc_putting_laws.specs.Calling.{PlaceAt, Binds, CallsAt, MakesAt, Make
 use Rattle.uc_putting_laws.proofs.CleanedSpots.{some_one, over_spot}
 use Rattle.uc_putting_laws.proofs.SpotRooms.{variable_one, cleaned_between, own_part}
 
+-- what opens next behind a statement
+data Near : Type 0 where
+  Nothing_near : Near
+  Near_by : Stmts → Near
+
+abbrev site_of : Table → Near → Site → Type 0
+site_of t Nothing_near x = NoSite x
+site_of t (Near_by ss) x = OpensFor t ss x
+
 -- a variable from a cell on
 
 new_from : (low k : ℕ) (e : Expr) → IsNew low e → place_spot e ≡ Some (OfVariable k) → low ≤ k
@@ -150,28 +159,28 @@ module _ (Z : ℕ → ℕ → Type 0) (t : Table) (source : Source) (special : �
   inner_low o m w le = let low = w.low in omega (arith, le, low)
 
   mutual
-    stmt : (P : Site → Type 0) → Lasts P → (o : Room) → IsRoom o → x ≤ o.low → (a : Stmt) → StmtIn Z o a → CallingStmt t source special P Old a → CallingStmt t source special P New a
-    stmt P f o i le (src.Skip line) n h = h
-    stmt P f o i le (src.Block line body) n h = stmts o i le body n.0 h
-    stmt P f o i le (src.Whole line body) n h = stmts o i le body n.0 h
-    stmt P f o i le (src.Evaluate line e) n h = evaluates P f o.low e le n h
-    stmt P f o i le (src.Declare line ds) n h = h
-    stmt P f o i le (src.Print line items) n h = h
-    stmt P f o i le (src.PrintTogether line items) n h = h
-    stmt P f o i le (src.Read line xs) n h = h
-    stmt P f o i le (src.If line e a b) n h = (h.0, stmt NoSite none_lasts o i le a n.1 h.1, stmt NoSite none_lasts o i le b n.2 h.2)
-    stmt P f o i le (src.Loop line order e step b) n h = (h.0, h.1, stmt NoSite none_lasts o i le b n.2 h.2)
-    stmt P f o i le (src.Break line) n h = h
-    stmt P f o i le (src.Continue line) n h = h
-    stmt P f o i le (src.Return line e) n h = h
-    stmt P f o i le (src.Owes line) n h = h
-    stmt P f o i le (src.Fill line n b d) l h = (fills P f o.low b le l.0 h.0, sweeps P f d h.1)
-    stmt P f o i le (src.OfEvents a) n h = event o i le a n h
-    stmt P f o i le (src.OfTasks a) n h = task o i le a n h
+    stmt : (q : Near) → Lasts (site_of t q) → (o : Room) → IsRoom o → x ≤ o.low → (a : Stmt) → StmtIn Z o a → CallingStmt t source special (site_of t q) Old a → CallingStmt t source special (site_of t q) New a
+    stmt q f o i le (src.Skip line) n h = h
+    stmt q f o i le (src.Block line body) n h = stmts o i le body n.0 h
+    stmt q f o i le (src.Whole line body) n h = stmts o i le body n.0 h
+    stmt q f o i le (src.Evaluate line e) n h = evaluates (site_of t q) f o.low e le n h
+    stmt q f o i le (src.Declare line ds) n h = h
+    stmt q f o i le (src.Print line items) n h = h
+    stmt q f o i le (src.PrintTogether line items) n h = h
+    stmt q f o i le (src.Read line xs) n h = h
+    stmt q f o i le (src.If line e a b) n h = (h.0, stmt Nothing_near none_lasts o i le a n.1 h.1, stmt Nothing_near none_lasts o i le b n.2 h.2)
+    stmt q f o i le (src.Loop line order e step b) n h = (h.0, h.1, stmt Nothing_near none_lasts o i le b n.2 h.2)
+    stmt q f o i le (src.Break line) n h = h
+    stmt q f o i le (src.Continue line) n h = h
+    stmt q f o i le (src.Return line e) n h = h
+    stmt q f o i le (src.Owes line) n h = h
+    stmt q f o i le (src.Fill line n b d) l h = (fills (site_of t q) f o.low b le l.0 h.0, sweeps (site_of t q) f d h.1)
+    stmt q f o i le (src.OfEvents a) n h = event o i le a n h
+    stmt q f o i le (src.OfTasks a) n h = task o i le a n h
 
     stmts : (o : Room) → IsRoom o → x ≤ o.low → (ss : Stmts) → StmtsIn Z o ss → CallingStmts t source special Old ss → CallingStmts t source special New ss
     stmts o i le src.Nil n h = h
-    stmts o i le (src.Then a rest) n h = (stmt (OpensFor t rest) (opens_lasts o rest le n.1) o i le a n.0 h.0, stmts o i le rest n.1 h.1)
+    stmts o i le (src.Then a rest) n h = (stmt (Near_by rest) (opens_lasts o rest le n.1) o i le a n.0 h.0, stmts o i le rest n.1 h.1)
     stmts o i le (src.Scoped c rest) n h =
         (cleans o.low n.0.low c le n.2.0 h.0, stmts n.0 (within_room o n.0 i n.1) (inner_low o n.0 n.1 le) rest n.3 h.1)
     stmts o i le (src.Built c rest) n h = (built c n.0 h.0, stmts o i le rest n.1 h.1)
@@ -182,12 +191,12 @@ module _ (Z : ℕ → ℕ → Type 0) (t : Table) (source : Source) (special : �
     event o i le (src.Try line body hs) n h =
         (stmts n.0 (within_room o n.0 i n.2) (inner_low o n.0 n.2 le) body n.5 h.0, handlers n.1 (within_room o n.1 i n.3) (inner_low o n.1 n.3 le) hs n.6 h.1)
     event o i le (src.RaiseAt line r e) n h = (raises o r i le n.0 h.0, h.1)
-    event o i le (src.Enable line events cell a) n h = stmt NoSite none_lasts n.0 (within_room o n.0 i n.1) (inner_low o n.0 n.1 le) a n.3 h
-    event o i le (src.Disable line events cell a) n h = stmt NoSite none_lasts n.0 (within_room o n.0 i n.1) (inner_low o n.0 n.1 le) a n.3 h
+    event o i le (src.Enable line events cell a) n h = stmt Nothing_near none_lasts n.0 (within_room o n.0 i n.1) (inner_low o n.0 n.1 le) a n.3 h
+    event o i le (src.Disable line events cell a) n h = stmt Nothing_near none_lasts n.0 (within_room o n.0 i n.1) (inner_low o n.0 n.1 le) a n.3 h
 
     pub handlers : (o : Room) → IsRoom o → x ≤ o.low → (hs : Handlers) → HandlersIn Z o hs → CallingHandlers t source special Old hs → CallingHandlers t source special New hs
     handlers o i le src.NoHandlers n h = h
-    handlers o i le (src.MoreHandlers resumes event cell line body rest) n h =
+    handlers o i le (src.MoreHandlers resumes name cell line body rest) n h =
         (stmts n.0 (within_room o n.0 i n.1) (inner_low o n.0 n.1 le) body n.4 h.0, handlers o i le rest n.5 h.1)
 
     task : (o : Room) → IsRoom o → x ≤ o.low → (a : TaskStmt) → TaskIn Z o a → CallingTask t source special Old a → CallingTask t source special New a
@@ -197,5 +206,5 @@ module _ (Z : ℕ → ℕ → Type 0) (t : Table) (source : Source) (special : �
 
     clauses : (o : Room) → IsRoom o → x ≤ o.low → (cs : Clauses) → ClausesIn Z o cs → CallingClauses t source special Old cs → CallingClauses t source special New cs
     clauses o i le src.NoClauses n h = h
-    clauses o i le (src.Otherwise b) n h = stmt NoSite none_lasts o i le b n h
-    clauses o i le (src.MoreClauses guard b cs) n h = (h.0, stmt NoSite none_lasts o i le b n.1 h.1, clauses o i le cs n.2 h.2)
+    clauses o i le (src.Otherwise b) n h = stmt Nothing_near none_lasts o i le b n h
+    clauses o i le (src.MoreClauses guard b cs) n h = (h.0, stmt Nothing_near none_lasts o i le b n.1 h.1, clauses o i le cs n.2 h.2)

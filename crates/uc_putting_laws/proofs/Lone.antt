@@ -219,14 +219,13 @@ module _ (Z : ℕ → ℕ → Type 0) (g : Setting) (laid : IsLaidOut Z g.table)
 
   at_past : (k : ℕ) (todo : List Todo) (x : Site) → made.low ≤ k → Left g (here s) made todo → Past k todo x → IsPast g (here s) made todo k x
   at_past k todo x i code p =
-      let low = p.low in
-      record {
-        cell = p.cell;
-        low = omega (arith, i, low);
-        guards = guards_from Z g p.cell p.cell made.low todo (omega arith) p.guards (guards_left g (here s) made todo code);
-        above = searched Z g s.env.exec p.cell st.stack.0.top s.run.handles s.run.frame s.callers p.high (marks.waits_left g s.env.exec s.callers callers) st.stack.0.beyond;
-        past = p.past;
-      }
+      let low = p.low in (
+        p.cell,
+        omega (arith, i, low),
+        guards_from Z g p.cell p.cell made.low todo (omega arith) p.guards (guards_left g (here s) made todo code),
+        searched Z g s.env.exec p.cell st.stack.0.top s.run.handles s.run.frame s.callers p.high (marks.waits_left g s.env.exec s.callers callers) st.stack.0.beyond,
+        p.past,
+      )
 
   spot_behind : (p : Spot) (todo : List Todo) (x : Site) → IsOf made p → Left g (here s) made todo → ((k : ℕ) → p ≡ OfVariable k → Past k todo x) → ((h : src.Shape) (i : ℕ) → p ≡ OfField h i → MayHold g.table x → HasSome x → HoldsObjects g.table made.class) → BehindBy g (here s) made todo p x
   spot_behind (OfVariable k) todo x i code past class = at_past k todo x i code (past k refl)
@@ -306,7 +305,7 @@ module _ (Z : ℕ → ℕ → Type 0) (g : Setting) (laid : IsLaidOut Z g.table)
   -- all handlers of its frame name other variables than those that older activations have to clean up
   built_behind : (p : Spot) (k : ℕ) (todo : List Todo) (x : Site) → p ≡ OfVariable k → Left g (here s) made todo → (MayHold g.table x → ⊥) → BehindBy g (here s) made todo p x
   built_behind (OfVariable j) k todo x y code none =
-      record { cell = made.low; low = omega arith; guards = guards_left g (here s) made todo code; above = this.after; past = λ m e. absurd (none m) }
+      (made.low, omega arith, guards_left g (here s) made todo code, this.after, λ m e. absurd (none m))
   built_behind (OfField h j) k todo x y code none = absurd (no_variable_field k h j (sym y))
 
   raised_lone : (a : EventStmt) (r : Raised) (todo : List Todo) → s.run.control ≡ piece.Do (src.OfEvents a) ∷ todo → ((k : ℕ) → BuiltIn Z k r → EventIn Z k a) → RaisesBy g.table g.source g.special made r → Left g (here s) made todo → BuildsAt g (here s) made r (Lones g (here s) made todo)

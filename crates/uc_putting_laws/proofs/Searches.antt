@@ -1,5 +1,5 @@
 -- Handlers that a search finds: their code, by the rooms of what is to do, and that a search which goes on from one comes to what the search for it came to.
-use Rattle.std.proofs.Common.{◌≡◌, ℕ, suc, ◌+◌, ◌<◌, ◌≤◌, ◌⊎◌, inl, inr, Bool, true, false, ◌&&◌, List, [], ◌∷◌, length, Option, Some, None, refl, sym, ◌∙◌, subst, arith}
+use Rattle.std.proofs.Common.{◌≡◌, ℕ, suc, ◌+◌, ◌<◌, ◌≤◌, ◌⊎◌, inl, inr, Bool, true, false, ◌&&◌, List, [], ◌∷◌, length, Option, Some, None, refl, sym, ap, ◌∙◌, subst, arith}
 use Rattle.std.specs.Prelude.{nat_eq, if◌then◌else◌}
 use Rattle.std.proofs.lemmas.Bool.{eqb-true, eq-eqb}
 use Rattle.uc_tree.specs.Source as src
@@ -15,7 +15,7 @@ use Rattle.uc_state_laws.specs.RoomStacks.{GuardFrom, GuardsFrom, AboveAt, Above
 use Rattle.uc_place_laws.proofs.AsideKeeping.{either}
 use Rattle.uc_putting_laws.specs.CleanedSpots.{Reach, from_variable}
 use Rattle.uc_putting_laws.specs.Calling.{CallingStmts, CallingHandlers}
-use Rattle.uc_putting_laws.specs.Seats.{GuardCode, GuardsCode, SearchedAt, Searched}
+use Rattle.uc_putting_laws.specs.Seats.{GuardBy, GuardsCode, SearchedAt, Searched}
 use Rattle.uc_putting_laws.specs.Putting.{Setting, Around, around, LeftBy, Ok, Left}
 use Rattle.uc_putting_laws.proofs.Marks.{left_tail, AllLeft}
 use Rattle.uc_putting_laws.proofs.HandlersFrom as from
@@ -101,8 +101,13 @@ FramesBelow f [] = Unit {0}
 FramesBelow f (c ∷ cs) = (c.frame < f) × FramesBelow f cs
 
 -- a search that begins at an activation looks at its guarded blocks alone
+found_like : (o : Option Hit) (a b : Active) (cs : List Active) (x : Option Found) → b.frame ≡ a.frame → b.this ≡ a.this → b.handles ≡ a.handles → found_or o b cs x ≡ found_or o a cs x
+found_like None a b cs x f t v = refl
+found_like (Some y) a b cs x f t v = rw (f, t, v)
+
 pub seek_like : (e : Event) (a b : Active) (cs : List Active) → hit_in e b.control ≡ hit_in e a.control → b.frame ≡ a.frame → b.this ≡ a.this → b.handles ≡ a.handles → seek None e (b ∷ cs) ≡ seek None e (a ∷ cs)
-seek_like e a b cs h f t v = rw (h, f, t, v)
+seek_like e a b cs h f t v =
+    ap (λ o. found_or o b cs (seek b.handles e cs)) h ∙ (ap (λ w. found_or (hit_in e a.control) b cs (seek w e cs)) v ∙ found_like (hit_in e a.control) a b cs (seek a.handles e cs) f t v)
 
 module _ (t : Table) (source : Source) (special : ℕ → Bool) where
   abbrev Guards : ℕ → List Todo → Type 0
@@ -111,9 +116,13 @@ module _ (t : Table) (source : Source) (special : ℕ → Bool) where
   abbrev Seen : ℕ → Option Visited → ℕ → List Active → Type 0
   Seen x v f cs = Searched t source special x v f cs
 
+  guards_tail : (x : ℕ) (k : Sort) (R : Type 0) → GuardBy t source special x k R → R
+  guards_tail x (piece.IsGuard hs) R h = h.1
+  guards_tail x k R h = h
+
   pub guards_within : (x n : ℕ) (todo : List Todo) → Guards x todo → Guards x (within n todo)
   guards_within x n [] h = tt
-  guards_within x n (p ∷ ps) h = either (Guards x) (nat_eq (count_round (p ∷ ps)) n) (p ∷ ps) (within n ps) h (guards_within x n ps h.1)
+  guards_within x n (p ∷ ps) h = either (Guards x) (nat_eq (count_round (p ∷ ps)) n) (p ∷ ps) (within n ps) h (guards_within x n ps (guards_tail x (piece.sort p) (Guards x ps) h))
 
   -- a handler that is found
 
@@ -134,13 +143,13 @@ module _ (t : Table) (source : Source) (special : ℕ → Bool) where
   hit_or_code x None n other h k = k
   hit_or_code x (Some y) n other h k = h
 
-  hit_by_code : (x : ℕ) (k : Sort) (n : ℕ) (e : Event) (other : Option Hit) → GuardCode t source special x k → HitCode x other → HitCode x (hit_by k n e other)
-  hit_by_code x (piece.IsGuard hs) n e other h k = hit_or_code x (handler_for true e hs) n other (handler_code x true e hs h) k
-  hit_by_code x s n e other h k = k
+  hit_by_code : (x : ℕ) (k : Sort) (n : ℕ) (e : Event) (other : Option Hit) (R : Type 0) → GuardBy t source special x k R → (R → HitCode x other) → HitCode x (hit_by k n e other)
+  hit_by_code x (piece.IsGuard hs) n e other R h f = hit_or_code x (handler_for true e hs) n other (handler_code x true e hs h.0) (f h.1)
+  hit_by_code x s n e other R h f = f h
 
   hit_code : (x : ℕ) (e : Event) (todo : List Todo) → Guards x todo → HitCode x (hit_in e todo)
   hit_code x e [] h = tt
-  hit_code x e (p ∷ ps) h = hit_by_code x (piece.sort p) (count_round ps) e (hit_in e ps) h.0 (hit_code x e ps h.1)
+  hit_code x e (p ∷ ps) h = hit_by_code x (piece.sort p) (count_round ps) e (hit_in e ps) (Guards x ps) h (hit_code x e ps)
 
   abbrev pub FoundCode : ℕ → ℕ → Option Found → Type 0
   FoundCode x f None = Unit {0}
@@ -237,25 +246,25 @@ module _ (t : Table) (source : Source) (special : ℕ → Bool) where
 
 -- the code of handlers of what is to do
 module _ (g : Setting) where
-  guard_by : (A : Around) (made : Reach) (k : Sort) (ps : List Todo) (l o : Type 0) → LeftBy g A made k ps l o → GuardCode g.table g.source g.special made.low k
-  guard_by A made (piece.IsGuard hs) ps l o h = h.0.1
-  guard_by A made k ps l o h = tt
+  guard_by : (A : Around) (made : Reach) (k : Sort) (ps : List Todo) (l o R : Type 0) → LeftBy g A made k ps l o → R → GuardBy g.table g.source g.special made.low k R
+  guard_by A made (piece.IsGuard hs) ps l o R h r = (h.0.1, r)
+  guard_by A made k ps l o R h r = r
 
   pub guards_left : (A : Around) (made : Reach) (todo : List Todo) → Left g A made todo → GuardsCode g.table g.source g.special made.low todo
   guards_left A made [] h = tt
-  guards_left A made (p ∷ ps) h = (guard_by A made (piece.sort p) ps (Left g A made ps) (Ok g A made [] ps) h, guards_left A made ps (left_tail g A made p ps h))
+  guards_left A made (p ∷ ps) h = guard_by A made (piece.sort p) ps (Left g A made ps) (Ok g A made [] ps) (GuardsCode g.table g.source g.special made.low ps) h (guards_left A made ps (left_tail g A made p ps h))
 
 -- and by rooms
 module _ (Z : ℕ → ℕ → Type 0) (g : Setting) where
-  guard_from : (x y lo : ℕ) (k : Sort) → x ≤ y → GuardFrom Z y k → GuardCode g.table g.source g.special lo k → GuardCode g.table g.source g.special x k
-  guard_from x y lo (piece.IsGuard hs) le h n =
+  guard_from : (x y lo : ℕ) (k : Sort) (R S : Type 0) → x ≤ y → GuardFrom Z y k → GuardBy g.table g.source g.special lo k R → (R → S) → GuardBy g.table g.source g.special x k S
+  guard_from x y lo (piece.IsGuard hs) R S le h n f =
       let l = h.2 in
-      from.handlers Z g.table g.source g.special x lo h.0 h.1 (omega (arith, le, l)) hs h.3 n
-  guard_from x y lo k le h n = tt
+      (from.handlers Z g.table g.source g.special x lo h.0 h.1 (omega (arith, le, l)) hs h.3 n.0, f n.1)
+  guard_from x y lo k R S le h n f = f n
 
   pub guards_from : (x y lo : ℕ) (todo : List Todo) → x ≤ y → GuardsFrom Z y todo → GuardsCode g.table g.source g.special lo todo → GuardsCode g.table g.source g.special x todo
   guards_from x y lo [] le h n = tt
-  guards_from x y lo (p ∷ ps) le h n = (guard_from x y lo (piece.sort p) le h.0 n.0, guards_from x y lo ps le h.1 n.1)
+  guards_from x y lo (p ∷ ps) le h n = guard_from x y lo (piece.sort p) (GuardsCode g.table g.source g.special lo ps) (GuardsCode g.table g.source g.special x ps) le h.0 n (guards_from x y lo ps le h.1)
 
   -- so it is of all that a search finds
   pub searched : (n : Exec) (x y : ℕ) (v : Option Visited) (f : ℕ) (cs : List Active) → x ≤ y → AllLeft g n cs → Above Z y v f cs → Searched g.table g.source g.special x v f cs

@@ -17,7 +17,7 @@ use Rattle.uc_putting_laws.proofs.OwnMarks.{fields_in}
 no_both : {A : Type 0} (b : Bool) → b ≡ true → b ≡ false → A
 no_both b h k = absurd (cc)
 
-module _ (g : Setting) (n : Exec) (a : Active) (older : List Active) (made : Reach) (this : IsSeated g.table g.source g.special g.few made n older a.frame a.handles a.this) (code : Left g (around n a older) made a.control) where
+module _ (g : Setting) (n : Exec) (a : Active) (older : List Active) (made : Reach) (this : IsSeated g.table g.source g.special g.few made n older a.frame a.handles a.this) (left : Left g (around n a older) made a.control) where
   abbrev Own : Value → Ty → Type 0
   Own w b = OwnMarked g.table n (a ∷ older) w b
 
@@ -38,25 +38,28 @@ module _ (g : Setting) (n : Exec) (a : Active) (older : List Active) (made : Rea
   abbrev Top : ℕ → ℕ → Type 0
   Top f k = Outermost g.few g.table (variable n f k) (OwnMarked g.table n (a ∷ older))
 
-  pub at_frame : RoundIn a.frame
-  at_frame = record {
-    cell = made.low;
-    spare = λ k v e i st. by k (outermost g.few n g.table a.frame (Slot k ∷ []) (OwnMarked g.table n (a ∷ older)) v e i st);
-    past = λ b h k l v i j. absurd (not_here b k l v i j);
-    code = (λ e. guards_left g (around n a older) made a.control code, this.after);
-  }
+  pub frame_spare : (k : ℕ) (v : Value) (e : ℕ) → LiesIn g.few (variable n a.frame k) v → Stands g.table g.few (OwnMarked g.table n (a ∷ older)) (Cell (Obj e)) v → k < made.low
+  frame_spare k v e i st = by (outermost g.few n g.table a.frame (Slot k ∷ []) (OwnMarked g.table n (a ∷ older)) v e i st)
     where
-      of : (k : ℕ) (o : Top a.frame k) → Own o.thing o.type → k < made.low
-      of k o (inl m) =
-          let x = fields_in g (around n a older) made a.control o.thing o.type code m in
+      of : (o : Top a.frame k) → Own o.thing o.type → k < made.low
+      of o (inl m) =
+          let x = fields_in g (around n a older) made a.control o.thing o.type left m in
           let u : LiesUnder (further (FieldAt x.shape x.number) a.this) o.place = subst (λ y. LiesUnder y o.place) x.at (within_under g.table o.thing o.type o.place (Cell (Obj o.class)) o.within) in
           absurd (not_here x.builds k (FieldAt x.shape x.number) o.place o.in_it (there u))
-      of k o (inr m) = this.spare k o.place o.class o.in_it (lies m o.within)
+      of o (inr m) = this.spare k o.place o.class o.in_it (lies m o.within)
 
-      by : (k : ℕ) → Top a.frame k → k < made.low
-      by k o = of k o o.is
+      by : Top a.frame k → k < made.low
+      by o = of o o.is
 
-  pub elsewhere : (f : ℕ) → (f ≡ a.frame → ⊥) → RoundIn f
+  at_frame : RoundIn a.frame
+  at_frame = record {
+    cell = made.low;
+    spare = λ k v e i st. frame_spare k v e i st;
+    past = λ b h k l v i j. absurd (not_here b k l v i j);
+    code = (λ e. guards_left g (around n a older) made a.control left, this.after);
+  }
+
+  elsewhere : (f : ℕ) → (f ≡ a.frame → ⊥) → RoundIn f
   elsewhere f ne = record {
     cell = (this.beyond f ne).cell;
     spare = λ k v e i st. by k (outermost g.few n g.table f (Slot k ∷ []) (OwnMarked g.table n (a ∷ older)) v e i st);
@@ -66,7 +69,7 @@ module _ (g : Setting) (n : Exec) (a : Active) (older : List Active) (made : Rea
     where
       of : (k : ℕ) (o : Top f k) → Own o.thing o.type → k < (this.beyond f ne).cell
       of k o (inl m) =
-          let x = fields_in g (around n a older) made a.control o.thing o.type code m in
+          let x = fields_in g (around n a older) made a.control o.thing o.type left m in
           let u : LiesUnder (further (FieldAt x.shape x.number) a.this) o.place = subst (λ y. LiesUnder y o.place) x.at (within_under g.table o.thing o.type o.place (Cell (Obj o.class)) o.within) in
           (this.beyond f ne).past (x.holds o.place o.class o.within) k (FieldAt x.shape x.number) o.place o.in_it (there u)
       of k o (inr m) = (this.beyond f ne).spare k o.place o.class o.in_it (lies m o.within)

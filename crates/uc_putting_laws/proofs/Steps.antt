@@ -168,8 +168,8 @@ module _ (g : Setting) where
     event_step P (src.Try line body hs) todo n l h = anew _ _ (inl (n.0.0, n.1.0), ((n.0.1, n.1.1), (tt, h)))
     event_step P (src.RaiseAt line r a) todo n l h =
         anew _ _ (todos.raised g (here s) made r (piece.Eval a ∷ (piece.RaiseAtNow ∷ (piece.Within line ∷ todo))) (todos.counted_at g (here s) made r n.0.0) l (n.0.1, inl (n.1.1, (tt, (tt, h)))))
-    event_step P (src.Enable line events cell a) todo n l h = anew _ _ (tt, (tt, (todos.inner g (here s) made (OpensRest g.table (piece.Clean (src.Restores cell) ∷ (piece.Within line ∷ todo))) a n, ((tt, tt, tt), (tt, h)))))
-    event_step P (src.Disable line events cell a) todo n l h = anew _ _ (tt, (todos.inner g (here s) made (OpensRest g.table (piece.Clean (src.Restores cell) ∷ (piece.Within line ∷ todo))) a n, ((tt, tt, tt), (tt, h))))
+    event_step P (src.Enable line events cell a) todo n l h = anew _ _ (tt, (tt, (todos.inner g (here s) made (OpensRest g.table (piece.Clean (src.Restores cell) ∷ (piece.Within line ∷ todo))) a n, ((tt, tt, tt, (λ h i a this v e d w. absurd d)), (tt, h)))))
+    event_step P (src.Disable line events cell a) todo n l h = anew _ _ (tt, (todos.inner g (here s) made (OpensRest g.table (piece.Clean (src.Restores cell) ∷ (piece.Within line ∷ todo))) a n, ((tt, tt, tt, (λ h i a this v e d w. absurd d)), (tt, h))))
 
     task_step : (P : Site → Type 0) (a : TaskStmt) (todo : List Todo) → CodeStmt g P made (src.OfTasks a) → O [] todo → PutStep g (quiet.task_step a todo s)
     task_step P (src.Resume line) todo n h = anew _ _ (tt, (tt, (tt, h)))
@@ -274,22 +274,22 @@ module _ (g : Setting) where
     handles ms None e todo k n y h = throws e todo (gone (rests 3 ms) todo h)
     handles ms (Some f) e todo k n y h = record {
       run = record {
-        made = from_variable (inside f.frame).cell;
+        made = from_variable (rounds f.frame).cell;
         this = record {
           own = λ q. absurd (cc);
           alone = λ q. absurd (cc);
-          spare = (inside f.frame).spare;
-          after = y.path (inside f.frame).cell f.frame (inside f.frame).code;
+          spare = (rounds f.frame).spare;
+          after = y.path (rounds f.frame).cell f.frame (rounds f.frame).code;
           beyond = λ d q. record {
-            cell = (inside d).cell;
-            spare = (inside d).spare;
+            cell = (rounds d).cell;
+            spare = (rounds d).spare;
             past = λ h. absurd h;
-            code = y.path (inside d).cell d (inside d).code;
+            code = y.path (rounds d).cell d (rounds d).code;
           };
         };
         marks = [];
         holds = tt;
-        ok = todos.handled g (record { exec = s.env.exec; frame = f.frame; handles = Some f.visited; this = f.this; older = round }) (from_variable (inside f.frame).cell) f.handler [] (n, y.code (inside f.frame).cell f.frame (inside f.frame).code refl) tt;
+        ok = todos.handled g (record { exec = s.env.exec; frame = f.frame; handles = Some f.visited; this = f.this; older = round }) (from_variable (rounds f.frame).cell) f.handler [] (n, y.code (rounds f.frame).cell f.frame (rounds f.frame).code refl) tt;
       };
       callers = (finds 1 (rests 3 ms) (piece.DropNow ∷ todo) _ (holds_below g.few (here s) (rests 2 ms) _ (holds_below g.few (here s) (rests 1 ms) _ (holds_below g.few (here s) ms _ k))) (tt, h), callers);
       env = todos.likes g env refl refl refl;
@@ -298,8 +298,8 @@ module _ (g : Setting) where
         round : List Active
         round = Raising todo (below (below (below s.run.operands))) ∷ s.callers
 
-        inside : (d : ℕ) → RoundIn g s.env.exec (Raising todo (below (below (below s.run.operands)))) s.callers made this (gone (rests 3 ms) todo h) d
-        inside d = seats.round_in g s.env.exec (Raising todo (below (below (below s.run.operands)))) s.callers made this (gone (rests 3 ms) todo h) d
+        rounds : (d : ℕ) → RoundIn g s.env.exec (Raising todo (below (below (below s.run.operands)))) s.callers made this (gone (rests 3 ms) todo h) d
+        rounds d = seats.round_in g s.env.exec (Raising todo (below (below (below s.run.operands)))) s.callers made this (gone (rests 3 ms) todo h) d
 
     pub raises : (ms : List Mark) (e : raising.Event) (todo : List Todo) → H ms s.run.operands → O (rests 3 ms) todo → PutStep g (raising.raise_step e todo s)
     raises ms e todo k h =
@@ -606,8 +606,8 @@ module _ (g : Setting) where
 
       -- in frames
 
-      inside : (todo : List Todo) (vs : List Value) (l : L todo) (f : ℕ) → RoundIn g s.env.exec (Waiting todo vs) s.callers made this l f
-      inside todo vs l f = seats.round_in g s.env.exec (Waiting todo vs) s.callers made this l f
+      rounds : (todo : List Todo) (vs : List Value) (l : L todo) (f : ℕ) → RoundIn g s.env.exec (Waiting todo vs) s.callers made this l f
+      rounds todo vs l f = seats.round_in g s.env.exec (Waiting todo vs) s.callers made this l f
 
       -- what holds no objects has none in its fields
       class_of : (b : Bool) (o : Option ℕ) → HoldsObjects g.table (reach_of b o).class → HoldsObjects g.table o
@@ -617,10 +617,10 @@ module _ (g : Setting) where
       plain_beyond : (b : Bool) (o : Option ℕ) (v : Value) (todo : List Todo) → b ≡ false → L todo → (vs : List Value) (f : ℕ) → SeatBeyond b o v todo vs f
       plain_beyond true o v todo e l vs f = no_both true refl e
       plain_beyond false o v todo e l vs f = record {
-        cell = (inside todo vs l f).cell;
-        spare = (inside todo vs l f).spare;
+        cell = (rounds todo vs l f).cell;
+        spare = (rounds todo vs l f).spare;
         past = λ h. absurd h;
-        code = (inside todo vs l f).code;
+        code = (rounds todo vs l f).code;
       }
 
       -- what lies in the object that is found lies at the spot
@@ -632,28 +632,28 @@ module _ (g : Setting) where
         where
           own_frame : SeatBeyond b o v todo vs s.run.frame
           own_frame = record {
-            cell = y.cell;
-            spare = λ k w e q st. let a : k < made.low = (seats.at_frame g s.env.exec (Waiting todo vs) s.callers made this l).spare k w e q st in let c : made.low ≤ y.cell = y.low in omega (arith, a, c);
-            past = λ h k m w q u. let a : k ≡ j = (variable_one g.few s.env.exec s.run.frame k s.run.frame j w q (lies m w u)).1 in let c : j < y.cell = y.past (may (class_of b o h)) some in omega (arith, a, c);
-            code = (λ e. y.guards, y.above);
+            cell = y.0;
+            spare = λ k w e q st. let a : k < made.low = seats.frame_spare g s.env.exec (Waiting todo vs) s.callers made this l k w e q st in let c : made.low ≤ y.0 = y.1 in omega (arith, a, c);
+            past = λ h k m w q u. let a : k ≡ j = (variable_one g.few s.env.exec s.run.frame k s.run.frame j w q (lies m w u)).1 in let c : j < y.0 = y.4 (may (class_of b o h)) some in omega (arith, a, c);
+            code = (λ e. y.2, y.3);
           }
 
           other : (f ≡ s.run.frame → ⊥) → SeatBeyond b o v todo vs f
           other ne = record {
-            cell = (inside todo vs l f).cell;
-            spare = (inside todo vs l f).spare;
+            cell = (rounds todo vs l f).cell;
+            spare = (rounds todo vs l f).spare;
             past = λ h k m w q u. absurd (ne (variable_one g.few s.env.exec f k s.run.frame j w q (lies m w u)).0);
-            code = (inside todo vs l f).code;
+            code = (rounds todo vs l f).code;
           }
 
           by : (c : Bool) → nat_eq f s.run.frame ≡ c → SeatBeyond b o v todo vs f
           by true e = subst (SeatBeyond b o v todo vs) (sym (eqb-true f s.run.frame e)) own_frame
           by false e = other (λ q. no_both (nat_eq f s.run.frame) (eq-eqb f s.run.frame q) e)
       beyond_at b o x (OfField h j) v todo y i may some lies l vs f = record {
-        cell = (inside todo vs l f).cell;
-        spare = (inside todo vs l f).spare;
-        past = λ c k m w q u. (inside todo vs l f).past i (y (may (class_of b o c)) some) k (piece.FieldAt h j) w q (lies m w u);
-        code = (inside todo vs l f).code;
+        cell = (rounds todo vs l f).cell;
+        spare = (rounds todo vs l f).spare;
+        past = λ c k m w q u. (rounds todo vs l f).past i (y (may (class_of b o c)) some) k (piece.FieldAt h j) w q (lies m w u);
+        code = (rounds todo vs l f).code;
       }
 
       plain_finding : (z : InFrames) (b : Bool) (o : Option ℕ) (x : Routine) (v : Value) (todo : List Todo) → opens_at (Some x) ≡ false → (n : ℕ) (p : Spot) → (0 < n) × LiesUnder (spot_at g.few (here s) p) v → IsOf made p → SeatAt g (here s) made todo (Under o n p) → Finding b o x v todo

@@ -11,6 +11,7 @@ use Rattle.uc_machine.specs.declared.exec.Home.{Home}
 use Rattle.uc_machine.specs.declared.exec.Home.TheVariants as home
 use Rattle.uc_machine.specs.Executions.{values_cleared}
 use Rattle.uc_machine.specs.Raising as raising
+use Rattle.uc_machine.specs.Raising.{Found}
 use Rattle.uc_machine.specs.Monitors as monitors
 use Rattle.uc_machine.specs.Quiet as quiet
 use Rattle.uc_machine.specs.Quiet.{first_state}
@@ -24,13 +25,16 @@ use Rattle.uc_life_laws.specs.LifeRuns.{IsLaidOut}
 use Rattle.uc_place_laws.specs.OlderResting.{AllWait, NamedParked, NamedHand, NamedEnv}
 use Rattle.uc_place_laws.proofs.AsideKeeping as kept
 use Rattle.uc_place_laws.proofs.AsideKeeping.{either}
-use Rattle.uc_putting_laws.specs.CleanedSpots.{NoSite, Reach, reach_of, apart}
-use Rattle.uc_putting_laws.specs.Seats.{IsSeated}
-use Rattle.uc_putting_laws.specs.Putting.{Setting, Around, Mark, Any, Holds, rest, OpensRest, Counts, Plain, CodeStmt, CodeRoutine, Ok, Left, Finds, FindsFor, Runs, Waits, PutMembers, PutState, PutStep}
+use Rattle.uc_putting_laws.specs.CleanedSpots.{NoSite, Reach, reach_of, from_variable, apart}
+use Rattle.uc_putting_laws.specs.Seats.{Searched, IsSeated}
+use Rattle.uc_putting_laws.specs.Calling.{CallingStmts}
+use Rattle.uc_putting_laws.specs.Putting.{Setting, Around, Mark, Any, Holds, rest, rests, OpensRest, Counts, Plain, CodeStmt, CodeRoutine, Ok, Left, Finds, FindsFor, Runs, Waits, PutMembers, PutState, PutStep}
 use Rattle.uc_putting_laws.specs.PuttingLaws.{FairAt, Fair}
 use Rattle.uc_putting_laws.proofs.Marks.{holds_below, holds_spread, index_below, left}
 use Rattle.uc_putting_laws.proofs.OwnMarks.{frames_within, first_seat}
 use Rattle.uc_putting_laws.proofs.PuttingTodos as todos
+use Rattle.uc_putting_laws.proofs.Searches.{FoundCode, found_code}
+use Rattle.uc_putting_laws.proofs.Seats.{RoundIn, round_in}
 use Rattle.uc_putting_laws.proofs.Steps as steps
 use Rattle.uc_putting_laws.proofs.Steps.{here}
 use Rattle.uc_putting_laws.proofs.Lone.{scope_lone, part_lone, lone_behind, lone_stmt}
@@ -184,6 +188,24 @@ module _ (program : Program) (g : Setting) (laid : IsLaidOut (Sized program) g.t
       by : (l : List Todo) → s.run.control ≡ l → PutStep g (quiet.act_todo g.source l s)
       by [] e = steps.returned g s h.callers h.env h.run.made h.run.this _ s.callers h.callers
       by (p ∷ todo) e = acts s st fair h.callers h.env h.run.made h.run.this h.run.marks h.run.holds p todo e (subst (Ok g (here s) h.run.made h.run.marks) e h.run.ok)
+
+-- a handler that is found where an event is resumed names variables alone, from one on
+abbrev pub HandlerFound : Setting → Option Found → Type 0
+HandlerFound g None = Unit {0}
+HandlerFound g (Some y) = (x : ℕ) × CallingStmts g.table g.source g.special (from_variable x) y.handler.body
+
+module _ (g : Setting) (s : State) (put : PutState g s) where
+  -- its code is known by what is known of its frame
+  found_by : (todo : List Todo) → Left g (here s) put.run.made todo → (o : Option Found) → ((x f : ℕ) → Searched g.table g.source g.special x None f (record s.run { control = todo } ∷ s.callers) → FoundCode g.table g.source g.special x f o) → HandlerFound g o
+  found_by todo l None c = tt
+  found_by todo l (Some y) c =
+      let r : RoundIn g s.env.exec (record s.run { control = todo }) s.callers put.run.made put.run.this l y.frame = round_in g s.env.exec (record s.run { control = todo }) s.callers put.run.made put.run.this l y.frame in
+      (r.cell, c r.cell y.frame r.code refl)
+
+  pub handler_found : (e : raising.Event) (todo : List Todo) → s.run.control ≡ piece.RaiseNow ∷ todo → HandlerFound g (raising.seek None e (record s.run { control = todo } ∷ s.callers))
+  handler_found e todo q =
+      let ok : Ok g (here s) put.run.made put.run.marks (piece.RaiseNow ∷ todo) = subst (Ok g (here s) put.run.made put.run.marks) q put.run.ok in
+      found_by todo (left g (here s) put.run.made (rests 3 put.run.marks) todo ok.1) (raising.seek None e (record s.run { control = todo } ∷ s.callers)) (λ x f c. found_code g.table g.source g.special x f None e (record s.run { control = todo } ∷ s.callers) c)
 
 module _ (g : Setting) (known : (n : ℕ) → CodeRoutine g (g.special n) (g.table.routine n).this (slice_get g.source.routines n)) where
   begins : (o : ℕ) (c : Option ℕ) (r : Option Routine) → CodeRoutine g false c r → PutState g (first_state (routine_or_none r) o)

@@ -152,12 +152,9 @@ LoneAt t few A todo x = (v : Value) (e : ℕ) → LiesIn few (spot_at few A (sit
 module _ (g : Setting) where
   -- behind what is at this variable: handlers that a search finds which goes out from what is to do name variables from this one on, which lies behind all
   -- variables that the activation does not name, and behind that one, where a mutex object may lie in what is there
-  pub record IsPast (A : Around) (r : Reach) (todo : List Todo) (k : ℕ) (x : Site) : Type 0 where
-    pub cell : ℕ
-    pub low : r.low ≤ cell
-    pub guards : GuardsCode g.table g.source g.special cell todo
-    pub above : Searched g.table g.source g.special cell A.handles A.frame A.older
-    pub past : MayHold g.table x → HasSome x → k < cell
+  abbrev pub IsPast : Around → Reach → List Todo → ℕ → Site → Type 0
+  IsPast A r todo k x = (cell : ℕ) × (r.low ≤ cell) × GuardsCode g.table g.source g.special cell todo ×
+      Searched g.table g.source g.special cell A.handles A.frame A.older × (MayHold g.table x → HasSome x → k < cell)
 
   -- a mutex object may lie in the object at hand, where one may lie in what is at a field of that
   abbrev pub BehindBy : Around → Reach → List Todo → Spot → Site → Type 0

@@ -15,13 +15,13 @@ use Rattle.uc_putting_laws.specs.Calling.{CallingHandlers}
 
 module _ (t : Table) (source : Source) (special : ℕ → Bool) where
   -- the handlers of guarded blocks name variables from one on
-  abbrev pub GuardCode : ℕ → Sort → Type 0
-  GuardCode x (IsGuard hs) = CallingHandlers t source special (from_variable x) hs
-  GuardCode x k = Unit {0}
+  abbrev pub GuardBy : ℕ → Sort → Type 0 → Type 0
+  GuardBy x (IsGuard hs) rest = CallingHandlers t source special (from_variable x) hs × rest
+  GuardBy x k rest = rest
 
   abbrev pub GuardsCode : ℕ → List Todo → Type 0
   GuardsCode x [] = Unit {0}
-  GuardsCode x (p ∷ todo) = GuardCode x (sort p) × GuardsCode x todo
+  GuardsCode x (p ∷ todo) = GuardBy x (sort p) (GuardsCode x todo)
 
   -- so do all handlers of a frame that a search finds which comes to these activations, as far as it has come
   abbrev pub SearchedAt : Bool → Type 0 → Type 0 → Type 0
