@@ -179,10 +179,10 @@ module _ (p : Program) (formed : IsFormed p) (ok : breaks_of p ≡ []) where
 
     -- the tasks behind an act
     module _ {j : Journal} {w : World} (r : Runs (source_of p) input opts j w) (fits : RunFits (source_of p) input opts j w r) (on : is_over j ≡ false) (q t n : ℕ) (s : State) (asked : Asked) (d : AsksIn (source_of p) opts j w q t n s asked) (f : Fits opts (source_of p).sites j t asked.request) (going : is_over (j ++ act opts (source_of p).sites input j q t n asked) ≡ false) where
-      abbrev a : List Entry
+      a : List Entry
       a = act opts (source_of p).sites input j q t n asked
 
-      abbrev after : World
+      after : World
       after = world_after (source_of p) a w t s
 
       rests : RunRests (source_of p) input opts j w
@@ -267,7 +267,7 @@ module _ (p : Program) (formed : IsFormed p) (ok : breaks_of p ≡ []) where
     ended (more {j} {w} r o (acts q t n s asked d)) f al m n' on v e =
         by (λ v g. ended r f.0 al.0 m.0 n'.0 o v g) (ended_by v opts (source_of p).sites input j q t n asked on e)
       where
-        abbrev b : List Entry
+        b : List Entry
         b = act opts (source_of p).sites input j q t n asked
 
         stand : StandsState (part_of p) (source_of p) (own_object t j) (answered (source_of p) d.given (drawn j w t))
@@ -283,7 +283,7 @@ module _ (p : Program) (formed : IsFormed p) (ok : breaks_of p ≡ []) where
         no_more x h =
             not_true _ (λ g. no_both (run_still (source_of p) input opts r x) (ride_before (source_of p) (run_still (source_of p) input opts r) d.rides x (asked_before asked.request s (ride_still (source_of p) (run_still (source_of p) input opts r) d.rides) x g)) h)
 
-        abbrev Claim : Type 0
+        Claim : Type 0
         Claim = (v < task_count (j ++ b)) × (still_asked asked.request s (ride_still (source_of p) (run_still (source_of p) input opts r) d.rides) (main_of ((world_after (source_of p) b w t s).tasks v).env.own) ≡ false)
 
         by : ((v : ℕ) → has_ended v j ≡ true → (v < task_count j) × (run_still (source_of p) input opts r (main_of (w.tasks v).env.own) ≡ false)) → (has_ended v j ≡ true) ⊎ Asker v t asked.request → Claim
@@ -335,7 +335,7 @@ module _ (p : Program) (formed : IsFormed p) (ok : breaks_of p ≡ []) where
       task_of (more {j} r o (no_room q t s le)) f on l k x h e = no_both (is_over (j ++ lone_limit ∷ [])) (over_limit j 0 0) on
       task_of (more {j} {w} r o (acts q t n s asked d)) f on l k x h e = by (λ g. task_of r f.0 o l.0 k.0 x g e) asked.request refl h k.1
         where
-          abbrev b : List Entry
+          b : List Entry
           b = act opts (source_of p).sites input j q t n asked
 
           -- one that was there before
@@ -372,10 +372,10 @@ module _ (p : Program) (formed : IsFormed p) (ok : breaks_of p ≡ []) where
       run_ends homes asked (more {j} {w} r o (acts q t i s z d)) f al m n on l k h =
           (run_ends homes asked r f.0 al.0 m.0 n.0 o l.0 k.0 (λ x e. ride_before (source_of p) (run_still (source_of p) input opts r) d.rides x (asked_before z.request s (ride_still (source_of p) (run_still (source_of p) input opts r) d.rides) x (h x e))), by z.request refl)
         where
-          abbrev b : List Entry
+          b : List Entry
           b = act opts (source_of p).sites input j q t i z
 
-          abbrev whole : Runs (source_of p) input opts (j ++ b) (world_after (source_of p) b w t s)
+          whole : Runs (source_of p) input opts (j ++ b) (world_after (source_of p) b w t s)
           whole = more r o (acts q t i s z d)
 
           by : (y : Request) → z.request ≡ y → NoMainOf (with_homes homes makers) asked (now (with_homes homes makers) asked (ride_made (source_of p) (run_made (source_of p) input opts r) d.rides)) y
