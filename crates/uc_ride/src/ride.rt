@@ -41,7 +41,6 @@ pub struct Ridden {
 /// lent. Where `dispatches` is not 0 it tells the gate first. No answer depends on the last three arguments. A new task has its
 /// memory before it is asked for. Without memory the task is lost, and so it is where one is spawned whose main the code does not
 /// have.
-#[inline(always)]
 pub fn ride<G: Gate>(
     code: &Code,
     fused: &[Fused],
@@ -127,7 +126,6 @@ fn main_before(code: &Code, at: u32) -> Option<u32>
 }
 
 // Ops up to a request, or up to so many ticks. The last ones ask for a slice. Where ops stop, others go on from there.
-#[inline(never)]
 fn go_on(
     code: &Code,
     fused: &[Fused],
