@@ -54,7 +54,7 @@ module _ (p : Program) (formed : IsFormed p) (accepted : breaks_of p ≡ []) whe
   met zero s m h = m
   met (suc n) s m h = record {
     opens = there_opens t any source n s h;
-    anew = at_ending t any n s (BindsAnew t s) (λ l. tt) (λ a l. tt) h;
+    anew = at_ending t any n s (BindsAnew t (heads_of p) s) (λ l. tt) (λ a l. tt) h;
     finds = λ x. (x, (endings.finds t any n s (lives p formed accepted any s x) h, record {
       fields = λ c rest todo e. no_scope t any n s h c rest todo e;
       arrays = λ c rest todo e. no_scope t any n s h c rest todo e;
