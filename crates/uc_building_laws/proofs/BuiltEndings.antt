@@ -55,20 +55,30 @@ module _ (p : Program) (formed : IsFormed p) (accepted : breaks_of p ≡ []) whe
   met (suc n) s m h = record {
     opens = there_opens t any source n s h;
     anew = at_ending t any n s (BindsAnew t (heads_of p) s) (λ l. tt) (λ a l. tt) h;
-    finds = λ x. (x, (endings.finds t any n s (lives p formed accepted any s x) h, record {
-      fields = λ c rest todo e. no_scope t any n s h c rest todo e;
-      arrays = λ c rest todo e. no_scope t any n s h c rest todo e;
-    }));
+    finds = λ x. (
+      x,
+      (
+        endings.finds t any n s (lives p formed accepted any s x) h,
+        record {
+          fields = λ c rest todo e. no_scope t any n s h c rest todo e;
+          arrays = λ c rest todo e. no_scope t any n s h c rest todo e;
+        },
+      ),
+    );
   }
 
   -- so it is with the numbers of what is told
   pub built_met : (few : Few) (n : ℕ) (s : State) → BuiltOutside p few n s → Ending t few n s → FindsBuilt t (heads_of p) few source s
   built_met few zero s m h = m
-  built_met few (suc n) s m h = λ x.
-      (x, endings.finds t few n s (lives p formed accepted few s x) h, at_ending t few n s (λ l. OpensAtBy t few (OutwardsOrMade x.0.sigs) l s) (λ l. tt) (λ a l. tt) h, record {
-        at = at_ending t few n s (λ l. BuildsAt t (heads_of p) few x.0.sigs source s l) (λ l. tt) (λ a l. tt) h;
-        joins = m.joins;
-      })
+  built_met few (suc n) s m h = λ x. (
+    x,
+    endings.finds t few n s (lives p formed accepted few s x) h,
+    at_ending t few n s (λ l. OpensAtBy t few (OutwardsOrMade x.0.sigs) l s) (λ l. tt) (λ a l. tt) h,
+    record {
+      at = at_ending t few n s (λ l. BuildsAt t (heads_of p) few x.0.sigs source s l) (λ l. tt) (λ a l. tt) h;
+      joins = m.joins;
+    },
+  )
 
   module _ (input : List ℕ) (opts : Options) (range : InRange opts) where
     module _ (j : Journal) (w : World) (r : Runs source input opts j w) (f : RunFits source input opts j w r) (on : is_over j ≡ false) (m : RunMeets M source input opts j w r) (n : ℕ) where

@@ -237,10 +237,12 @@ module _ (p : Program) (formed : IsFormed p) (accepted : breaks_of p ≡ []) whe
     follows : (j : Journal) (w : World) (r : Runs source input opts j w) → RunFits source input opts j w r → is_over j ≡ false → RunMeets M source input opts j w r → (n : ℕ) (s : State) (c : Comes source j w n s) → LeadsMeet M source (answered source c.given (drawn j w n)) s c.leads → M s → Follows any s
     follows j w r f on m n s c l h =
         let st : StackState Z s = (stacked.law_frame_runs p accepted input opts j w r).comes n s c in
-        let good : GoodBy Any s = (value_runs.law_runs p accepted input opts range j w r f on (run_to source opts M (there.Opens source) input (λ j w r f on m n s c l h. h.opens) r f m)).comes n s c (lead_to source opts M (there.Opens source) j w n c.given c.processor c.runs c.told (λ s c l h. h.opens) runs.stays tt c.leads l) in
-        (st, λ z.
-            let y = h.finds z in
-            (y.0, y.1.0, opens s y.0 st h.opens good y.1.1, fair p formed accepted any s (knows s y.0) h.anew (called.comes p formed accepted input opts range j w r f on n s c)))
+        let good : GoodBy Any s = (value_runs.law_runs p accepted input opts range j w r f on (run_to source opts M (there.Opens source) input (λ j w r f on m n s c l h. h.opens) r f m)).comes n s c (lead_to source opts M (there.Opens source) j w n c.given c.processor c.runs c.told (λ s c l h. h.opens) runs.stays tt c.leads l) in (
+          st,
+          λ z.
+              let y = h.finds z in
+              (y.0, y.1.0, opens s y.0 st h.opens good y.1.1, fair p formed accepted any s (knows s y.0) h.anew (called.comes p formed accepted input opts range j w r f on n s c)),
+        )
 
     module _ (j : Journal) (w : World) (r : Runs source input opts j w) (f : RunFits source input opts j w r) (on : is_over j ≡ false) (m : RunMeets M source input opts j w r) where
       here : (n : ℕ) (s : State) (c : Comes source j w n s) → LeadsMeet M source (answered source c.given (drawn j w n)) s c.leads → B s
