@@ -3,3 +3,4 @@ pub mod KeysLemmas
 pub mod Askings
 pub mod Clashes
 pub mod Marks
+pub mod Turns

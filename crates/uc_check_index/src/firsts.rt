@@ -1,6 +1,6 @@
 // Tables of the first place of each key.
 
-ghost use Rattle.std.specs.Prelude.{◌≡◌, [], ◌∷◌, IfOk, OnOk, Some, length, option_map};
+ghost use Rattle.std.specs.Prelude.{◌≡◌, ℕ, List, [], ◌∷◌, IfOk, OnOk, Option, Some, length, option_map};
 ghost use Rattle.uc_names.specs.Blocks.{found};
 ghost use Rattle.uc_check_index.specs.Firsts.{is_before, noted};
 
@@ -38,24 +38,24 @@ pub fn note_name(firsts: &mut Scope, name: Option<&Name>, place: usize) -> Resul
         ≡ noted firsts.old (option_map (λ n. n.now) name.entry) place) }
 {
     match name {
-        Some(name) => {
-            note(firsts, name.bytes(), place)?;
-            Ok(())
-        }
+        Some(name) => note(firsts, name.bytes(), place),
         None => Ok(()),
     }
 }
 
-/// The same of a key, where there is one.
-pub fn note_key(firsts: &mut Scope, key: Option<Vec<u8>>, place: usize) -> Result<(), AllocError>
+/// The same of a key that was made, where there is one.
+pub fn note_key(
+    firsts: &mut Scope,
+    key: Result<Option<Vec<u8>>, AllocError>,
+    place: usize,
+) -> Result<(), AllocError>
     requires { length firsts.old ≡ 1 }
-    ensures { OnOk result (firsts.new ≡ noted firsts.old (option_map (λ k. k.items) key) place) }
+    ensures { OnOk result ((bytes : Option (List ℕ)) →
+        IfOk key (λ k. option_map (λ v. v.items) k ≡ bytes) →
+        firsts.new ≡ noted firsts.old bytes place) }
 {
-    match key {
-        Some(key) => {
-            note(firsts, &key, place)?;
-            Ok(())
-        }
+    match key? {
+        Some(key) => note(firsts, &key, place),
         None => Ok(()),
     }
 }

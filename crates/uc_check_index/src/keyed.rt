@@ -139,8 +139,7 @@ pub fn firsts_by_key(alloc: Global, items: &[Item], topic: KeyTopic) -> Result<S
 {
     let mut firsts = no_firsts(alloc)?;
     for (place, item) in items.iter().enumerate() {
-        let key = key_of(alloc, topic, item)?;
-        note_key(&mut firsts, key, place)?;
+        note_key(&mut firsts, key_of(alloc, topic, item), place)?;
     }
     Ok(firsts)
 }

@@ -11,8 +11,7 @@ use uc_tree::name::Name;
 fn push_name(key: &mut Vec<u8>, name: &Name) -> Result<(), AllocError>
     ensures { OnOk result (key.new.items ≡ key.old.items ++ name_key name.now) }
 {
-    push_name_bytes(key, name.bytes())?;
-    Ok(())
+    push_name_bytes(key, name.bytes())
 }
 
 fn push_name_bytes(key: &mut Vec<u8>, bytes: &[u8]) -> Result<(), AllocError>
@@ -37,34 +36,13 @@ fn push_base(key: &mut Vec<u8>, base: &Base) -> Result<(), AllocError>
     ensures { OnOk result (key.new.items ≡ key.old.items ++ base_key base.now) }
 {
     match base {
-        Base::Void => {
-            push_byte(key, 0)?;
-            Ok(())
-        }
-        Base::Int => {
-            push_byte(key, 1)?;
-            Ok(())
-        }
-        Base::Char => {
-            push_byte(key, 2)?;
-            Ok(())
-        }
-        Base::Bool => {
-            push_byte(key, 3)?;
-            Ok(())
-        }
-        Base::Condition => {
-            push_byte(key, 4)?;
-            Ok(())
-        }
-        Base::Cluster => {
-            push_byte(key, 5)?;
-            Ok(())
-        }
-        Base::Processor => {
-            push_byte(key, 6)?;
-            Ok(())
-        }
+        Base::Void => push_byte(key, 0),
+        Base::Int => push_byte(key, 1),
+        Base::Char => push_byte(key, 2),
+        Base::Bool => push_byte(key, 3),
+        Base::Condition => push_byte(key, 4),
+        Base::Cluster => push_byte(key, 5),
+        Base::Processor => push_byte(key, 6),
         Base::Named(name) => {
             key.push(7)?;
             push_name(key, name)

@@ -1,6 +1,6 @@
 // Tables of the prototypes in a class.
 
-ghost use Rattle.std.specs.Prelude.{◌≡◌, ◌∷◌, List, IfOk, MatchOption, option_map, slice_get};
+ghost use Rattle.std.specs.Prelude.{◌≡◌, ◌∷◌, ◌++◌, List, IfOk, OnOk, option_map, slice_get};
 ghost use Rattle.std.specs.List.{list_any};
 ghost use Rattle.uc_tree.specs.Cells.{classes_of};
 ghost use Rattle.uc_tree.specs.Programs.{Item};
@@ -85,8 +85,7 @@ fn firsts_of(alloc: Global, members: &[Member], topic: MemberTopic) -> Result<Sc
 {
     let mut firsts = no_firsts(alloc)?;
     for (place, member) in members.iter().enumerate() {
-        let key = key_of(alloc, topic, member)?;
-        note_key(&mut firsts, key, place)?;
+        note_key(&mut firsts, key_of(alloc, topic, member), place)?;
     }
     Ok(firsts)
 }
@@ -136,16 +135,19 @@ impl<'a> Protos<'a> {
     }
 }
 
-// The class that an item is.
-fn class_in(item: &Item) -> Option<&Class>
-    ensures { MatchOption result ((is : List Item) →
-        classes_of (item.now ∷ is) ≡ classes_of is) (λ c. (is : List Item) →
-        classes_of (item.now ∷ is) ≡ c.now ∷ classes_of is) }
+// Those of the class that an item is, behind those of the items before.
+fn push_protos<'a>(
+    protos: &mut Vec<Protos<'a>>,
+    alloc: Global,
+    item: &'a Item,
+) -> Result<(), AllocError>
+    ensures { OnOk result ((is : List Item) →
+        protos.new.items ++ classes_of is ≡ protos.old.items ++ classes_of (item.now ∷ is)) }
 {
-    match &item.form {
-        ItemForm::Class { class } => Some(class),
-        _ => None,
+    if let ItemForm::Class { class } = &item.form {
+        protos.push(Protos::new(alloc, class)?)?;
     }
+    Ok(())
 }
 
 /// The tables of the classes among these items, events included, in textual order.
@@ -154,9 +156,7 @@ pub fn protos_in<'a>(alloc: Global, items: &'a [Item]) -> Result<Vec<Protos<'a>>
 {
     let mut protos = Vec::new(alloc);
     for item in items {
-        if let Some(class) = class_in(item) {
-            protos.push(Protos::new(alloc, class)?)?;
-        }
+        push_protos(&mut protos, alloc, item)?;
     }
     Ok(protos)
 }

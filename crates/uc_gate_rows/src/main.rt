@@ -1,11 +1,13 @@
 // Runs the program of four tasks on two processors, through a gate at which rides of the two wait for each other, and prints how many
 // pairs of rides were out at once, and what the program printed. Then runs a program that has a processor of its own, by one worker,
-// through a gate that writes down what it is told, and prints that.
+// through a gate that writes down what it is told, and prints that. Then has two and eight threads write into one diary behind a lock.
 #![tactic(auto)]
 
+mod diary;
 mod ledger;
 mod meeting;
 
+use crate::diary::written;
 use crate::ledger::Ledger;
 use crate::meeting::Meeting;
 use std::alloc::{AllocError, Global};
@@ -97,7 +99,10 @@ fn main(rt: HostRuntime) -> io::Result<()> {
     let alloc = rt.alloc();
     let met = meet(&rt, alloc)?;
     print!(rt; "{met}")?;
-    let written = write_down(&rt, alloc)?;
-    println!(rt; "{}", written.as_str().trim_end())?;
+    let told = write_down(&rt, alloc)?;
+    print!(rt; "{told}")?;
+    let two = written(&rt, alloc, 2)?;
+    let eight = written(&rt, alloc, 8)?;
+    println!(rt; "{two}{}", eight.as_str().trim_end())?;
     Ok(())
 }

@@ -2,7 +2,7 @@
 -- and what is read in what lies outside the frames of the running execution is read elsewhere.
 use Rattle.std.proofs.Common.{◌≡◌, ℕ, ◌<◌, ◌⊎◌, inl, inr, ⊎_elim, List, [], ◌∷◌, Option, Some, None, Bool, true, false, refl, sym, ap, ◌∙◌, subst}
 use Rattle.std.specs.Prelude.{if◌then◌else◌, slice_get, slice_index_or}
-use Rattle.uc_tree.specs.Source.{Expr, Variable, OfObject, ObjectExpr, This, GetOwn, OwnField, CleanUp, Destroys, DestroysAll, Scoped, Source, Routine}
+use Rattle.uc_tree.specs.Source.{Expr, Shape, Variable, OfObject, ObjectExpr, This, GetOwn, OwnField, CleanUp, Destroys, DestroysAll, Scoped, Source, Routine}
 use Rattle.uc_machine.specs.declared.exec.Exec.{Exec}
 use Rattle.uc_machine.specs.declared.exec.Home.{Home}
 use Rattle.uc_machine.specs.declared.exec.Owner.{Owner}
@@ -12,7 +12,7 @@ use Rattle.uc_machine.specs.Switches.{new_exec}
 use Rattle.uc_machine.specs.Quiet.{home_at}
 use Rattle.uc_machine.specs.Pieces as piece
 use Rattle.uc_machine.specs.Pieces.{Link, Slot, FieldAt, Value, Number, Place, Running, Object, Nothing, Todo, Sort, Active, State, Members, Eval, LoadNow, Rest, SetUpNow, SpawnNow, address, further, loaded, nought, top, object_in}
-use Rattle.uc_typing.specs.Typing.{Ty, Num, Cell, Obj, Raw, Row, Clu, Pro, Name, Sig, Table, IsMain, Yields, ObjectGives, CleansAt}
+use Rattle.uc_typing.specs.Typing.{Ty, Num, Cell, Obj, Raw, Row, Clu, Pro, Name, Sig, Table, IsMain, Yields, ObjectGives, DestroysAt, CleansAt}
 use Rattle.uc_typing.specs.Pieces.{Ok}
 use Rattle.uc_typing.specs.States.{Sound, IsObjectBy}
 use Rattle.uc_typing.proofs.Answers.{there}
@@ -21,7 +21,7 @@ use Rattle.uc_meaning.specs.Runs.{World}
 use Rattle.uc_state_laws.specs.RoomRuns.{Comes}
 use Rattle.uc_name_laws.specs.Below.{IsNamed}
 use Rattle.uc_life_laws.specs.NamedRuns.{ComesNamed}
-use Rattle.uc_life_laws.specs.Things.{Few, numbered, is_outside, Within, itself, field, element, AtField, IsFor, Marks, InTodo, Base, Things, OwnFields, LiesIn, IsFew, Known, Holds, Held, lies}
+use Rattle.uc_life_laws.specs.Things.{Few, numbered, is_outside, Within, itself, field, element, AtVariable, AtField, IsFor, Marks, InTodo, InStack, NoBase, Base, Things, OwnFields, LiesIn, IsFew, Known, Holds, Held, lies}
 use Rattle.uc_life_laws.specs.LifeStates.{frame_at, Outwards, OpensAtBy}
 use Rattle.uc_life_laws.specs.Opened.{ObjectsHold}
 use Rattle.uc_life_laws.specs.Lives.{OutwardsOrMade, LivesState}

@@ -1,6 +1,9 @@
 -- Each step finds what it is to find, in each run of a program that breaks no rule.
-use Rattle.std.proofs.Common.{ℕ, zero, suc, Bool, true}
+use Rattle.std.proofs.Common.{◌≡◌, ℕ, zero, suc, Bool, true, false, List, []}
+use Rattle.uc_tree.specs.Programs.{Program}
 use Rattle.uc_tree.specs.Source.{Source}
+use Rattle.uc_entry.specs.declared.entry.Options.{Options}
+use Rattle.uc_acts.specs.Journal.{Journal}
 use Rattle.uc_machine.specs.Quiet.{State}
 use Rattle.uc_resolve.specs.Resolve.{source_of}
 use Rattle.uc_typing.specs.Typing.{Ty, Table}

@@ -3,6 +3,8 @@ use Rattle.std.proofs.Common.{ℕ, ◌⊎◌, inl, inr, List, [], ◌∷◌, Opt
 use Rattle.uc_tree.specs.Source.{Source}
 use Rattle.uc_entry.specs.declared.request.Request.{Request}
 use Rattle.uc_entry.specs.declared.request.Request.TheVariants as ask
+use Rattle.uc_machine.specs.declared.exec.UnwindReason.{UnwindReason}
+use Rattle.uc_machine.specs.declared.exec.UnwindReason.TheVariants as reason
 use Rattle.uc_machine.specs.Pieces as pc
 use Rattle.uc_machine.specs.declared.exec.Exec.{Exec}
 use Rattle.uc_machine.specs.declared.exec.Home.{Home}
@@ -17,7 +19,7 @@ use Rattle.uc_life_laws.specs.Things.{Few}
 use Rattle.uc_life_laws.specs.LifeStates.{SlotBy, ParkedBy, HandBy, MembersBy, EnvBy, StepIs}
 use Rattle.uc_life_laws.specs.LifeLaws.{LawKnown}
 use Rattle.uc_life_laws.specs.Knowing.{Anything, AskedBy, StepBy, ClaimsBy, ClaimsEx, ClaimsSlot, ClaimsEnv, ClaimsState, KnowsBy, KnowsEx, KnowsSlot, KnowsState, KnowsEnv, KnowsStep}
-use Rattle.uc_life_laws.specs.Kinds.{GoesOn, Parks, FollowsOn, Claimed}
+use Rattle.uc_life_laws.specs.Kinds.{Returns, GoesPast, GoesOn, Parks, FollowsOn, Claimed}
 use Rattle.uc_life_laws.proofs.Parking.{anything_kept}
 use Rattle.uc_life_laws.proofs.Reading.{life_read}
 use Rattle.uc_life_laws.proofs.Acting.{law_claims}

@@ -15,7 +15,7 @@ use Rattle.uc_machine.specs.Switches.{stopped}
 use Rattle.uc_machine.specs.Pieces.{Value, Object}
 use Rattle.uc_machine.specs.Quiet.{State, Members, fresh, quiet}
 use Rattle.uc_machine.specs.Answering.{answered, child_main, with_operand, entered}
-use Rattle.uc_meaning.specs.Runs.{drawn}
+use Rattle.uc_meaning.specs.Runs.{World, drawn}
 use Rattle.uc_state_laws.proofs.Others.{run_rests}
 use Rattle.uc_resolve.specs.Resolve.{source_of}
 use Rattle.uc_state_laws.specs.Layout.{Sized}

@@ -20,12 +20,13 @@ use Rattle.uc_acts.proofs.Acting.{object_of, destroys, AllBy, by_row}
 use Rattle.uc_acts.proofs.Bounds.{over_limit}
 use Rattle.uc_answer_laws.proofs.Told.{no_both}
 use Rattle.uc_machine.specs.declared.exec.Exec.{Exec}
+use Rattle.uc_machine.specs.declared.exec.Home.{Home}
 use Rattle.uc_machine.specs.declared.exec.Home.TheVariants as home
 use Rattle.uc_machine.specs.declared.exec.Stage.{Stage}
 use Rattle.uc_machine.specs.declared.exec.Stage.TheVariants.{Fresh, Started, Ended}
 use Rattle.uc_machine.specs.Executions.{Execution}
 use Rattle.uc_machine.specs.Pieces.{Value, Todo}
-use Rattle.uc_machine.specs.Quiet.{State}
+use Rattle.uc_machine.specs.Quiet.{State, Env, Members}
 use Rattle.uc_machine.specs.Answering.{answered, child_main}
 use Rattle.uc_meaning.specs.Runs.{World, May, Runs, drawn, gives, no_room, acts, begun, more}
 use Rattle.uc_state_laws.specs.Fitting.{RunFits}
@@ -44,7 +45,7 @@ use Rattle.uc_sound.specs.Tables.{table_of}
 use Rattle.uc_sound.proofs.MainLemmas.{law_mains}
 use Rattle.uc_sound.proofs.SoundLemmas.{law_sound}
 use Rattle.uc_life_laws.specs.Things.{Few}
-use Rattle.uc_life_laws.specs.LifeStates.{EnvBy}
+use Rattle.uc_life_laws.specs.LifeStates.{SlotBy, ParkedBy, HandBy, MembersBy, EnvBy}
 use Rattle.uc_life_laws.specs.LifeRuns.{IsLaidOut}
 use Rattle.uc_life_laws.specs.Knowing.{KnowsState, AskedBy, StepBy, Names, HasObject}
 use Rattle.uc_life_laws.specs.KnownAnswers.{Passes, MainPasses}

@@ -16,7 +16,7 @@ use Rattle.uc_tree.specs.Source.{Routine}
 use Rattle.uc_machine.specs.Quiet.{fresh}
 use Rattle.uc_machine.specs.Pieces.{Value, Number, Place, Running, Object, Nothing, Todo, Active, State, Env, Members, address, stored, nought, written}
 use Rattle.uc_typing.specs.Typing.{Table}
-use Rattle.uc_life_laws.specs.LifeStates.{BehindMark, SlotBy, ParkedBy, EnvBy, LifeStackBy, LifeStateBy, OutwardsOnly, LifeEx, LifeEnv, LifeState}
+use Rattle.uc_life_laws.specs.LifeStates.{BehindMark, SlotBy, ParkedBy, EnvBy, LifeStackBy, LifeStateBy, OutwardsOnly, LifeStack, LifeEx, LifeEnv, LifeState}
 use Rattle.uc_life_laws.proofs.Cells.{either, set_length, stack_stored}
 use Rattle.uc_life_laws.proofs.Parked as parked
 use Rattle.uc_life_laws.proofs.Parked.{Ex, at_home}

@@ -1,9 +1,11 @@
 -- What variables in scope hold, step by step, by the kinds of frames.
 use Rattle.std.proofs.Common.{◌≡◌, ℕ, suc, ◌≤◌, ◌<◌, ◌⊎◌, inl, inr, ⊎_elim, Bool, true, false, List, [], ◌∷◌, length, Some, refl, sym, ap, ◌∙◌, subst, arith}
-use Rattle.std.specs.Prelude.{nat_eq, if◌then◌else◌}
+use Rattle.std.specs.Prelude.{nat_eq, if◌then◌else◌, slice_get}
 use Rattle.std.proofs.lemmas.Bool.{eqb-true}
-use Rattle.uc_tree.specs.Source.{Source, CleanUp}
+use Rattle.uc_tree.specs.Source.{Source, Routine, CleanUp}
 use Rattle.uc_machine.specs.declared.exec.Exec.{Exec}
+use Rattle.uc_machine.specs.declared.exec.Owner.{Owner}
+use Rattle.uc_machine.specs.declared.exec.Owner.TheVariants.{Frame}
 use Rattle.uc_machine.specs.Executions.{at_depth, others}
 use Rattle.uc_machine.specs.Switches.{stopped}
 use Rattle.uc_machine.specs.Pieces as pc
@@ -13,14 +15,14 @@ use Rattle.uc_typing.specs.Typing.{Ty, Sig, Table}
 use Rattle.uc_typing.specs.States.{Sound}
 use Rattle.uc_typing.proofs.Unwinds as un
 use Rattle.uc_life_laws.specs.Things.{Few}
-use Rattle.uc_life_laws.specs.LifeStates.{frame_at, BehindMark, Outwards, MarkHoldsBy, AllHoldBy, LifeStackBy, LifeStateBy, StepIs, OpensBy, Clears}
+use Rattle.uc_life_laws.specs.LifeStates.{frame_at, BehindMark, Outwards, MarkHoldsBy, AllHoldBy, LifeStackBy, LifeExBy, LifeStateBy, StepIs, OpensBy, Clears}
 use Rattle.uc_life_laws.specs.Knowing.{InMaking, ClaimsEnv, ClaimsState, StepBy, VariablesKnown, Finds}
 use Rattle.uc_life_laws.specs.Kinds.{IsKept, Turned, stays, begins, goes_back, GoesOn, Parks, FollowsOn, Claimed}
 use Rattle.uc_life_laws.specs.Lives.{MakingAt, MakingIn, OutwardsOrMade, Lives, LivesState, FindsLiving, LawLives}
 use Rattle.uc_life_laws.proofs.Cells.{others_length}
 use Rattle.uc_life_laws.proofs.Parked.{Ex, each_env}
 use Rattle.uc_life_laws.proofs.GoingOn.{goes_or}
-use Rattle.uc_life_laws.proofs.Knowns.{known_more, frames_length}
+use Rattle.uc_life_laws.proofs.Knowns.{Less, known_more, frames_length}
 use Rattle.uc_life_laws.proofs.Reading.{AllBehind, variables_read}
 use Rattle.uc_life_laws.proofs.LifeKeeping.{IsParkedKept}
 use Rattle.uc_life_laws.proofs.LifeSteps.{life_kept}

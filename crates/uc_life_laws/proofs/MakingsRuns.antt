@@ -3,9 +3,12 @@ use Rattle.std.proofs.Common.{◌≡◌, ℕ, inl, inr, Bool, List, [], ◌∷�
 use Rattle.std.specs.Prelude.{slice_get}
 use Rattle.uc_tree.specs.Source.{Source, Routine}
 use Rattle.uc_machine.specs.declared.exec.Exec.{Exec}
+use Rattle.uc_machine.specs.declared.exec.Home.{Home}
 use Rattle.uc_machine.specs.declared.exec.Home.TheVariants as home
+use Rattle.uc_machine.specs.declared.exec.Stage.{Stage}
+use Rattle.uc_machine.specs.declared.exec.Stage.TheVariants.{Fresh, Started, Ended}
 use Rattle.uc_machine.specs.Switches.{stopped}
-use Rattle.uc_machine.specs.Pieces.{Value, Object}
+use Rattle.uc_machine.specs.Pieces.{Value, Object, Env}
 use Rattle.uc_machine.specs.Quiet.{State, Members, fresh}
 use Rattle.uc_machine.specs.Answering.{answered, child_main, with_operand, entered}
 use Rattle.uc_meaning.specs.Runs.{drawn}
@@ -24,9 +27,9 @@ use Rattle.uc_sound.specs.Tables.{table_of}
 use Rattle.uc_sound.proofs.MainLemmas.{law_mains}
 use Rattle.uc_sound.proofs.SoundLemmas.{law_sound}
 use Rattle.uc_life_laws.specs.Things.{Few, Known}
-use Rattle.uc_life_laws.specs.LifeStates.{MembersBy, LifeState}
+use Rattle.uc_life_laws.specs.LifeStates.{SlotBy, ParkedBy, HandBy, MembersBy, EnvBy, LifeState}
 use Rattle.uc_life_laws.specs.LifeRuns.{IsLaidOut}
-use Rattle.uc_life_laws.specs.Knowing.{AtHand, ClaimsSlot, main_of}
+use Rattle.uc_life_laws.specs.Knowing.{AtHand, ClaimsBy, ClaimsEx, ClaimsSlot, ClaimsState, KnowsBy, KnowsEx, KnowsSlot, KnowsState, main_of}
 use Rattle.uc_life_laws.specs.Kinds.{Claimed}
 use Rattle.uc_life_laws.specs.Makings.{Makings}
 use Rattle.uc_life_laws.specs.MakingsRuns.{MeetsMaking, KnowsElsewhere, LawMakingsRuns}

@@ -4,7 +4,7 @@ use Rattle.uc_tree.specs.Source as src
 use Rattle.uc_tree.specs.Source.{Stmts}
 use Rattle.uc_machine.specs.Pieces as piece
 use Rattle.uc_machine.specs.Pieces.{Value, Todo, Sort, Active}
-use Rattle.uc_life_laws.specs.Placed.{Placed, put, placed, stacked, Ends, behind}
+use Rattle.uc_life_laws.specs.Placed.{Placed, put, placed, stacked, Ends, all, behind}
 use Rattle.uc_life_laws.specs.Outermost.{outer_elements, outer_by, outermost}
 
 module _ (ps : List Placed) where

@@ -17,9 +17,10 @@ use Rattle.uc_machine.specs.Pieces as piece
 use Rattle.uc_machine.specs.Pieces.{Link, Value, Number, Place, Running, Object, Nothing, Todo, Sort, Active, State, Env, Members, further}
 use Rattle.uc_meaning.specs.Runs.{World}
 use Rattle.uc_typing.specs.Typing.{Ty, Cell, Obj, Raw, Row, Sig, Table}
-use Rattle.uc_life_laws.specs.Things.{Few, Within, itself, field, element, AtField, IsFor, Marks, InTodo, Base, Things, Stands, lies, inside, Held}
+use Rattle.uc_life_laws.specs.Things.{Few, Within, itself, field, element, AtField, IsFor, Marks, InTodo, Base, Things, Around, Variables, Stands, lies, inside, Held}
 use Rattle.uc_life_laws.specs.LifeStates.{SlotBy, ParkedBy, HandBy, MembersBy, EnvBy}
 use Rattle.uc_life_laws.specs.Knowing.{AtHand, InMaking, KnowsState}
+use Rattle.uc_life_laws.proofs.Knowns.{held_more, around_hand}
 use Rattle.uc_life_laws.proofs.Reading.{within_raw, not_whole, NoNumber, behind_number}
 use Rattle.uc_life_laws.proofs.Fewer.{both_members, both_env}
 use Rattle.uc_life_laws.specs.Fewer.{Lasts, HandLasts, ExLasts, RunLasts}

@@ -36,6 +36,7 @@ use Rattle.uc_machine.specs.declared.exec.Home.TheVariants as home
 use Rattle.uc_machine.specs.Executions.{home_eq, members_at, slot_in}
 use Rattle.uc_machine.specs.Pieces.{State, Members}
 use Rattle.uc_machine.specs.Quiet.{zeros, first_state}
+use Rattle.uc_machine.specs.Rides.{Rides, slices, goes_on, ticks, asks}
 use Rattle.uc_machine.specs.Answering.{answered, child_of, child_main, with_hand}
 use Rattle.uc_meaning.specs.Runs.{World, Runs, AsksIn, gives, no_room, acts, begun, more, first_world, first_home, with_home, hand_of, drawn, bare, or_else, world_after}
 use Rattle.uc_step_laws.specs.Hands.{keys}

@@ -1,20 +1,21 @@
 -- What follows from a premise at each state of a run that follows from it at one to which whoever runs comes.
-use Rattle.std.proofs.Common.{◌≡◌, ℕ, false, List}
+use Rattle.std.proofs.Common.{◌≡◌, ℕ, false, List, []}
 use Rattle.uc_tree.specs.Source.{Source}
 use Rattle.uc_entry.specs.declared.entry.Options.{Options}
 use Rattle.uc_entry.specs.declared.request.Asked.{Asked}
 use Rattle.uc_acts.specs.Journal.{Journal, is_over}
+use Rattle.uc_acts.specs.Serves.{left}
 use Rattle.uc_acts.specs.KernelRuns.{InRange}
 use Rattle.uc_machine.specs.Quiet.{State, Goes, Ticks, quiet}
 use Rattle.uc_machine.specs.Answering.{answered}
 use Rattle.uc_machine.specs.Rides as rides
 use Rattle.uc_machine.specs.Rides.{Rides}
-use Rattle.uc_meaning.specs.Runs.{World, Runs, drawn, gives, no_room, acts, begun, more}
+use Rattle.uc_meaning.specs.Runs.{World, Runs, AsksIn, drawn, gives, no_room, acts, begun, more}
 use Rattle.uc_state_laws.specs.Fitting.{RunFits}
 use Rattle.uc_state_laws.specs.RoomRuns as runs
 use Rattle.uc_state_laws.specs.RoomRuns.{Leads, Comes}
 use Rattle.uc_state_laws.specs.Endings.{still_reading, RideHolds, RunHolds, LeadsHold}
-use Rattle.uc_life_laws.specs.NamedRuns.{AllNamed}
+use Rattle.uc_life_laws.specs.NamedRuns.{ComesNamed, AllNamed}
 use Rattle.uc_life_laws.proofs.NamedLemmas.{law_named_runs}
 use Rattle.uc_life_laws.specs.FoundRuns.{AllIsFound}
 use Rattle.uc_life_laws.proofs.FoundReads.{SetsUpNew, sets_up}

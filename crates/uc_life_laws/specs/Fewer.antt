@@ -4,7 +4,7 @@ use Rattle.uc_machine.specs.declared.exec.Exec.{Exec}
 use Rattle.uc_machine.specs.declared.exec.Stage.{Stage}
 use Rattle.uc_machine.specs.declared.exec.Stage.TheVariants.{Fresh, Started, Ended}
 use Rattle.uc_machine.specs.Executions.{Execution, others}
-use Rattle.uc_machine.specs.Pieces.{Value, Number, Object, Todo, State}
+use Rattle.uc_machine.specs.Pieces.{Value, Number, Object, Todo, Active, State}
 use Rattle.uc_typing.specs.Typing.{Ty, Obj, Raw, Clu, Pro, Table}
 use Rattle.uc_life_laws.specs.Things.{Few, Held}
 use Rattle.uc_life_laws.specs.LifeStates.{EnvBy}

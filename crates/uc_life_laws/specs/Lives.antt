@@ -4,13 +4,14 @@ use Rattle.std.specs.Prelude.{◌≡◌, ℕ, ◌⊎◌, List, [], ◌∷◌, So
 use Rattle.uc_tree.specs.Source.{Source}
 use Rattle.uc_machine.specs.declared.exec.Exec.{Exec}
 use Rattle.uc_machine.specs.Executions.{Execution, at_depth}
+use Rattle.uc_machine.specs.Switches.{stopped}
 use Rattle.uc_machine.specs.Pieces.{Value, Todo, Active, State}
 use Rattle.uc_machine.specs.Quiet.{quiet}
 use Rattle.uc_typing.specs.Typing.{Ty, Sig, Table}
 use Rattle.uc_typing.specs.States.{Sound}
 use Rattle.uc_life_laws.specs.Things.{Few}
 use Rattle.uc_life_laws.specs.LifeStates.{BehindMark, LifeExBy, OpensBy, Clears}
-use Rattle.uc_life_laws.specs.Knowing.{Making, ClaimsEnv, StepBy, VariablesKnown, Finds}
+use Rattle.uc_life_laws.specs.Knowing.{Making, ClaimsEnv, ClaimsState, StepBy, VariablesKnown, Finds}
 use Rattle.uc_life_laws.specs.Kinds.{Claimed}
 
 -- the object of an activation with this frame, where the kind of that is one of what builds or destroys it

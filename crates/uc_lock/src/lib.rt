@@ -8,8 +8,6 @@ mod plays;
 mod seat;
 mod shared;
 mod table;
-#[cfg(test)]
-mod tests;
 mod view;
 
 pub use seat::{Held, Seat};

@@ -1,14 +1,14 @@
-// Threads that write into one diary, each with a seat of its own.
+// Threads that write into one diary behind a lock, each with a seat of its own.
+
 ghost use Rattle.std.specs.Prelude.{◌≡◌, ◌<◌, ◌≤◌, false, IfOk, All, length};
 ghost use Rattle.uc_lock.specs.Journals.{Extends};
 ghost use Rattle.uc_lock.specs.Meanings.{IsSeatOf};
 
-use crate::{Journaled, Seat, Shared};
 use std::alloc::{AllocError, Global};
 use std::sync::Wait;
-use std::test::Fail;
 use std::thread;
 use std::thread::Threads;
+use uc_lock::{Journaled, Seat, Shared};
 
 // Entries with their makers, up to the room that was taken at first.
 #[derive(Drop)]
@@ -106,22 +106,24 @@ fn filled<R: Threads + Wait + Sync>(
     Ok(lock.close(seats))
 }
 
-#[test]
-fn two_threads_write_a_thousand_entries_each(rt: HostRuntime) -> Result<(), Fail> {
-    let diary = filled(&rt, rt.alloc(), 2, 1000)?;
-    assert_eq!(rt; diary.owner, 7);
-    assert_eq!(rt; diary.entries.len(), 2000);
-    assert_eq!(rt; diary.count(0), Some(1000));
-    assert_eq!(rt; diary.count(1), Some(1000));
-    Ok(())
-}
-
-#[test]
-fn eight_threads_write_a_thousand_entries_each(rt: HostRuntime) -> Result<(), Fail> {
-    let diary = filled(&rt, rt.alloc(), 8, 1000)?;
-    assert_eq!(rt; diary.entries.len(), 8000);
-    for maker in 0..8 {
-        assert_eq!(rt; diary.count(maker), Some(1000), "of {maker}");
-    }
-    Ok(())
+/// What a diary holds when so many threads, 1 to 8, wrote a thousand entries each: its owner, its entries, and of how many threads all
+/// stand in order.
+pub fn written<R: Threads + Wait + Sync>(
+    rt: &R,
+    alloc: Global,
+    threads: u32,
+) -> Result<String, AllocError>
+    requires { (1 ≤ threads) × (threads ≤ 8) }
+{
+    let diary = filled(rt, alloc, threads, 1000)?;
+    let ordered = (0..threads)
+        .filter(|maker| diary.count(*maker) == Some(1000))
+        .count();
+    format!(in alloc;
+        "threads {} owner {} entries {} in order {}\n",
+        threads,
+        diary.owner,
+        diary.entries.len(),
+        ordered
+    )
 }
