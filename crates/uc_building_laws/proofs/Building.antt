@@ -1,5 +1,5 @@
 -- What is still to be bound of an object that is built, and that it holds what is known once nothing is.
-use Rattle.std.proofs.Common.{◌≡◌, ℕ, suc, ◌⊎◌, inl, inr, Bool, List, [], ◌∷◌, length, refl, sym, subst}
+use Rattle.std.proofs.Common.{◌≡◌, ℕ, suc, ◌⊎◌, inl, inr, Bool, true, List, [], ◌∷◌, length, refl, sym, subst}
 use Rattle.std.specs.Prelude.{slice_index_or}
 use Rattle.uc_tree.specs.Source as src
 use Rattle.uc_tree.specs.Source.{Stmt, Stmts, CleanUp}
