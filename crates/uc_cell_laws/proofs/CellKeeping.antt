@@ -1,5 +1,5 @@
 -- What own cells of frames hold goes on where members, executions and who runs change.
-use Rattle.std.proofs.Common.{◌≡◌, ℕ, ℤ, Bool, length, ap, ◌∙◌, true, false, List, ◌∷◌, Option, Some, None, refl, sym, subst}
+use Rattle.std.proofs.Common.{◌≡◌, ℕ, ℤ, Bool, length, ap, ◌∙◌, true, false, List, Option, Some, None, refl, sym, subst}
 use Rattle.std.specs.Prelude.{if◌then◌else◌}
 use Rattle.uc_entry.specs.declared.fault.RunFault.TheVariants.{ResumeInUse, SwitchInUnwind}
 use Rattle.uc_entry.specs.Keyed.{find}

@@ -3,11 +3,10 @@ use Rattle.std.proofs.Common.{◌≡◌, ℕ, zero, suc, inl, inr, List, [], ◌
 use Rattle.std.specs.Prelude.{slice_set}
 use Rattle.uc_tree.specs.Source.{Shape, Expr}
 use Rattle.uc_machine.specs.Pieces as piece
-use Rattle.uc_machine.specs.Pieces.{Value, Todo, top, below}
-use Rattle.uc_typing.specs.Typing.{Ty, Row, Table}
-use Rattle.uc_state_laws.specs.Counted.{params}
+use Rattle.uc_machine.specs.Pieces.{Value, Todo, below}
+use Rattle.uc_typing.specs.Typing.{Row, Table}
 use Rattle.uc_cell_laws.specs.Sites.{Telling}
-use Rattle.uc_cell_laws.specs.CellTodos.{Around, Mark, Any, Sited, Lent, rest, rests, anys, FirstRow, Meets, Holds, Finding, after, Ok, Left}
+use Rattle.uc_cell_laws.specs.CellTodos.{Around, Mark, Any, Sited, Lent, rest, rests, anys, FirstRow, Holds, Finding, after, Ok, Left}
 
 -- operands
 

@@ -1,7 +1,7 @@
 -- Where places lie that code of a routine finds: in a frame of a routine, as own parts of what its scopes are of, or in no frame; so what may be written there.
-use Rattle.std.proofs.Common.{◌≡◌, ℕ, ℤ, pos, ◌≤◌, ◌<◌, ◌⊎◌, inl, inr, Bool, true, false, List, [], ◌∷◌, length, Option, Some, None, refl, sym, ap, ◌∙◌, subst, arith}
+use Rattle.std.proofs.Common.{◌≡◌, ℕ, ◌≤◌, ◌<◌, ◌⊎◌, inl, inr, true, false, List, [], ◌∷◌, Some, refl, sym, ap, ◌∙◌, subst, arith}
 use Rattle.uc_tree.specs.Source as src
-use Rattle.uc_tree.specs.Source.{Shape, Expr, Routine}
+use Rattle.uc_tree.specs.Source.{Shape, Routine}
 use Rattle.std.specs.Prelude.{slice_get}
 use Rattle.uc_machine.specs.declared.exec.Exec.{Exec}
 use Rattle.uc_machine.specs.declared.exec.Owner.{Owner}
@@ -12,9 +12,9 @@ use Rattle.uc_typing.specs.Typing.{Ty, Cell, Obj, Row, Table, element_shape}
 use Rattle.uc_life_laws.specs.Things.{IsField, IsMutex, Within, itself, field, element}
 use Rattle.uc_life_laws.specs.HomedStates.{Owns, Inside, all_of_it, own_field, own_element}
 use Rattle.uc_cell_laws.specs.Places.{LiesInScope}
-use Rattle.uc_cell_laws.specs.Sites.{Telling, IsAtField, HasPlace, IsLent}
-use Rattle.uc_cell_laws.specs.CellTodos.{IsOwnPart, Around, Mark, Sited, Lent, FirstBound, IsOfThis, IsOfLent, Meets, Holds}
-use Rattle.uc_cell_laws.specs.CellStates.{is_unframed, IsOwnCell, OfClass, IsRooted, Fits}
+use Rattle.uc_cell_laws.specs.Sites.{Telling, HasPlace, IsLent}
+use Rattle.uc_cell_laws.specs.CellTodos.{IsOwnPart, Around, Mark, Sited, Lent, FirstBound, Meets, Holds}
+use Rattle.uc_cell_laws.specs.CellStates.{is_unframed, IsOwnCell, IsRooted, Fits}
 
 -- own parts
 

@@ -1,6 +1,6 @@
 -- A quiet step of a task in which the own cells of frames hold no object or what is at home there leads to one.
 use Rattle.std.proofs.Common.{◌≡◌, ℕ, ℤ, pos, negsuc, zero, suc, ◌≤◌, ◌<◌, ◌⊎◌, inl, inr, ◌++◌, Bool, true, false, List, [], ◌∷◌, length, drop, Option, Some, None, refl, arith, ap, ◌∙◌, subst, sym}
-use Rattle.std.specs.Prelude.{◌&&◌, nat_eq, nat_lt, if◌then◌else◌}
+use Rattle.std.specs.Prelude.{nat_eq, nat_lt, if◌then◌else◌}
 use Rattle.std.proofs.lemmas.Bool.{ltb-true}
 use Rattle.uc_tree.specs.declared.limits.TheConstants.{CALLS, PENDING_EVENTS}
 use Rattle.uc_tree.specs.Source as src
@@ -33,7 +33,7 @@ use Rattle.uc_state_laws.proofs.ValueSteps.{exec_same}
 use Rattle.uc_life_laws.specs.LifeStates.{frame_at}
 use Rattle.uc_life_laws.proofs.HomedCells.{either, set_length, others_length}
 use Rattle.uc_cell_laws.specs.Sites.{Telling, IsNoMaker, CallsMutex, EndsAt, SitedExpr}
-use Rattle.uc_cell_laws.specs.CellTodos.{Around, around, Mark, Any, Sited, Lent, rest, rests, anys, FirstSited, FirstRow, FirstBound, Meets, Holds, Finding, CodeExpr, CodeClean, CodeStmt, CodeStmts, CodeHandlers, CodeRoutine, CallFits, MakeFits, LeftBy, Ok, Left}
+use Rattle.uc_cell_laws.specs.CellTodos.{Around, around, Mark, Any, Sited, Lent, rest, rests, anys, FirstSited, FirstRow, FirstBound, Meets, Holds, Finding, CodeExpr, CodeClean, CodeStmt, CodeStmts, CodeHandlers, CallFits, MakeFits, LeftBy, Ok, Left}
 use Rattle.uc_cell_laws.specs.CellStates.{IsOwnCell, AllCells, IsRooted, IsOf, AllWait, CellEx, CellRest, CellState, CellStep, Fits, FindsNumber}
 use Rattle.uc_cell_laws.proofs.CellMarks as marks
 use Rattle.uc_cell_laws.proofs.CellMarks.{holds_below, holds_drop, bound_under}

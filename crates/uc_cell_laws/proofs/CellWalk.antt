@@ -1,27 +1,25 @@
 -- Every quiet step of a task in which the own cells of frames hold no object, or what is at home there, and answers to it.
-use Rattle.std.proofs.Common.{◌≡◌, ℕ, ◌≤◌, ◌<◌, inl, List, [], ◌∷◌, ◌++◌, drop, Option, Some, None, refl, arith, subst}
-use Rattle.std.specs.Prelude.{nat_lt, slice_get, if◌then◌else◌}
+use Rattle.std.proofs.Common.{◌≡◌, ℕ, inl, List, [], ◌∷◌, drop, Option, Some, None, refl, arith, subst}
+use Rattle.std.specs.Prelude.{nat_lt, slice_get}
 use Rattle.uc_tree.specs.Source as src
 use Rattle.uc_tree.specs.Source.{Routine, routine_or_none, routine_of}
 use Rattle.uc_entry.specs.declared.fault.RunFault.TheVariants.{NoReturn}
 use Rattle.uc_entry.specs.declared.request.Answer.{Answer}
 use Rattle.uc_entry.specs.declared.request.Answer.TheVariants as answer
-use Rattle.uc_machine.specs.declared.exec.Home.{Home}
 use Rattle.uc_machine.specs.declared.exec.Home.TheVariants as home
-use Rattle.uc_machine.specs.declared.exec.Owner.TheVariants.{Frame}
 use Rattle.uc_machine.specs.Raising as raising
 use Rattle.uc_machine.specs.Monitors as monitors
 use Rattle.uc_machine.specs.Quiet as quiet
 use Rattle.uc_machine.specs.Quiet.{first_state}
 use Rattle.uc_machine.specs.Pieces as piece
-use Rattle.uc_machine.specs.Pieces.{Link, Value, Todo, State, Members, LAST_ADDRESS, address, at, top, below, number}
+use Rattle.uc_machine.specs.Pieces.{Value, Todo, State, Members, at, top, below, number}
 use Rattle.uc_machine.specs.Answering.{answered, entered, new_members, with_operand}
 use Rattle.uc_answer_laws.specs.Suiting.{Form, AnObject, AClause, ANumber, AValue, AnEvent, JustGo, IsForm}
 use Rattle.uc_life_laws.proofs.HomedCells.{either}
 use Rattle.uc_life_laws.proofs.Parked as parked
 use Rattle.uc_cell_laws.specs.Sites.{Telling, IsNoMaker}
-use Rattle.uc_cell_laws.specs.CellTodos.{around, Mark, Any, Holds, rest, anys, CodeExpr, CodeStmt, CodeRoutine, Ok}
-use Rattle.uc_cell_laws.specs.CellStates.{IsOwnCell, CellEx, CellMembers, CellRest, CellState, CellsFor, CellStep, FindsAt, CellFinds}
+use Rattle.uc_cell_laws.specs.CellTodos.{around, Mark, Any, Holds, rest, CodeExpr, CodeStmt, CodeRoutine, Ok}
+use Rattle.uc_cell_laws.specs.CellStates.{CellEx, CellMembers, CellRest, CellState, CellsFor, CellStep, FindsAt, CellFinds}
 use Rattle.uc_cell_laws.proofs.CellFrames.{cells_zero}
 use Rattle.uc_cell_laws.proofs.CellMarks.{holds_below}
 use Rattle.uc_cell_laws.proofs.CellLists as todos

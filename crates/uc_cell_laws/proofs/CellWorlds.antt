@@ -1,6 +1,6 @@
 -- In every run in which each step finds it, the own cells of frames hold no object, or what is at home there.
 use Rattle.std.proofs.Common.{◌≡◌, ℕ, ◌<◌, ◌≤◌, ◌==◌, ◌||◌, Bool, true, false, List, [], ◌∷◌, ◌++◌, Option, Some, None, refl, sym, ap, ◌∙◌, subst, arith, append-nil, append_assoc, ⊎_elim}
-use Rattle.std.specs.Prelude.{if◌then◌else◌, slice_get}
+use Rattle.std.specs.Prelude.{if◌then◌else◌}
 use Rattle.std.proofs.lemmas.Bool.{eqb-true, ne_eqb, cases_lt}
 use Rattle.uc_tree.specs.Source.{Source, routine_of}
 use Rattle.uc_entry.specs.declared.entry.Entry.{Entry}
@@ -46,13 +46,13 @@ use Rattle.uc_answer_laws.proofs.Asking.{law_asking}
 use Rattle.uc_state_laws.specs.RoomRuns as rooms
 use Rattle.uc_state_laws.specs.RoomRuns.{Leads, Comes}
 use Rattle.uc_state_laws.specs.Opens.{RideMeets, MayMeet, RunMeets, LeadsMeet}
-use Rattle.uc_life_laws.specs.LifeStates.{HandBy, ParkedBy}
+use Rattle.uc_life_laws.specs.LifeStates.{HandBy}
 use Rattle.uc_life_laws.proofs.HomedCells.{either}
 use Rattle.uc_life_laws.proofs.Parked.{found_hand}
 use Rattle.uc_life_laws.proofs.Spawning.{Spawned, spawner}
 use Rattle.uc_cell_laws.specs.Sites.{Telling, IsNoMaker}
 use Rattle.uc_cell_laws.specs.CellTodos.{Ok, Mark, anys}
-use Rattle.uc_cell_laws.specs.CellStates.{CellEx, CellMembers, CellRest, CellState, CellsFor, CellAsk, CellStep, CellFinds}
+use Rattle.uc_cell_laws.specs.CellStates.{CellEx, CellMembers, CellState, CellsFor, CellAsk, CellStep, CellFinds}
 use Rattle.uc_cell_laws.proofs.CellPlaces.{MayWrite}
 use Rattle.uc_cell_laws.proofs.CellWalk as walks
 use Rattle.uc_cell_laws.proofs.CellWalk.{Known}

@@ -2,7 +2,6 @@
 -- activations that use it are code of the routine, before operands of which it is known where they lie, and what a constructor or a destructor has at hand is
 -- an own part of a variable, of its class, or lies in no frame.
 use Rattle.std.specs.Prelude.{◌≡◌, ℕ, suc, ◌≤◌, ◌<◌, ◌⊎◌, Bool, true, false, List, [], ◌∷◌, length, slice_index_or, drop, Option, Some}
-use Rattle.uc_tree.specs.Source.{Source}
 use Rattle.uc_entry.specs.declared.request.Request.{Request}
 use Rattle.uc_entry.specs.declared.request.Request.TheVariants as ask
 use Rattle.uc_machine.specs.declared.exec.Exec.{Exec}

@@ -1,6 +1,6 @@
 -- The own cells of frames: those of mutex objects in what scopes are of, but for references. In steps and in runs each holds no object, or the one that is at
 -- home there.
-use Rattle.std.specs.Prelude.{◌≡◌, ℕ, ◌-◌, ◌<◌, ◌&&◌, Bool, true, false, not, if◌then◌else◌, nat_lt, List, [], ◌∷◌, Option, Some, None, slice_get}
+use Rattle.std.specs.Prelude.{◌≡◌, ℕ, ◌-◌, ◌<◌, ◌&&◌, Bool, false, not, if◌then◌else◌, nat_lt, List, [], Option, Some, None, slice_get}
 use Rattle.uc_tree.specs.Cells.{leading_cells}
 use Rattle.uc_tree.specs.Numbering.{is_event}
 use Rattle.uc_tree.specs.Objects.{ClassField, fields_of, class_at}

@@ -1,19 +1,18 @@
 -- What is read in a frame before a mutex object ends is at home there, since the own cells of frames hold what is at home; and what a step is to find for that
 -- is found where all is known.
-use Rattle.std.proofs.Common.{◌≡◌, ℕ, suc, ◌<◌, ◌⊎◌, inl, inr, Bool, true, false, List, [], ◌∷◌, length, drop, Option, Some, None, refl, sym, ap, ◌∙◌, subst, arith}
+use Rattle.std.proofs.Common.{◌≡◌, ℕ, suc, ◌<◌, inl, inr, Bool, true, false, List, [], ◌∷◌, length, drop, Option, Some, None, refl, sym, ap, ◌∙◌, subst, arith}
 use Rattle.std.specs.Prelude.{slice_get}
 use Rattle.uc_tree.specs.Programs.{Program}
-use Rattle.uc_tree.specs.Source.{Expr, Load, Binding, OfObject, EndOn, CleanUp, Routine, Source}
-use Rattle.uc_machine.specs.declared.exec.Exec.{Exec}
+use Rattle.uc_tree.specs.Source.{Expr, Load, Binding, Routine, Source}
 use Rattle.uc_machine.specs.declared.exec.Owner.TheVariants.{Frame}
 use Rattle.uc_machine.specs.Executions.{at_depth}
 use Rattle.uc_machine.specs.Pieces as piece
-use Rattle.uc_machine.specs.Pieces.{Link, Slot, FieldAt, At, Value, Number, Place, Running, Object, Nothing, LAST_ADDRESS, address, Todo, State, Env, further, loaded, top, below}
+use Rattle.uc_machine.specs.Pieces.{Slot, FieldAt, At, Value, Number, Place, Running, Object, Nothing, LAST_ADDRESS, address, Todo, State, Env, further, loaded, top, below}
 use Rattle.uc_resolve.specs.Resolve.{source_of}
 use Rattle.uc_rules.specs.Breaks.{breaks_of}
 use Rattle.uc_state_laws.specs.Counted.{params, params_at}
 use Rattle.uc_state_laws.specs.Limits.{IsWithinLimits}
-use Rattle.uc_typing.specs.Typing.{Ty, Cell, Obj, Row, Table, IsRoutine, object_ty}
+use Rattle.uc_typing.specs.Typing.{Ty, Cell, Obj, Row, Table, object_ty}
 use Rattle.uc_typing.specs.Pieces.{Ok, CallsOn, onto}
 use Rattle.uc_typing.specs.States.{IsNumbered, IsObjectBy, Sound}
 use Rattle.uc_typing.proofs.Answers.{there}
@@ -24,12 +23,12 @@ use Rattle.uc_sound.proofs.SoundLemmas.{law_sound}
 use Rattle.uc_life_laws.specs.Things.{Few, Known}
 use Rattle.uc_life_laws.specs.Knowing.{AtHand, KnownAll, KnowsState}
 use Rattle.uc_life_laws.specs.MadeObjects as made
-use Rattle.uc_life_laws.specs.Ending.{Spot, OfVariable, OfField, naming, ends_at, place_at}
+use Rattle.uc_life_laws.specs.Ending.{Spot, OfVariable, OfField, naming, place_at}
 use Rattle.uc_life_laws.proofs.Knowns.{newest, values_drop}
 use Rattle.uc_cell_laws.specs.Sites.{Telling, HasPlace, EndsAt}
 use Rattle.uc_cell_laws.specs.CellTodos as code
 use Rattle.uc_cell_laws.specs.CellTodos.{IsOwnPart, Mark, Sited, around, Meets}
-use Rattle.uc_cell_laws.specs.CellStates.{is_unframed, IsOwnCell, IsOf, CellState, FindsNumber, FindsAt, CellFinds}
+use Rattle.uc_cell_laws.specs.CellStates.{is_unframed, IsOwnCell, CellState, FindsNumber, FindsAt, CellFinds}
 use Rattle.uc_cell_laws.specs.OwnCells.{telling_of}
 use Rattle.uc_cell_laws.proofs.CellPlaces.{part_lies, inside_place, variable_meets, field_meets, element_meets, Lies, sited_lies}
 use Rattle.uc_cell_laws.proofs.Variables.{law_addresses}

@@ -1,6 +1,5 @@
 -- What is read of a variable before a mutex object ends is at home there, since it was as its scope was left.
-use Rattle.std.proofs.Common.{◌≡◌, ℕ, inl, inr, ◌⊎◌, Bool, true, false, List, [], ◌∷◌, Some, refl, sym, ◌∙◌, subst}
-use Rattle.uc_tree.specs.declared.limits.TheConstants.{DESTRUCTOR}
+use Rattle.std.proofs.Common.{◌≡◌, ℕ, inl, inr, Bool, true, false, List, [], ◌∷◌, Some, refl, sym, ◌∙◌, subst}
 use Rattle.uc_tree.specs.Programs.{Program}
 use Rattle.uc_tree.specs.Source.{Shape, Binding, Source}
 use Rattle.uc_entry.specs.declared.entry.Options.{Options}
@@ -44,12 +43,11 @@ use Rattle.uc_life_laws.proofs.HomedReading.{law_reading}
 use Rattle.uc_life_laws.proofs.HomedWorlds.{law_runs, steps_to}
 use Rattle.uc_life_laws.proofs.Homes.{law_binds}
 use Rattle.uc_life_laws.specs.Ending.{OfVariable, OfField, ends_at, place_at}
-use Rattle.uc_putting_laws.specs.Putting.{Setting, IsHome, IsEnding}
+use Rattle.uc_putting_laws.specs.Putting.{Setting, IsHome}
 use Rattle.uc_putting_laws.specs.PuttingLaws.{setting_of, FairAt, Fair}
 use Rattle.uc_homed_ends.specs.EndCode.{EndSite, AtSpot, AtElement}
-use Rattle.uc_homed_ends.specs.EndLists.{NoEnding, FreeList, FreeActive}
 use Rattle.uc_homed_ends.specs.EndWays as ways
-use Rattle.uc_homed_ends.specs.EndWays.{Stage, Ends, Loads, Finds, Arrays, Counts, Picks, todo_at, Found, Leaves, Way, Enters, NowState, nothing_told}
+use Rattle.uc_homed_ends.specs.EndWays.{Found, Leaves, NowState}
 use Rattle.uc_homed_ends.specs.EndLaws.{LawCode, LawWays}
 use Rattle.uc_homed_ends.specs.HomedEnds.{ReadsAt, Reads, LawReads, IsElsewhere, RestAt, Rest, LawFair}
 use Rattle.uc_homed_ends.proofs.EndCodes.{free_of}

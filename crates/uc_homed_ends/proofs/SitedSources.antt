@@ -1,6 +1,6 @@
 -- In the source of every program that breaks no rule what is built, destroyed and bound stands where its routine has it.
 use Rattle.std.proofs.Common.{◌≡◌, ℕ, zero, suc, ◌+◌, ◌-◌, ◌≤◌, ◌<◌, ◌++◌, ◌⊎◌, inl, inr, Bool, true, false, ◌&&◌, List, [], ◌∷◌, length, Option, Some, None, refl, sym, ap, ◌∙◌, subst, arith}
-use Rattle.std.specs.Prelude.{not, nat_eq, nat_lt, slice_get, is_some, if◌then◌else◌}
+use Rattle.std.specs.Prelude.{not, nat_eq, nat_lt, slice_get, if◌then◌else◌}
 use Rattle.std.specs.List.{list_all}
 use Rattle.std.proofs.lemmas.Bool.{ltb-true}
 use Rattle.uc_tree.specs.declared.kinds.Base.{Base}
@@ -18,7 +18,7 @@ use Rattle.uc_tree.specs.Names.{same_name}
 use Rattle.uc_tree.specs.Gathered.{gathered_all}
 use Rattle.uc_tree.specs.Numbering.{Defined, is_event, is_mutex, is_plain, own_sites, own_texts, routines_of}
 use Rattle.uc_tree.specs.Objects as objects
-use Rattle.uc_tree.specs.Objects.{Making, APlain, AMutex, ACluster, AProcessor, making_by, making, ClassField, declared_fields, form_fields, fields_of, has_execution, is_constructor, class_at, class_shape, shape_of, written_at, Unwritten, unwritten_of}
+use Rattle.uc_tree.specs.Objects.{Making, APlain, AMutex, ACluster, AProcessor, making_by, making, ClassField, declared_fields, form_fields, fields_of, has_execution, is_constructor, class_at, class_shape, shape_of, written_at, unwritten_of}
 use Rattle.uc_tree.specs.Programs as whole
 use Rattle.uc_tree.specs.Programs.{Class, Member, MemberForm, FieldsMember, RoutineMember, ProtoMember, Program}
 use Rattle.uc_tree.specs.Statements as stmt
@@ -33,14 +33,12 @@ use Rattle.uc_rules.specs.declared.rules.Sort.{Sort}
 use Rattle.uc_rules.specs.declared.rules.Sort.TheVariants as sort
 use Rattle.uc_rules.specs.Sorts.{is_scalar_sort, has_main, class_sort, sort_of}
 use Rattle.uc_rules.specs.ClassBreaks.{is_event_field, has_event_fields, is_event_member, may_be_scalar}
-use Rattle.uc_rules.specs.Breaks.{breaks_of}
 use Rattle.uc_rules.specs.ProgramVisits.{program_visits}
-use Rattle.uc_typing.specs.Typing.{Ty, Cell, Obj, Row, Clu, Pro, Sig, element_shape}
+use Rattle.uc_typing.specs.Typing.{Ty, Cell, Clu, Pro, Sig, element_shape}
 use Rattle.uc_sound.specs.Agreement.{found_ty}
 use Rattle.uc_sound.specs.Fields.{field_ty}
 use Rattle.uc_sound.specs.SoundFormed.{IsFormed}
 use Rattle.uc_sound.specs.Tables.{declared_ty, of_kind, sig_or_none, routine_sig_in, unwritten_sig, unwritten_sigs, written_sigs, all_sigs, table_of}
-use Rattle.uc_sound.specs.Told.{Told, TellsMaker}
 use Rattle.uc_sound.specs.Unbroken.{Unbroken}
 use Rattle.uc_sound.proofs.BodyLemmas.{InStep, is_written, nobody_wrote, in_step}
 use Rattle.uc_sound.proofs.ClassLemmas.{law_told, mutex_is}
@@ -61,7 +59,7 @@ use Rattle.uc_putting_laws.proofs.Expressions as expressions
 use Rattle.uc_putting_laws.proofs.Expressions.{AllMeant}
 use Rattle.uc_putting_laws.proofs.Statements as statements
 use Rattle.uc_cell_laws.specs.Scopes.{InStmt, InStmts, InHandlers, InClauses, InRoutine, IsScopeOf}
-use Rattle.uc_cell_laws.specs.Sites.{Telling, IsNoMaker, IsAtField, HasPlace, IsLent, CallsMutex, SitedExpr, SitedExprs, SitedMaybe, SitedItems, SitedTargets, SitedDeclared, SitedClean, SitedRaised, SitedStmt, SitedStmts, SitedHandlers, SitedClauses, SitedRoutine}
+use Rattle.uc_cell_laws.specs.Sites.{Telling, IsNoMaker, HasPlace, IsLent, SitedExpr, SitedExprs, SitedMaybe, SitedItems, SitedTargets, SitedDeclared, SitedClean, SitedRaised, SitedStmt, SitedStmts, SitedHandlers, SitedClauses, SitedRoutine}
 use Rattle.uc_cell_laws.specs.OwnCells.{is_own, owns_by, owns_of, is_of_objects, builds_or_ends, telling_of}
 use Rattle.uc_homed_ends.specs.Sited.{LawSited}
 use Rattle.uc_homed_ends.proofs.Wholes.{plain_whole}

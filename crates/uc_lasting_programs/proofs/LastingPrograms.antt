@@ -17,7 +17,7 @@ use Rattle.uc_machine.specs.Quiet.{State, Goes, Ticks, Asks, quiet}
 use Rattle.uc_machine.specs.Rides as rides
 use Rattle.uc_machine.specs.Rides.{Rides}
 use Rattle.uc_machine.specs.Answering.{answered}
-use Rattle.uc_meaning.specs.Runs.{World, May, Runs, AsksIn, drawn, gives, no_room, acts, begun, more}
+use Rattle.uc_meaning.specs.Runs.{World, May, Runs, AsksIn, drawn, more}
 use Rattle.uc_resolve.specs.Resolve.{source_of}
 use Rattle.uc_rules.specs.Breaks.{breaks_of}
 use Rattle.uc_sound.specs.SoundFormed.{IsFormed}
@@ -44,7 +44,7 @@ use Rattle.uc_life_laws.specs.Lasting.{lasting, RunForgets}
 use Rattle.uc_life_laws.proofs.Called.{law_called}
 use Rattle.uc_life_laws.proofs.Lasting.{law_raised}
 use Rattle.uc_putting_laws.specs.PuttingLaws.{setting_of, Fair}
-use Rattle.uc_homed_ends.specs.HomesLeft.{KnowsReads, Told, Homes}
+use Rattle.uc_homed_ends.specs.HomesLeft.{Told, Homes}
 use Rattle.uc_homed_ends.proofs.Found.{law_found}
 use Rattle.uc_request_laws.specs.ApartRuns.{StepApart}
 use Rattle.uc_request_laws.specs.Lasting.{IsLasting}
