@@ -1,5 +1,5 @@
 -- What is still to be bound of an object that is built, and that it holds what is known once nothing is.
-use Rattle.std.proofs.Common.{◌≡◌, ℕ, suc, ◌⊎◌, inl, inr, Bool, List, [], ◌∷◌, length, refl, sym, subst}
+use Rattle.std.proofs.Common.{◌≡◌, ℕ, suc, ◌⊎◌, inl, inr, Bool, true, List, [], ◌∷◌, length, refl, sym, subst}
 use Rattle.std.specs.Prelude.{slice_index_or}
 use Rattle.uc_tree.specs.Source as src
 use Rattle.uc_tree.specs.Source.{Stmt, Stmts, CleanUp}
@@ -128,7 +128,7 @@ module _ (t : Table) (heads : ℕ → ℕ → Bool) (few : Few) (kinds : List Si
   module _ (E : ℕ → ℕ → ℕ → Type 0) (L M : List Ty → ℕ → ℕ → Value → (Ty → Value → Type 0) → Type 0) (fs gs : List (List Value)) (f : ℕ) (this : Value) where
     -- what is still to be bound of an object is bound, or still to be bound
     abbrev pub Goes : ℕ → Type 1
-    Goes g = (k : ℕ) (ps : List Ty) (c i : ℕ) (K : Value → Ty → Type 0) → E g k c → IsField t c i → this ≡ variable n g k → ((j : ℕ) (b : Ty) → IsParam ps j b → Known t few n K b (slice_index_or (frame_at f fs) j nought)) → Known t few n K (Obj c) (variable n g k) → L ps c i (variable n g k) (Known t few n K) → Holds t few n K (Frame n g) (frame_at g gs) (further (FieldAt (t.shape c) i) (variable n g k)) (t.fields c i) ⊎ M ps c i (variable n g k) (Known t few n K)
+    Goes g = (k : ℕ) (ps : List Ty) (c i : ℕ) (K : Value → Ty → Type 0) → E g k c → IsField t c i → heads c i ≡ true → this ≡ variable n g k → ((j : ℕ) (b : Ty) → IsParam ps j b → Known t few n K b (slice_index_or (frame_at f fs) j nought)) → Known t few n K (Obj c) (variable n g k) → L ps c i (variable n g k) (Known t few n K) → Holds t few n K (Frame n g) (frame_at g gs) (further (FieldAt (t.shape c) i) (variable n g k)) (t.fields c i) ⊎ M ps c i (variable n g k) (Known t few n K)
 
     making_to : (depth g k c : ℕ) (K : Value → Ty → Type 0) → FrameKeeps fs gs f → FrameKeeps fs gs g → Goes g → E g k c → IsMaking t heads few kinds n L fs f depth this g (variable n g k) c K → IsMaking t heads few kinds n M gs f depth this g (variable n g k) c K
     making_to depth g k c K kf kg m e h = record {
@@ -137,12 +137,12 @@ module _ (t : Table) (heads : ℕ → ℕ → Bool) (few : Few) (kinds : List Si
       known_object = h.known_object;
       params = h.params;
       known = λ j b i. known_kept t few n K b _ _ (kf j) (h.known j b i);
-      fields = λ i x told. by i x (h.fields i x told);
+      fields = λ i x told. by i x told (h.fields i x told);
     }
       where
-        by : (i : ℕ) → IsField t c i → Holds t few n K (Frame n g) (frame_at g fs) (further (FieldAt (t.shape c) i) (variable n g k)) (t.fields c i) ⊎ L h.params c i (variable n g k) (Known t few n K) → Holds t few n K (Frame n g) (frame_at g gs) (further (FieldAt (t.shape c) i) (variable n g k)) (t.fields c i) ⊎ M h.params c i (variable n g k) (Known t few n K)
-        by i x (inl y) = inl (holds_kept t few n K (Frame n g) (frame_at g fs) (frame_at g gs) _ (t.fields c i) kg y)
-        by i x (inr y) = m k h.params c i K e x h.object h.known h.known_object y
+        by : (i : ℕ) → IsField t c i → heads c i ≡ true → Holds t few n K (Frame n g) (frame_at g fs) (further (FieldAt (t.shape c) i) (variable n g k)) (t.fields c i) ⊎ L h.params c i (variable n g k) (Known t few n K) → Holds t few n K (Frame n g) (frame_at g gs) (further (FieldAt (t.shape c) i) (variable n g k)) (t.fields c i) ⊎ M h.params c i (variable n g k) (Known t few n K)
+        by i x told (inl y) = inl (holds_kept t few n K (Frame n g) (frame_at g fs) (frame_at g gs) _ (t.fields c i) kg y)
+        by i x told (inr y) = m k h.params c i K e x told h.object h.known h.known_object y
 
     either_to : (depth g k c : ℕ) (K : Value → Ty → Type 0) → FrameKeeps fs gs f → FrameKeeps fs gs g → Goes g → E g k c → IsBuilt t heads few kinds n fs g (variable n g k) c K ⊎ IsMaking t heads few kinds n L fs f depth this g (variable n g k) c K → IsBuilt t heads few kinds n gs g (variable n g k) c K ⊎ IsMaking t heads few kinds n M gs f depth this g (variable n g k) c K
     either_to depth g k c K kf kg m e (inl h) = inl (built_kept fs gs g (variable n g k) c K kg h)
@@ -159,7 +159,7 @@ module _ (t : Table) (heads : ℕ → ℕ → Bool) (few : Few) (kinds : List Si
 
   module _ (L M : List Ty → ℕ → ℕ → Value → (Ty → Value → Type 0) → Type 0) (fs gs : List (List Value)) (f : ℕ) (this : Value) where
     pub builds_to : (cs : List Active) → FrameKeeps fs gs f → AllKeep fs gs cs → ((g k : ℕ) (ps : List Ty) (c i : ℕ) (K : Value → Ty → Type 0) → this ≡ variable n g k → ((j : ℕ) (b : Ty) → IsParam ps j b → Known t few n K b (slice_index_or (frame_at f fs) j nought)) → Known t few n K (Obj c) (variable n g k) → L ps c i (variable n g k) (Known t few n K) → Holds t few n K (Frame n g) (frame_at g gs) (further (FieldAt (t.shape c) i) (variable n g k)) (t.fields c i) ⊎ M ps c i (variable n g k) (Known t few n K)) → Builds t heads few kinds n L fs f this cs → Builds t heads few kinds n M gs f this cs
-    builds_to cs kf k m h = builds_in (λ g k c. Unit {0}) L M fs gs f this cs kf k (all_lying cs) (λ g k ps c i K e x. m g k ps c i K) h
+    builds_to cs kf k m h = builds_in (λ g k c. Unit {0}) L M fs gs f this cs kf k (all_lying cs) (λ g k ps c i K e x told. m g k ps c i K) h
 
   -- without a frame of its own an activation builds nothing
   pub not_making : (L M : List Ty → ℕ → ℕ → Value → (Ty → Value → Type 0) → Type 0) (fs : List (List Value)) (f : ℕ) (this : Value) (cs : List Active) → (f ≡ length cs → ⊥) → Builds t heads few kinds n L fs f this cs → Builds t heads few kinds n M fs f this cs

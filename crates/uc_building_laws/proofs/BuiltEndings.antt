@@ -54,7 +54,7 @@ module _ (p : Program) (formed : IsFormed p) (accepted : breaks_of p ≡ []) whe
   met zero s m h = m
   met (suc n) s m h = record {
     opens = there_opens t any source n s h;
-    anew = at_ending t any n s (BindsAnew t s) (λ l. tt) (λ a l. tt) h;
+    anew = at_ending t any n s (BindsAnew t (heads_of p) s) (λ l. tt) (λ a l. tt) h;
     finds = λ x. (
       x,
       (

@@ -18,7 +18,6 @@ use Rattle.uc_building_laws.specs.BuildingLaws.{AwaitedBefore}
 use Rattle.uc_building_laws.proofs.Memory.{FrameKeeps, same_frame, set_at, CellsKeep, known_kept, holds_cleared}
 use Rattle.uc_building_laws.proofs.Building as building
 use Rattle.uc_building_laws.proofs.Building.{within_more, awaits_both}
-use Rattle.uc_building_laws.proofs.Keeping as kept
 
 -- what holds where two numbers are the same holds so of a scope that opens next
 awaits_if : (E : Type 0) (P : CleanUp → List Todo → Type 0) (l : List Todo) → (E → Awaits P l) → Awaits (λ c todo. E → P c todo) l

@@ -191,7 +191,7 @@ module _ (p : Program) (formed : IsFormed p) (accepted : breaks_of p ≡ []) whe
     constructs_at r (piece.DropNow ∷ (piece.Within line ∷ (piece.Rest (src.Scoped c ss) ∷ todo))) e h = λ k i d. inr (is_constructed r k i line c ss todo e d h)
     constructs_at r todo e h = tt
 
-    at : (l : List Todo) → s.run.control ≡ l → CallsAt p source l s → BindsAnew t s l → BuildsAt t (heads_of p) few x.sigs source s l
+    at : (l : List Todo) → s.run.control ≡ l → CallsAt p source l s → BindsAnew t (heads_of p) s l → BuildsAt t (heads_of p) few x.sigs source s l
     at (piece.CallNow r ∷ todo) e h m = no_scope t todo h
     at (piece.RaiseNow ∷ todo) e h m = no_scope t (piece.DropNow ∷ todo) h
     at (piece.CallOnNow r ∷ todo) e h m = constructs_at r todo (inl e) h
@@ -199,7 +199,7 @@ module _ (p : Program) (formed : IsFormed p) (accepted : breaks_of p ≡ []) whe
     at (piece.BindNow ∷ todo) e h m = m
     at l e h m = tt
 
-    pub fair : BindsAnew t s s.run.control → IsCalled p source s → Fair t (heads_of p) few x.sigs source s
+    pub fair : BindsAnew t (heads_of p) s s.run.control → IsCalled p source s → Fair t (heads_of p) few x.sigs source s
     fair m c = record { at = at s.run.control refl c.calls m; joins = c.joins }
 
 pub law_awaited : LawAwaited

@@ -1,5 +1,5 @@
 -- With fewer numbers, what constructors have bound is known still, where nobody has at hand what had the others.
-use Rattle.std.proofs.Common.{◌≡◌, ℕ, suc, ◌≤◌, ◌⊎◌, inl, inr, ⊎_elim, Bool, true, List, [], ◌∷◌, length, refl, sym, subst, arith}
+use Rattle.std.proofs.Common.{◌≡◌, ℕ, suc, ◌≤◌, ◌⊎◌, inl, inr, ⊎_elim, Bool, List, [], ◌∷◌, length, refl, sym, subst, arith}
 use Rattle.uc_tree.specs.Source as src
 use Rattle.uc_tree.specs.Source.{Expr, Stmts, CleanUp}
 use Rattle.uc_machine.specs.declared.exec.Exec.{Exec}

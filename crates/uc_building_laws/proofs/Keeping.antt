@@ -1,5 +1,5 @@
 -- What constructors have bound stays so where members, executions and links change.
-use Rattle.std.proofs.Common.{◌≡◌, ℕ, ◌∙◌, true, false, List, Option, Some, None, refl, sym, subst, Bool}
+use Rattle.std.proofs.Common.{◌≡◌, ℕ, ◌∙◌, true, List, Option, Some, None, refl, sym, subst}
 use Rattle.uc_machine.specs.declared.exec.Exec.{Exec}
 use Rattle.uc_machine.specs.declared.exec.Home.{Home}
 use Rattle.uc_machine.specs.declared.exec.Home.TheVariants as home

@@ -1,6 +1,5 @@
 -- Each step keeps what constructors have bound, by the kinds of frames; and answers do.
-use Rattle.std.proofs.Common.{◌≡◌, ℕ, suc, ◌≤◌, ◌⊎◌, inl, inr, Bool, true, false, List, [], ◌∷◌, length, Option, Some, None, refl, sym, ap, ◌∙◌, subst, arith}
-use Rattle.std.specs.Prelude.{slice_get}
+use Rattle.std.proofs.Common.{◌≡◌, ℕ, suc, ◌⊎◌, inl, inr, Bool, true, List, [], ◌∷◌, length, Option, Some, None, refl, sym, ap, ◌∙◌, subst, arith}
 use Rattle.uc_tree.specs.Programs.{Program}
 use Rattle.uc_tree.specs.Source as src
 use Rattle.uc_tree.specs.Source.{Source, Routine, Stmts, CleanUp}
@@ -10,7 +9,7 @@ use Rattle.uc_machine.specs.declared.exec.Exec.{Exec}
 use Rattle.uc_machine.specs.declared.exec.Owner.TheVariants.{Frame}
 use Rattle.uc_machine.specs.declared.exec.UnwindReason.{UnwindReason}
 use Rattle.uc_machine.specs.declared.exec.UnwindReason.TheVariants as reason
-use Rattle.uc_machine.specs.Executions.{Links, others, frame_changed, value_changed}
+use Rattle.uc_machine.specs.Executions.{others, frame_changed, value_changed}
 use Rattle.uc_machine.specs.Raising as raising
 use Rattle.uc_machine.specs.Switches as sw
 use Rattle.uc_machine.specs.Switches.{Moved, To, Stops, stopped, unwound_there}
@@ -27,7 +26,7 @@ use Rattle.uc_life_laws.specs.LifeStates.{frame_at, Outwards, LifeStateBy, StepI
 use Rattle.uc_life_laws.specs.LifeRuns.{IsLaidOut}
 use Rattle.uc_life_laws.specs.Kinds.{IsKept, Turned, stays, begins, goes_back, Returns, GoesPast, GoesOn, Parks, FollowsOn, Claimed}
 use Rattle.uc_life_laws.specs.Lives.{OutwardsOrMade, Lives}
-use Rattle.uc_life_laws.specs.Knowing.{AskedBy, StepBy, ClaimsEnv, ClaimsState, Finds}
+use Rattle.uc_life_laws.specs.Knowing.{AskedBy, StepBy, ClaimsEnv, Finds}
 use Rattle.uc_life_laws.proofs.Acting.{law_claims}
 use Rattle.uc_life_laws.proofs.Cells.{others_length}
 use Rattle.uc_life_laws.proofs.GoingOn.{goes_or}
@@ -37,7 +36,7 @@ use Rattle.uc_life_laws.proofs.Clearing as clearing
 use Rattle.uc_life_laws.proofs.LifeWalk.{walk}
 use Rattle.uc_life_laws.proofs.LivesLemmas.{below, lives_kept, lives_parks, lives_read, lives_turned, nothing_kept}
 use Rattle.uc_life_laws.proofs.Parked.{Ex, each_env}
-use Rattle.uc_building_laws.specs.BuildingStates.{variable, AtScope, of_run, of_wait, BuildsEx, BuildsBy, BuildsState, BuildsRest, BuildsAsk, BuildsStep, Stands, StandsBehind, Left, Built, BuiltState}
+use Rattle.uc_building_laws.specs.BuildingStates.{variable, of_run, of_wait, BuildsEx, BuildsBy, BuildsAsk, BuildsStep, Stands, Left, Built, BuiltState}
 use Rattle.uc_building_laws.specs.BuildingLaws.{Fair, LawKept}
 use Rattle.uc_building_laws.proofs.Building as building
 use Rattle.uc_building_laws.proofs.Building.{all_keep, all_kept, builds_kept, builds_more}

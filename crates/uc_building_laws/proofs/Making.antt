@@ -140,7 +140,7 @@ module _ (t : Table) (heads : ℕ → ℕ → Bool) (few : Few) (kinds : List Si
   }
 
   -- a field is bound
-  module _ (todo : List Todo) (loose : (c i : ℕ) → top (below s.run.operands) ≡ further (FieldAt (t.shape c) i) s.run.this → IsFree (loaded (top (below s.run.operands)) s.env)) where
+  module _ (todo : List Todo) (loose : (c i g k : ℕ) → heads c i ≡ true → s.run.this ≡ variable s.env.exec g k → top (below s.run.operands) ≡ further (FieldAt (t.shape c) i) s.run.this → IsFree (loaded (top (below s.run.operands)) s.env)) where
     abbrev after : Env
     after = written (top (below s.run.operands)) (top s.run.operands) s.env
 
@@ -157,8 +157,8 @@ module _ (t : Table) (heads : ℕ → ℕ → Bool) (few : Few) (kinds : List Si
     written_frames : (g : ℕ) (p : List Link) (v : Value) → (written (Place (Frame s.env.exec g) p) v s.env).frames ≡ frame_changed g (value_changed (address p) (stored v) nought) s.env.frames
     written_frames g p v = ap (λ (b : Bool). frames_by (if b then record s.env { frames = frame_changed g (value_changed (address p) (stored v) nought) s.env.frames } else change s.env.exec.home (frames_changed s.env.exec.serial (frame_changed g (value_changed (address p) (stored v) nought))) s.env)) (exec_same s.env.exec)
 
-    held : (g k c i : ℕ) (K : Value → Ty → Type 0) → Lies g k c → IsField t c i → s.run.this ≡ variable s.env.exec g k → (b : Ty) → t.fields c i ≡ Cell b → top (below s.run.operands) ≡ further (FieldAt (t.shape c) i) (variable s.env.exec g k) → Known t few s.env.exec K b (top s.run.operands) → Holds t few s.env.exec K (Frame s.env.exec g) (frame_at g after.frames) (further (FieldAt (t.shape c) i) (variable s.env.exec g k)) (t.fields c i)
-    held g k c i K fits is e b f p h q d x binds =
+    held : (g k c i : ℕ) (K : Value → Ty → Type 0) → Lies g k c → IsField t c i → heads c i ≡ true → s.run.this ≡ variable s.env.exec g k → (b : Ty) → t.fields c i ≡ Cell b → top (below s.run.operands) ≡ further (FieldAt (t.shape c) i) (variable s.env.exec g k) → Known t few s.env.exec K b (top s.run.operands) → Holds t few s.env.exec K (Frame s.env.exec g) (frame_at g after.frames) (further (FieldAt (t.shape c) i) (variable s.env.exec g k)) (t.fields c i)
+    held g k c i K fits is told e b f p h q d x binds =
         let v = top s.run.operands in
         let place = FieldAt (t.shape c) i ∷ (Slot k ∷ []) in
         let y = within_cell t (further (FieldAt (t.shape c) i) (variable s.env.exec g k)) b (Place (Frame s.env.exec g) q) (Cell d) (subst (λ a. Within t (further (FieldAt (t.shape c) i) (variable s.env.exec g k)) a (Place (Frame s.env.exec g) q) (Cell d)) f x) in
@@ -167,7 +167,7 @@ module _ (t : Table) (heads : ℕ → ℕ → Bool) (few : Few) (kinds : List Si
         let path : q ≡ FieldAt (t.shape c) i ∷ (Slot k ∷ []) = cc in
         let type : d ≡ b = cc in
         let before : address place < length (frame_at g s.env.frames) = fits place b (subst (λ a. Within t (variable s.env.exec g k) (Obj c) (Place (Frame s.env.exec g) place) a) f (field itself i is)) in
-        let free0 : IsFree (loaded (top (below s.run.operands)) s.env) = loose c i (p ∙ sym (ap (further (FieldAt (t.shape c) i)) e)) in
+        let free0 : IsFree (loaded (top (below s.run.operands)) s.env) = loose c i g k told e (p ∙ sym (ap (further (FieldAt (t.shape c) i)) e)) in
         let free1 : IsFree (loaded (Place (Frame s.env.exec g) place) s.env) = subst (λ u. IsFree (loaded u s.env)) p free0 in
         let free : IsFree (slice_index_or (frame_at g s.env.frames) (address place) nought) = subst (λ fs. IsFree (slice_index_or (list_in (at_depth fs g)) (address place) nought)) frames_here free1 in
         let there : slice_index_or (frame_at g (frame_changed g (value_changed (address place) (stored v) nought) s.env.frames)) (address place) nought ≡ v = stored_there s.env.frames g (address place) v before free in
@@ -175,14 +175,14 @@ module _ (t : Table) (heads : ℕ → ℕ → Bool) (few : Few) (kinds : List Si
         let stands : slice_index_or (frame_at g after.frames) (address place) nought ≡ v = ap (λ fs. slice_index_or (frame_at g fs) (address place) nought) frames ∙ there in
         subst (λ q. Known t few s.env.exec K d (slice_index_or (frame_at g after.frames) (address q) nought)) (sym path) (subst (λ d. Known t few s.env.exec K d (slice_index_or (frame_at g after.frames) (address place) nought)) (sym type) (subst (Known t few s.env.exec K b) (sym stands) h))
 
-    bound : (vs : List Value) (g k : ℕ) (ps : List Ty) (c i : ℕ) (K : Value → Ty → Type 0) → Lies g k c → IsField t c i → s.run.this ≡ variable s.env.exec g k → Now t ps c i (variable s.env.exec g k) (Known t few s.env.exec K) (piece.BindNow ∷ todo) s.run.operands × NotBack s.run → Holds t few s.env.exec K (Frame s.env.exec g) (frame_at g after.frames) (further (FieldAt (t.shape c) i) (variable s.env.exec g k)) (t.fields c i) ⊎ (Now t ps c i (variable s.env.exec g k) (Known t few s.env.exec K) todo vs × NotBack s.run)
-    bound vs g k ps c i K fits is e (inl x, back) = inl (held g k c i K fits is e x.0 x.1.0 x.1.1 x.2)
-    bound vs g k ps c i K fits is e (inr x, back) = inr (building.now t ps c i (variable s.env.exec g k) (Known t few s.env.exec K) todo vs x, back)
+    bound : (vs : List Value) (g k : ℕ) (ps : List Ty) (c i : ℕ) (K : Value → Ty → Type 0) → Lies g k c → IsField t c i → heads c i ≡ true → s.run.this ≡ variable s.env.exec g k → Now t ps c i (variable s.env.exec g k) (Known t few s.env.exec K) (piece.BindNow ∷ todo) s.run.operands × NotBack s.run → Holds t few s.env.exec K (Frame s.env.exec g) (frame_at g after.frames) (further (FieldAt (t.shape c) i) (variable s.env.exec g k)) (t.fields c i) ⊎ (Now t ps c i (variable s.env.exec g k) (Known t few s.env.exec K) todo vs × NotBack s.run)
+    bound vs g k ps c i K fits is told e (inl x, back) = inl (held g k c i K fits is told e x.0 x.1.0 x.1.1 x.2)
+    bound vs g k ps c i K fits is told e (inr x, back) = inr (building.now t ps c i (variable s.env.exec g k) (Known t few s.env.exec K) todo vs x, back)
 
     pub bind_now : (vs : List Value) → Lying t heads few kinds s.env.exec Lies s.callers → With (λ ps c i w K. Now t ps c i w K (piece.BindNow ∷ todo) s.run.operands) → StepBuilds t heads few kinds (Goes (at todo vs (in_env after s)))
     bind_now vs lying h = record {
       apart = apart;
-      run = subst (λ n. Builds t heads few kinds n (λ ps c i w K. Now t ps c i w K todo vs × NotBack s.run) after.frames s.run.frame s.run.this s.callers) (sym keeps.exec) (builds_in t heads few kinds s.env.exec Lies (λ ps c i w K. Now t ps c i w K (piece.BindNow ∷ todo) s.run.operands × NotBack s.run) (λ ps c i w K. Now t ps c i w K todo vs × NotBack s.run) s.env.frames after.frames s.run.frame s.run.this s.callers (keeps.frames s.run.frame) (all_keep t heads few kinds s.env.exec s.env.frames after.frames keeps.frames s.callers) lying (λ g m ps c i K fits is e k o x. bound vs g m ps c i K fits is e x) h);
+      run = subst (λ n. Builds t heads few kinds n (λ ps c i w K. Now t ps c i w K todo vs × NotBack s.run) after.frames s.run.frame s.run.this s.callers) (sym keeps.exec) (builds_in t heads few kinds s.env.exec Lies (λ ps c i w K. Now t ps c i w K (piece.BindNow ∷ todo) s.run.operands × NotBack s.run) (λ ps c i w K. Now t ps c i w K todo vs × NotBack s.run) s.env.frames after.frames s.run.frame s.run.this s.callers (keeps.frames s.run.frame) (all_keep t heads few kinds s.env.exec s.env.frames after.frames keeps.frames s.callers) lying (λ g m ps c i K fits is told e k o x. bound vs g m ps c i K fits is told e x) h);
       callers = subst (λ n. AllBuild t heads few kinds n after.frames s.callers) (sym keeps.exec) (all_kept t heads few kinds s.env.exec s.env.frames after.frames s.callers (all_keep t heads few kinds s.env.exec s.env.frames after.frames keeps.frames s.callers) callers);
     }
 

@@ -1,20 +1,18 @@
 -- What constructors have bound is known by the kinds that go along with a step.
-use Rattle.std.proofs.Common.{◌≡◌, ℕ, suc, ◌≤◌, ◌<◌, ◌⊎◌, inl, inr, ⊎_elim, Bool, true, List, [], ◌∷◌, length, refl, sym, subst, arith}
+use Rattle.std.proofs.Common.{ℕ, suc, ◌≤◌, inl, inr, ⊎_elim, Bool, List, [], ◌∷◌, length, arith}
 use Rattle.uc_tree.specs.Source as src
 use Rattle.uc_tree.specs.Source.{Source, Expr, CleanUp}
 use Rattle.uc_machine.specs.declared.exec.Exec.{Exec}
-use Rattle.uc_machine.specs.declared.exec.Owner.TheVariants.{Frame}
 use Rattle.uc_machine.specs.Executions.{others}
 use Rattle.uc_machine.specs.Pieces as piece
 use Rattle.uc_machine.specs.Pieces.{FieldAt, Value, Todo, Active, State, further}
-use Rattle.uc_typing.specs.Typing.{Ty, Obj, Sig, Table, CleansAt}
-use Rattle.uc_life_laws.specs.Things.{Few, IsField, Known, Holds}
-use Rattle.uc_life_laws.specs.LifeStates.{frame_at}
+use Rattle.uc_typing.specs.Typing.{Ty, Obj, Sig, Table}
+use Rattle.uc_life_laws.specs.Things.{Few, Known}
 use Rattle.uc_life_laws.specs.Lives.{MakingAt, MakingIn}
 use Rattle.uc_life_laws.proofs.Knowns.{known_more}
 use Rattle.uc_life_laws.proofs.LivesLemmas.{Below, at_newer, in_newer, at_older, in_older}
 use Rattle.uc_building_laws.specs.Building.{Starts, Onwards, Now}
-use Rattle.uc_building_laws.specs.BuildingStates.{variable, AtScope, Awaits, Nears, IsBuilt, IsMaking, Builds, of_wait, AllBuild, BuildsBy, Stands}
+use Rattle.uc_building_laws.specs.BuildingStates.{variable, AtScope, Nears, IsBuilt, IsMaking, Builds, of_wait, AllBuild, BuildsBy, Stands}
 use Rattle.uc_building_laws.proofs.Building.{awaits_more}
 
 -- what is still to be bound, where more is known

@@ -46,18 +46,15 @@ use Rattle.uc_sound.specs.Tables.{table_of}
 use Rattle.uc_sound.proofs.MainLemmas.{law_mains}
 use Rattle.uc_sound.proofs.SoundLemmas.{law_sound}
 use Rattle.uc_place_laws.specs.Opened.{OpensNone, OpenedRoutine}
-use Rattle.uc_place_laws.specs.OpeningLaws.{IsCalled}
 use Rattle.uc_place_laws.proofs.Openings.{law_opened}
 use Rattle.uc_place_laws.proofs.OpeningRuns.{law_runs as called}
 use Rattle.uc_life_laws.specs.Things.{Few, IsField, Known, Holds}
-use Rattle.uc_life_laws.specs.LifeStates.{EnvBy, MembersBy, frame_at, Outwards, OpensAtBy, OpensBy}
+use Rattle.uc_life_laws.specs.LifeStates.{MembersBy, frame_at, Outwards, OpensAtBy, OpensBy}
 use Rattle.uc_life_laws.specs.LifeRuns.{IsLaidOut}
 use Rattle.uc_life_laws.specs.Kinds.{Claimed}
 use Rattle.uc_life_laws.specs.Lives.{OutwardsOrMade, Lives, LivesState}
-use Rattle.uc_life_laws.specs.Knowing.{AtHand, ClaimsEx, ClaimsBy, ClaimsSlot, KnowsState, Finds, main_of}
-use Rattle.uc_life_laws.specs.KnownAnswers.{MainPasses}
-use Rattle.uc_life_laws.specs.KnownRuns.{PassesBelow}
-use Rattle.uc_life_laws.specs.Opened.{any, ObjectsHold, ObjectsOpen}
+use Rattle.uc_life_laws.specs.Knowing.{AtHand, ClaimsBy, ClaimsSlot, KnowsState, main_of}
+use Rattle.uc_life_laws.specs.Opened.{any, ObjectsOpen}
 use Rattle.uc_life_laws.specs.OpenedRuns.{MeetsObjects}
 use Rattle.uc_machine.specs.declared.exec.Stage.{Stage}
 use Rattle.uc_machine.specs.declared.exec.Stage.TheVariants.{Fresh, Started, Ended}

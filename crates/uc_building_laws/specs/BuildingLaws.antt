@@ -51,14 +51,15 @@ module _ (t : Table) (heads : ℕ → ℕ → Bool) (few : Few) (kinds : List Si
   abbrev pub NoScope : List Todo → Type 0
   NoScope todo = Awaits (λ c rest. IsPlain t c → ⊥) todo
 
-  -- what a step is to find: a constructor is called at the variable whose scope opens next; nothing is bound yet at a field of the object at hand
-  -- where that is to be bound
+  -- what a step is to find: a constructor is called at the variable whose scope opens next; nothing is bound yet at a field of which it is told, of an
+  -- object at hand that is a variable, where that is to be bound
   abbrev pub BuildsAt : List Todo → Type 0
   BuildsAt (piece.CallNow r ∷ todo) = NoScope todo
   BuildsAt (piece.CallOnNow r ∷ todo) = Constructs r todo
   BuildsAt (piece.CallUnwrittenNow r ∷ todo) = Constructs r todo
   BuildsAt (piece.RaiseNow ∷ todo) = NoScope (piece.DropNow ∷ todo)
-  BuildsAt (piece.BindNow ∷ todo) = (c i : ℕ) → top (below s.run.operands) ≡ further (FieldAt (t.shape c) i) s.run.this →
+  BuildsAt (piece.BindNow ∷ todo) = (c i g k : ℕ) → heads c i ≡ true → s.run.this ≡ variable s.env.exec g k →
+      top (below s.run.operands) ≡ further (FieldAt (t.shape c) i) s.run.this →
       IsFree (loaded (top (below s.run.operands)) s.env)
   BuildsAt todo = Unit {0}
 

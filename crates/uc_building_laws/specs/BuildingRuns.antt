@@ -31,11 +31,12 @@ use Rattle.uc_place_laws.specs.Opened.{ArePaired}
 use Rattle.uc_building_laws.specs.Building.{heads_of, InHead}
 use Rattle.uc_building_laws.specs.BuildingStates.{IsFree, variable, AtScope, BuiltState}
 
--- nothing is bound yet at a field of the object at hand where that is to be bound
-abbrev pub BindsAnew : Table → State → List Todo → Type 0
-BindsAnew t s (BindNow ∷ todo) = (c i : ℕ) → top (below s.run.operands) ≡ further (FieldAt (t.shape c) i) s.run.this →
+-- nothing is bound yet at a field of which `heads` tells, of an object at hand that is a variable, where that is to be bound
+abbrev pub BindsAnew : Table → (ℕ → ℕ → Bool) → State → List Todo → Type 0
+BindsAnew t heads s (BindNow ∷ todo) = (c i g k : ℕ) → heads c i ≡ true → s.run.this ≡ variable s.env.exec g k →
+    top (below s.run.operands) ≡ further (FieldAt (t.shape c) i) s.run.this →
     IsFree (loaded (top (below s.run.operands)) s.env)
-BindsAnew t s todo = Unit {0}
+BindsAnew t heads s todo = Unit {0}
 
 -- where the scope of an object opens, the fields of which `heads` does not tell hold what is known by these kinds; where that of an array of objects
 -- opens, they do
@@ -47,11 +48,11 @@ pub record OthersHold (t : Table) (heads : ℕ → ℕ → Bool) (few : Few) (ki
       (k m i : ℕ) → CleansAt t (Row m (Obj i)) (Variable k) c →
       Holds t few s.env.exec (OutwardsOrMade kinds (Outwards t few s.env.exec s.run.frame s.run.this s.callers c todo) s.env.exec s.run.frame s.run.this s.callers) (Frame s.env.exec s.run.frame) (frame_at s.run.frame s.env.frames) (variable s.env.exec s.run.frame k) (Row m (Obj i))
 
--- a step finds what it is to find: what it binds is there behind it; nothing is bound yet where a field is to be bound; and by some kinds by which objects
+-- a step finds what it is to find: what it binds is there behind it; nothing is bound yet where such a field is to be bound; and by some kinds by which objects
 -- that are built hold what is known, it finds what it reads, and other fields and arrays hold what is known where scopes open
 pub record MeetsBuilding (t : Table) (heads : ℕ → ℕ → Bool) (source : Source) (s : State) : Type 0 where
   pub opens : there.Opens source s
-  pub anew : BindsAnew t s s.run.control
+  pub anew : BindsAnew t heads s s.run.control
   pub finds : BuiltState t heads any [] s → (x : BuiltState t heads any [] s) ×
       (Finds t any x.0.sigs x.0.run.sig x.0.run.scope s s.run.control x.0.run.own × OthersHold t heads any x.0.sigs s)
 

@@ -267,38 +267,32 @@ module _ (p : Program) (formed : IsFormed p) (ok : breaks_of p ≡ []) where
     ended (more {j} {w} r o (acts q t n s asked d)) f al m n' on v e =
         by (λ v g. ended r f.0 al.0 m.0 n'.0 o v g) (ended_by v opts (source_of p).sites input j q t n asked on e)
       where
-        abbrev b : List Entry
-        b = act opts (source_of p).sites input j q t n asked
-
         stand : StandsState (part_of p) (source_of p) (own_object t j) (answered (source_of p) d.given (drawn j w t))
         stand =
             let x = both_run (part_of p) (source_of p) entered inner law_steps law_free law_drawn input opts range r f.0 al.0 o in
             standing_start (part_of p) (source_of p) inner entered.ends input opts range (rests r f.0 o q t n s asked d f.1 on) o (deep r f.0 o q t n s asked d f.1 on) x.standing q t n s asked d
 
-        more_tasks : (v < task_count j) → v < task_count (j ++ b)
-        more_tasks lt = let grown = tasks_grow j b in omega (arith, lt, grown)
+        more_tasks : (v < task_count j) → v < task_count (j ++ (act opts (source_of p).sites input j q t n asked))
+        more_tasks lt = let grown = tasks_grow j (act opts (source_of p).sites input j q t n asked) in omega (arith, lt, grown)
 
         -- who was there no more is so
         no_more : (x : Exec) → run_still (source_of p) input opts r x ≡ false → still_asked asked.request s (ride_still (source_of p) (run_still (source_of p) input opts r) d.rides) x ≡ false
         no_more x h =
             not_true _ (λ g. no_both (run_still (source_of p) input opts r x) (ride_before (source_of p) (run_still (source_of p) input opts r) d.rides x (asked_before asked.request s (ride_still (source_of p) (run_still (source_of p) input opts r) d.rides) x g)) h)
 
-        abbrev Claim : Type 0
-        Claim = (v < task_count (j ++ b)) × (still_asked asked.request s (ride_still (source_of p) (run_still (source_of p) input opts r) d.rides) (main_of ((world_after (source_of p) b w t s).tasks v).env.own) ≡ false)
-
-        by : ((v : ℕ) → has_ended v j ≡ true → (v < task_count j) × (run_still (source_of p) input opts r (main_of (w.tasks v).env.own) ≡ false)) → (has_ended v j ≡ true) ⊎ Asker v t asked.request → Claim
+        by : ((v : ℕ) → has_ended v j ≡ true → (v < task_count j) × (run_still (source_of p) input opts r (main_of (w.tasks v).env.own) ≡ false)) → (has_ended v j ≡ true) ⊎ Asker v t asked.request → (v < task_count (j ++ (act opts (source_of p).sites input j q t n asked))) × (still_asked asked.request s (ride_still (source_of p) (run_still (source_of p) input opts r) d.rides) (main_of ((world_after (source_of p) (act opts (source_of p).sites input j q t n asked) w t s).tasks v).env.own) ≡ false)
         by before (inl g) =
             let x = before v g in
-            let own : ((world_after (source_of p) b w t s).tasks v).env.own ≡ (w.tasks v).env.own = own_after r f.0 o q t n s asked d f.1 on v x.0 in
-            (more_tasks x.0, no_more (main_of ((world_after (source_of p) b w t s).tasks v).env.own) (ap (λ k. run_still (source_of p) input opts r (main_of k)) own ∙ x.1))
+            let own : ((world_after (source_of p) (act opts (source_of p).sites input j q t n asked) w t s).tasks v).env.own ≡ (w.tasks v).env.own = own_after r f.0 o q t n s asked d f.1 on v x.0 in
+            (more_tasks x.0, no_more (main_of ((world_after (source_of p) (act opts (source_of p).sites input j q t n asked) w t s).tasks v).env.own) (ap (λ k. run_still (source_of p) input opts r (main_of k)) own ∙ x.1))
         by before (inr k) =
             let same : v ≡ t = eqb-true v t k.same in
             let lt : t < task_count j = acts_on r f.0 o q t n s asked d f.1 on in
             let mine : Mine (own_object t j) s = ride_main (own_object t j) d.rides m.1 n'.1 stand k.asks in
-            let own : ((world_after (source_of p) b w t s).tasks v).env.own ≡ s.env.own = ap (λ (y : State). y.env.own) (it_acts r f.0 o q t n s asked d f.1 on v k.same) in
-            let it : main_of ((world_after (source_of p) b w t s).tasks v).env.own ≡ s.env.exec = ap main_of (own ∙ mine.1) ∙ sym mine.0 in
-            let test : exec_eq (main_of ((world_after (source_of p) b w t s).tasks v).env.own) s.env.exec ≡ true = ap (λ x. exec_eq x s.env.exec) it ∙ exec_self s.env.exec in
-            (more_tasks (subst (λ u. u < task_count j) (sym same) lt), ap (λ (z : Request). still_asked z s (ride_still (source_of p) (run_still (source_of p) input opts r) d.rides) (main_of ((world_after (source_of p) b w t s).tasks v).env.own)) k.asks ∙ ap (λ (c : Bool). if c then false else ride_still (source_of p) (run_still (source_of p) input opts r) d.rides (main_of ((world_after (source_of p) b w t s).tasks v).env.own)) test)
+            let own : ((world_after (source_of p) (act opts (source_of p).sites input j q t n asked) w t s).tasks v).env.own ≡ s.env.own = ap (λ (y : State). y.env.own) (it_acts r f.0 o q t n s asked d f.1 on v k.same) in
+            let it : main_of ((world_after (source_of p) (act opts (source_of p).sites input j q t n asked) w t s).tasks v).env.own ≡ s.env.exec = ap main_of (own ∙ mine.1) ∙ sym mine.0 in
+            let test : exec_eq (main_of ((world_after (source_of p) (act opts (source_of p).sites input j q t n asked) w t s).tasks v).env.own) s.env.exec ≡ true = ap (λ x. exec_eq x s.env.exec) it ∙ exec_self s.env.exec in
+            (more_tasks (subst (λ u. u < task_count j) (sym same) lt), ap (λ (z : Request). still_asked z s (ride_still (source_of p) (run_still (source_of p) input opts r) d.rides) (main_of ((world_after (source_of p) (act opts (source_of p).sites input j q t n asked) w t s).tasks v).env.own)) k.asks ∙ ap (λ (c : Bool). if c then false else ride_still (source_of p) (run_still (source_of p) input opts r) d.rides (main_of ((world_after (source_of p) (act opts (source_of p).sites input j q t n asked) w t s).tasks v).env.own)) test)
 
     -- mains of tasks, by whom they were made
 
@@ -335,15 +329,12 @@ module _ (p : Program) (formed : IsFormed p) (ok : breaks_of p ≡ []) where
       task_of (more {j} r o (no_room q t s le)) f on l k x h e = no_both (is_over (j ++ lone_limit ∷ [])) (over_limit j 0 0) on
       task_of (more {j} {w} r o (acts q t n s asked d)) f on l k x h e = by (λ g. task_of r f.0 o l.0 k.0 x g e) asked.request refl h k.1
         where
-          abbrev b : List Entry
-          b = act opts (source_of p).sites input j q t n asked
-
           -- one that was there before
-          old_one : (run_made (source_of p) input opts r x ≡ true → IsMainOf j w x) → ride_made (source_of p) (run_made (source_of p) input opts r) d.rides x ≡ true → IsMainOf (j ++ b) (world_after (source_of p) b w t s) x
+          old_one : (run_made (source_of p) input opts r x ≡ true → IsMainOf j w x) → ride_made (source_of p) (run_made (source_of p) input opts r) d.rides x ≡ true → IsMainOf (j ++ (act opts (source_of p).sites input j q t n asked)) (world_after (source_of p) (act opts (source_of p).sites input j q t n asked) w t s) x
           old_one before g =
               let y = before (ride_old x e (run_made (source_of p) input opts r) d.rides l.1 g) in
               let lt = y.there in
-              let grown = tasks_grow j b in
+              let grown = tasks_grow j (act opts (source_of p).sites input j q t n asked) in
               record {
                 object = y.object;
                 named = y.named;
@@ -353,10 +344,10 @@ module _ (p : Program) (formed : IsFormed p) (ok : breaks_of p ≡ []) where
                 own = own_after r f.0 o q t n s asked d f.1 on y.task y.there ∙ y.own;
               }
 
-          by : (run_made (source_of p) input opts r x ≡ true → IsMainOf j w x) → (z : Request) → asked.request ≡ z → made_asked z (ride_made (source_of p) (run_made (source_of p) input opts r) d.rides) x ≡ true → SpawnsLater makers z s → IsMainOf (j ++ b) (world_after (source_of p) b w t s) x
+          by : (run_made (source_of p) input opts r x ≡ true → IsMainOf j w x) → (z : Request) → asked.request ≡ z → made_asked z (ride_made (source_of p) (run_made (source_of p) input opts r) d.rides) x ≡ true → SpawnsLater makers z s → IsMainOf (j ++ (act opts (source_of p).sites input j q t n asked)) (world_after (source_of p) (act opts (source_of p).sites input j q t n asked) w t s) x
           by before (ask.Spawn c) i g m = one (exec_eq x (main_of c)) refl g
             where
-              one : (z : Bool) → exec_eq x (main_of c) ≡ z → (if z then true else ride_made (source_of p) (run_made (source_of p) input opts r) d.rides x) ≡ true → IsMainOf (j ++ b) (world_after (source_of p) b w t s) x
+              one : (z : Bool) → exec_eq x (main_of c) ≡ z → (if z then true else ride_made (source_of p) (run_made (source_of p) input opts r) d.rides x) ≡ true → IsMainOf (j ++ (act opts (source_of p).sites input j q t n asked)) (world_after (source_of p) (act opts (source_of p).sites input j q t n asked) w t s) x
               one true v g =
                   let is : x ≡ main_of c = same_exec x (main_of c) v in
                   let y = child r f.0 o q t n s asked d f.1 on c i in
@@ -372,22 +363,16 @@ module _ (p : Program) (formed : IsFormed p) (ok : breaks_of p ≡ []) where
       run_ends homes asked (more {j} {w} r o (acts q t i s z d)) f al m n on l k h =
           (run_ends homes asked r f.0 al.0 m.0 n.0 o l.0 k.0 (λ x e. ride_before (source_of p) (run_still (source_of p) input opts r) d.rides x (asked_before z.request s (ride_still (source_of p) (run_still (source_of p) input opts r) d.rides) x (h x e))), by z.request refl)
         where
-          abbrev b : List Entry
-          b = act opts (source_of p).sites input j q t i z
-
-          abbrev whole : Runs (source_of p) input opts (j ++ b) (world_after (source_of p) b w t s)
-          whole = more r o (acts q t i s z d)
-
           by : (y : Request) → z.request ≡ y → NoMainOf (with_homes homes makers) asked (now (with_homes homes makers) asked (ride_made (source_of p) (run_made (source_of p) input opts r) d.rides)) y
-          by (ask.Gone c) e = λ x u g i.
+          by (ask.Gone c) e = λ x u g at_it.
               let up = now_asked makers asked (ride_made (source_of p) (run_made (source_of p) input opts r) d.rides) x u in
               let made : run_made (source_of p) input opts r x ≡ true = ride_old x g (run_made (source_of p) input opts r) d.rides l.1 (now_made makers asked (ride_made (source_of p) (run_made (source_of p) input opts r) d.rides) x u) in
               let y = task_of r f.0 o l.0 k.0 x made g in
-              let same : y.object ≡ c = sym y.place ∙ i in
-              let own : ((world_after (source_of p) b w t s).tasks y.task).env.own ≡ c = own_after r f.0 o q t i s z d f.1 on y.task y.there ∙ (y.own ∙ same) in
+              let same : y.object ≡ c = sym y.place ∙ at_it in
+              let own : ((world_after (source_of p) (act opts (source_of p).sites input j q t i z) w t s).tasks y.task).env.own ≡ c = own_after r f.0 o q t i s z d f.1 on y.task y.there ∙ (y.own ∙ same) in
               let lt = y.there in
-              let grown = tasks_grow j b in
-              let over : has_ended y.task (j ++ b) ≡ true = gone_ended whole f al on y.task (omega (arith, lt, grown)) (ap (λ c. is_gone c (j ++ b)) own ∙ goes r f.0 o q t i s z d f.1 on c e) in
-              let gone = (ended whole f al m n on y.task over).1 in
-              no_both (run_still (source_of p) input opts whole x) (h x up) (ap (run_still (source_of p) input opts whole) (y.named ∙ ap main_of (same ∙ sym own)) ∙ gone)
+              let grown = tasks_grow j (act opts (source_of p).sites input j q t i z) in
+              let over : has_ended y.task (j ++ (act opts (source_of p).sites input j q t i z)) ≡ true = gone_ended (more r o (acts q t i s z d)) f al on y.task (omega (arith, lt, grown)) (ap (λ c. is_gone c (j ++ (act opts (source_of p).sites input j q t i z))) own ∙ goes r f.0 o q t i s z d f.1 on c e) in
+              let gone = (ended (more r o (acts q t i s z d)) f al m n on y.task over).1 in
+              no_both (run_still (source_of p) input opts (more r o (acts q t i s z d)) x) (h x up) (ap (run_still (source_of p) input opts (more r o (acts q t i s z d))) (y.named ∙ ap main_of (same ∙ sym own)) ∙ gone)
           by y e = tt

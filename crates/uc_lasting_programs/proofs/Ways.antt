@@ -99,7 +99,7 @@ module _ (p : Program) (formed : IsFormed p) (ok : breaks_of p ≡ []) (few : Fe
   abbrev g : Setting
   g = setting_of p few
 
-  code : (n : ℕ) → CodeRoutine (setting_of p few) (special_of p n) (slice_get (source_of p).routines n)
+  code : (n : ℕ) → CodeRoutine (setting_of p few) (special_of p n) ((table_of p).routine n).this (slice_get (source_of p).routines n)
   code = code_of p formed ok few
 
   -- along a ride: of operands it is known what is the execution's own, and all that the state can come by is known

@@ -53,7 +53,7 @@ OpensLeftAt t heads few K todo s = Unit {0}
 -- kinds by which variables in scope hold what is known, and so do objects that are built: by some such kinds it finds what is left, and where a scope opens,
 -- what that is of holds what is known
 pub record MeetsLeft (t : Table) (heads : ℕ → ℕ → Bool) (few : Few) (s : State) : Type 0 where
-  pub anew : BindsAnew t s s.run.control
+  pub anew : BindsAnew t heads s s.run.control
   pub finds : BuiltState t heads few [] s → (x : BuiltState t heads few [] s) ×
       (FindsLeft t few x.0.sigs x.0.run.sig x.0.run.scope s s.run.control x.0.run.own × OpensLeftAt t heads few (OutwardsOrMade x.0.sigs) s.run.control s)
 

@@ -135,7 +135,7 @@ module _ (source : Source) (special : ℕ → Bool) (makers : Makers) (homes : �
   -- a part is left
   part : (c : CleanUp) (todo : List Todo) → PartsState (G source special homes) s → s.run.control ≡ piece.Part c ∷ todo → CleansPart c → Q c → Parted special Q todo → Takes source Seats Up s (piece.IsPart c) todo
   part c todo st e n q p x own h =
-      subst (λ l. Leads x (quiet.act_todo source l s)) (sym e) (refl, (0, law_completing.parts source (W x) (makers.before x) s.env.exec (record s.run { control = todo }) s.callers (are_parts special Q todo p) (taken_over source special homes (spot_of makers x) s.env.exec (makers.before x) s.callers st.callers (taken c n q (spot_of makers x) h.0) h.1)))
+      subst (λ l. Leads x (quiet.act_todo source l s)) (sym e) (refl, inl (0, law_completing.parts source (W x) (makers.before x) s.env.exec (record s.run { control = todo }) s.callers (are_parts special Q todo p) (taken_over source special homes (spot_of makers x) s.env.exec (makers.before x) s.callers st.callers (taken c n q (spot_of makers x) h.0) h.1)))
 
   -- all elements of an array stand, and are cleaned up together
   opens : (x : Exec) (m : ℕ) (b d : Expr) (line : ℕ) (ss : Stmts) (todo : List Todo) → OpensAll m d ss → HoldsNow source Seats Up s x (piece.IsFill m b d) (piece.Within line ∷ (piece.Rest ss ∷ todo)) → SoonIn source (W x) (makers.before x) s.env.exec 1 (record s.run { control = piece.Rest ss ∷ todo }) s.callers
@@ -152,12 +152,12 @@ module _ (source : Source) (special : ℕ → Bool) (makers : Makers) (homes : �
 
   fill : (m : ℕ) (b d : Expr) (todo : List Todo) → s.run.control ≡ piece.FillNow m b d ∷ todo → FillEnds todo m d → nat_lt s.run.elements m ≡ false → Takes source Seats Up s (piece.IsFill m b d) todo
   fill m b d todo e o f x own h =
-      subst (λ l. Leads x (quiet.act_todo source l s)) (sym e) (subst (λ c. Leads x (quiet.turns (quiet.fill_todo c m b d todo) s)) (sym f) (refl, (0, (2, stands x m b d todo o h))))
+      subst (λ l. Leads x (quiet.act_todo source l s)) (sym e) (subst (λ c. Leads x (quiet.turns (quiet.fill_todo c m b d todo) s)) (sym f) (refl, inl (0, (2, stands x m b d todo o h))))
 
   -- elements are counted anew
   sweeps : (m : ℕ) (d : Expr) (todo : List Todo) → s.run.control ≡ piece.CountNow m ∷ (piece.Sweep d ∷ todo) → Counts m d → IsFree todo → Recounts source Seats Up s (piece.Sweep d ∷ todo)
   sweeps m d todo e c k x own (inl h) =
-      subst (λ l. Leads x (quiet.act_todo source l s)) (sym e) (refl, (0, (0, inl (all_below m s.run.elements d source (W x) s.env.exec s.run.frame s.run.this c h.0, h.1))))
+      subst (λ l. Leads x (quiet.act_todo source l s)) (sym e) (refl, inl (0, (0, inl (all_below m s.run.elements d source (W x) s.env.exec s.run.frame s.run.this c h.0, h.1))))
   sweeps m d todo e c k x own (inr h) = absurd (none_counted source Seats Up s x todo k h)
 
   counts : (m : ℕ) (todo : List Todo) → s.run.control ≡ piece.CountNow m ∷ todo → CountsNext m todo → IsOrderly special Q s.run.elements todo → LeavesAt source Seats Up (piece.CountNow m ∷ todo) s

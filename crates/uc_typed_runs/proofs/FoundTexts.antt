@@ -28,7 +28,6 @@ use Rattle.uc_sound.specs.WellTyped.{IsTextOf, IsWellTyped}
 use Rattle.uc_sound.proofs.Texts.{text_formed, law_well_typed}
 use Rattle.uc_state_laws.specs.Endings.{still_reading, RideHolds, RunHolds, LeadsHold}
 use Rattle.uc_state_laws.specs.Opens.{Opens, RideMeets, RunMeets, LeadsMeet}
-use Rattle.uc_state_laws.specs.Limits.{IsWithinLimits}
 use Rattle.uc_place_laws.proofs.OpenRuns.{law_opens}
 use Rattle.uc_life_laws.specs.OpenedRuns.{MeetsObjects, IsFollowed}
 use Rattle.uc_life_laws.specs.Things.{Holds}

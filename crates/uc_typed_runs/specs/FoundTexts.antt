@@ -42,7 +42,7 @@ pub record OthersRight (t : Table) (heads : ℕ → ℕ → Bool) (kinds : List 
 -- nothing is bound yet at a field of the object at hand where that is to be bound; and by some kinds by which objects that are built hold what is known,
 -- what the next step reads is right, where no state tells it, and where scopes open, so are the other fields of plain objects, and arrays of them
 pub record Founds (t : Table) (heads : ℕ → ℕ → Bool) (s : State) : Type 0 where
-  pub anew : BindsAnew t s s.run.control
+  pub anew : BindsAnew t heads s s.run.control
   pub reads : BuiltState t heads any [] s → (x : BuiltState t heads any [] s) ×
       (ReadsAt t any x.0.sigs s x.0.run.sig x.0.run.scope s.run.control x.0.run.own × OthersRight t heads x.0.sigs s)
 
