@@ -41,7 +41,11 @@ pub fn first_within(code: &Code, next: u32, rest: u32, sought: HandlerQuery) -> 
 pub fn is_covered(code: &Code, next: u32) -> bool
     ensures { result ≡ false → chain code.now.rows next ≡ [] }
 {
-    0 < covering(code, next)
+    let number = covering(code, next);
+    if number == 0 {
+        return false;
+    }
+    true
 }
 
 // The newest row that covers the op before `next`, by its number plus 1; 0 where there is none.

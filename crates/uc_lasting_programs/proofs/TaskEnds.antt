@@ -364,11 +364,11 @@ module _ (p : Program) (formed : IsFormed p) (ok : breaks_of p ≡ []) where
           (run_ends homes asked r f.0 al.0 m.0 n.0 o l.0 k.0 (λ x e. ride_before (source_of p) (run_still (source_of p) input opts r) d.rides x (asked_before z.request s (ride_still (source_of p) (run_still (source_of p) input opts r) d.rides) x (h x e))), by z.request refl)
         where
           by : (y : Request) → z.request ≡ y → NoMainOf (with_homes homes makers) asked (now (with_homes homes makers) asked (ride_made (source_of p) (run_made (source_of p) input opts r) d.rides)) y
-          by (ask.Gone c) e = λ x u g i.
+          by (ask.Gone c) e = λ x u g at_it.
               let up = now_asked makers asked (ride_made (source_of p) (run_made (source_of p) input opts r) d.rides) x u in
               let made : run_made (source_of p) input opts r x ≡ true = ride_old x g (run_made (source_of p) input opts r) d.rides l.1 (now_made makers asked (ride_made (source_of p) (run_made (source_of p) input opts r) d.rides) x u) in
               let y = task_of r f.0 o l.0 k.0 x made g in
-              let same : y.object ≡ c = sym y.place ∙ i in
+              let same : y.object ≡ c = sym y.place ∙ at_it in
               let own : ((world_after (source_of p) (act opts (source_of p).sites input j q t i z) w t s).tasks y.task).env.own ≡ c = own_after r f.0 o q t i s z d f.1 on y.task y.there ∙ (y.own ∙ same) in
               let lt = y.there in
               let grown = tasks_grow j (act opts (source_of p).sites input j q t i z) in
