@@ -9,7 +9,8 @@ use Rattle.uc_machine.specs.Executions.{at_depth, set_depth, list_in, others, fi
 use Rattle.uc_machine.specs.Pieces.{Link, Value, Number, Place, Running, Object, Nothing, Active, stored, nought, address, LAST_ADDRESS}
 use Rattle.uc_machine.specs.Quiet.{call_frame}
 use Rattle.uc_life_laws.proofs.HomedCells.{set_length}
-use Rattle.uc_cell_laws.specs.CellStates.{Telling, IsFree, Cells, AllCells, IsRooted, IsOf, AllAre}
+use Rattle.uc_cell_laws.specs.Sites.{Telling}
+use Rattle.uc_cell_laws.specs.CellStates.{IsOwnCell, IsFree, Cells, AllCells, IsRooted, IsOf, AllWait}
 
 -- of a cell that is written, and of all others
 cell_tested : (P : Value → Type 0) (f : Value → Value) (vs : List Value) (j k : ℕ) → (j ≡ k → P (slice_index_or vs j nought) → P (f (slice_index_or vs j nought))) → P (slice_index_or vs j nought) → P (slice_index_or (value_changed k f nought vs) j nought)
@@ -91,20 +92,22 @@ module _ (tg : Telling) (n : Exec) where
   rooted_older rs level q v l (inl h) = inl h
   rooted_older rs level q v l (inr h) = let k = h.2 in inr (h.0, h.1, h.2, shallower rs h.0 h.1 (omega (arith, k, l)) h.3, h.4)
 
-  pub one_newer : (rs : List ℕ) (r level : ℕ) (a : Active) → IsOf tg n rs level a → IsOf tg n (r ∷ rs) level a
-  one_newer rs r level a h = record {
+  pub one_newer : (many : ℕ) (rs : List ℕ) (r level : ℕ) (a : Active) → IsOf tg n many rs level a → IsOf tg n many (r ∷ rs) level a
+  one_newer many rs r level a h = record {
     routine = h.routine;
     frame = deeper rs r a.frame h.routine h.frame;
     low = h.low;
-    code = h.code;
     this = λ s. rooted_newer rs r level level h.routine a.this (omega arith) (h.this s);
+    marks = h.marks;
+    holds = h.holds;
+    ok = h.ok;
   }
 
-  pub all_newer : (rs : List ℕ) (r : ℕ) (cs : List Active) → AllAre tg n rs cs → AllAre tg n (r ∷ rs) cs
+  pub all_newer : (rs : List ℕ) (r : ℕ) (cs : List Active) → AllWait tg n rs cs → AllWait tg n (r ∷ rs) cs
   all_newer rs r [] h = tt
-  all_newer rs r (a ∷ older) h = (one_newer rs r (length older) a h.0, all_newer rs r older h.1)
+  all_newer rs r (a ∷ older) h = (one_newer 1 rs r (length older) a h.0, all_newer rs r older h.1)
 
-  pub all_older : (rs : List ℕ) (cs : List Active) → length cs ≤ length (others rs) → AllAre tg n rs cs → AllAre tg n (others rs) cs
+  pub all_older : (rs : List ℕ) (cs : List Active) → length cs ≤ length (others rs) → AllWait tg n rs cs → AllWait tg n (others rs) cs
   all_older rs [] l h = tt
   all_older rs (a ∷ older) l h =
       let k = h.0.low in (
@@ -112,8 +115,10 @@ module _ (tg : Telling) (n : Exec) where
           routine = h.0.routine;
           frame = shallower rs a.frame h.0.routine (omega (arith, k, l)) h.0.frame;
           low = h.0.low;
-          code = h.0.code;
           this = λ s. rooted_older rs (length older) h.0.routine a.this (omega (arith, l)) (h.0.this s);
+          marks = h.0.marks;
+          holds = h.0.holds;
+          ok = h.0.ok;
         },
         all_older rs older (omega (arith, l)) h.1,
       )
@@ -133,7 +138,7 @@ module _ (tg : Telling) (n : Exec) where
   free_stored q w (Object o) a b = b
   free_stored q w Nothing a b = a
 
-  pub cells_written : (r d cell : ℕ) (w : Value) (vs : List Value) → ((x : List Link) → tg.own r (Frame n d) x → address x < LAST_ADDRESS → address x ≡ cell → IsFree tg n (Place (Frame n d) x) w) → Cells tg n r d vs → Cells tg n r d (value_changed cell (stored w) nought vs)
+  pub cells_written : (r d cell : ℕ) (w : Value) (vs : List Value) → ((x : List Link) → IsOwnCell tg r (Frame n d) x → address x < LAST_ADDRESS → address x ≡ cell → IsFree tg n (Place (Frame n d) x) w) → Cells tg n r d vs → Cells tg n r d (value_changed cell (stored w) nought vs)
   cells_written r d cell w vs f h = λ x o l.
       cell_tested (IsFree tg n (Place (Frame n d) x)) (stored w) vs (address x) cell (λ e b. free_stored (Place (Frame n d) x) w (slice_index_or vs (address x) nought) (f x o l e) b) (h x o l)
 
@@ -147,7 +152,7 @@ module _ (tg : Telling) (n : Exec) where
   cells_none r d = λ x o l. number_free (Place (Frame n d) x) _
 
   -- own cells of a routine lie behind its parameters
-  pub cells_called : (r d : ℕ) (q : Routine) (vs : List Value) → ((x : List Link) → tg.own r (Frame n d) x → address x < LAST_ADDRESS → q.params ≤ address x) → Cells tg n r d (call_frame q vs)
+  pub cells_called : (r d : ℕ) (q : Routine) (vs : List Value) → ((x : List Link) → IsOwnCell tg r (Frame n d) x → address x < LAST_ADDRESS → q.params ≤ address x) → Cells tg n r d (call_frame q vs)
   cells_called r d q vs f = λ x o l.
       let k = f x o l in
       let P : Value → Type 0 = IsFree tg n (Place (Frame n d) x) in

@@ -20,7 +20,8 @@ use Rattle.uc_life_laws.specs.LifeStates.{SlotBy, ParkedBy}
 use Rattle.uc_life_laws.proofs.HomedCells.{either, set_length}
 use Rattle.uc_life_laws.proofs.Parked as parked
 use Rattle.uc_life_laws.proofs.Parked.{Ex, at_home}
-use Rattle.uc_cell_laws.specs.CellStates.{Telling, IsFree, AllCells, AllAre, CellEx, CellEnv, CellState, OwnerFits, Fits}
+use Rattle.uc_cell_laws.specs.Sites.{Telling}
+use Rattle.uc_cell_laws.specs.CellStates.{IsFree, AllCells, IsOf, AllWait, CellEx, CellEnv, CellRest, CellState, OwnerFits, Fits}
 use Rattle.uc_cell_laws.proofs.CellFrames.{cells_written, all_changed, number_free}
 
 module _ (tg : Telling) where
@@ -60,7 +61,7 @@ module _ (tg : Telling) where
   frames_kept : (h : Home) (n : ℕ) (f : List (List Value) → List (List Value)) (o : Option Ex) (m : Members) → KeepsFrames f → SlotBy (CellEx tg) (at_home h n) o → ParkedBy (CellEx tg) h m.parked → ParkedBy (CellEx tg) h (frames_by n f o m).parked
   frames_kept h n f None m same r s = s
   frames_kept h n f (Some x) m same r s =
-      parked.update_parked (CellEx tg) h n (Some (record x { frames = f x.frames })) m.parked (record { routines = r.routines; frames = (same (at_home h n) r.routines x.frames).0 ∙ r.frames; cells = (same (at_home h n) r.routines x.frames).1 r.cells; stack = r.stack }) s
+      parked.update_parked (CellEx tg) h n (Some (record x { frames = f x.frames })) m.parked (record { routines = r.routines; frames = (same (at_home h n) r.routines x.frames).0 ∙ r.frames; cells = (same (at_home h n) r.routines x.frames).1 r.cells; run = r.run; callers = r.callers }) s
 
   with_frames_keeps : {rs : List ℕ} (n : Exec) (f : List (List Value) → List (List Value)) (e : Env) → KeepsFrames f → CellEnv tg e → Keeps rs e (with_frames n f e)
   with_frames_keeps {rs} n f e same s =
@@ -120,7 +121,7 @@ module _ (tg : Telling) where
 
   links_kept : (h : Home) (g : Links → Links) (n : ℕ) (o : Option Ex) (m : Members) → SlotBy (CellEx tg) (at_home h n) o → ParkedBy (CellEx tg) h m.parked → ParkedBy (CellEx tg) h (sw.links_by g n o m).parked
   links_kept h g n None m r s = s
-  links_kept h g n (Some x) m r s = parked.update_parked (CellEx tg) h n (Some (record x { links = g x.links })) m.parked (record { routines = r.routines; frames = r.frames; cells = r.cells; stack = r.stack }) s
+  links_kept h g n (Some x) m r s = parked.update_parked (CellEx tg) h n (Some (record x { links = g x.links })) m.parked (record { routines = r.routines; frames = r.frames; cells = r.cells; run = r.run; callers = r.callers }) s
 
   pub links_keeps : {rs : List ℕ} (g : Links → Links) (n : Exec) (e : Env) → CellEnv tg e → Keeps rs e (sw.with_links g n e)
   links_keeps {rs} g n e s =
@@ -146,8 +147,9 @@ module _ (tg : Telling) where
     routines = r.routines;
     frames = r.frames;
     cells = r.cells;
-    stack = r.stack;
-    env = like (parked.slot_rests (CellEx tg) s.env.exec (Some (sw.stopped s)) (sw.set_slot n None s.env) (record { routines = h.routines; frames = h.frames; cells = h.cells; stack = h.stack }) (parked.slot_rests (CellEx tg) n None s.env tt h.env)) refl refl refl;
+    run = r.run;
+    callers = r.callers;
+    env = like (parked.slot_rests (CellEx tg) s.env.exec (Some (sw.stopped s)) (sw.set_slot n None s.env) (record { routines = h.routines; frames = h.frames; cells = h.cells; run = h.run; callers = h.callers }) (parked.slot_rests (CellEx tg) n None s.env tt h.env)) refl refl refl;
   }
 
   able_stage : (g : Stage) (n : Exec) (x : Ex) → CellEx tg n x → LifeNext (sw.able_at g n x)
@@ -172,8 +174,8 @@ module _ (tg : Telling) where
   go_on_rests (Some p) s r h = switched_rests p.0 p.1 s r h
 
   wake_stage : (g : Stage) (n : Exec) (x : Ex) (s : State) → CellEx tg n x → CellState tg s → LifeMoved (sw.wake_at g n x s)
-  wake_stage Fresh n x s r h = switched_rests n _ s (record { routines = r.routines; frames = r.frames; cells = r.cells; stack = r.stack }) h
-  wake_stage Started n x s r h = switched_rests n _ s (record { routines = r.routines; frames = r.frames; cells = r.cells; stack = r.stack }) h
+  wake_stage Fresh n x s r h = switched_rests n _ s (record { routines = r.routines; frames = r.frames; cells = r.cells; run = r.run; callers = r.callers }) h
+  wake_stage Started n x s r h = switched_rests n _ s (record { routines = r.routines; frames = r.frames; cells = r.cells; run = r.run; callers = r.callers }) h
   wake_stage Ended n x s r h = tt
 
   wake_slot : (n : Exec) (o : Option Ex) (s : State) → SlotBy (CellEx tg) n o → CellState tg s → LifeMoved (sw.wake_by n o s)
@@ -191,7 +193,7 @@ module _ (tg : Telling) where
   suspend_rests s h = either LifeMoved (sw.in_destruction s.env) (Stops SwitchInUnwind) (sw.go_on (sw.able s.env.links.resumer s.env) s) tt (go_on_rests (sw.able s.env.links.resumer s.env) s (able_rests s.env.links.resumer s.env h.env) h)
 
   ended_rests : (s : State) → CellState tg s → CellState tg (sw.ended s)
-  ended_rests s h = record { routines = h.routines; frames = h.frames; cells = h.cells; stack = h.stack; env = like h.env refl refl refl }
+  ended_rests s h = record { routines = h.routines; frames = h.frames; cells = h.cells; run = h.run; callers = h.callers; env = like h.env refl refl refl }
 
   pub finish_rests : (s : State) → CellState tg s → LifeMoved (sw.finish s)
   finish_rests s h =
@@ -203,7 +205,8 @@ module _ (tg : Telling) where
     routines = r.routines;
     frames = r.frames;
     cells = r.cells;
-    stack = (record { routine = r.stack.0.routine; frame = r.stack.0.frame; low = r.stack.0.low; code = r.stack.0.code; this = r.stack.0.this }, r.stack.1);
+    run = record { routine = r.run.routine; frame = r.run.frame; low = r.run.low; this = r.run.this; marks = r.run.marks; holds = r.run.holds; ok = r.run.ok };
+    callers = r.callers;
   }
 
   throw_rests : (o : Option (Exec × Ex)) (s : State) → LifeNext o → CellState tg s → LifeMoved (sw.throw_at o s)
@@ -217,21 +220,22 @@ module _ (tg : Telling) where
   taken_down_rests s h = go_on_rests (sw.able s.env.links.destroyer s.env) (sw.ended s) (able_rests s.env.links.destroyer s.env h.env) (ended_rests s h)
 
   -- the same running execution, in a task that has changed
-  pub with_env : {e : Env} (s : State) (h : CellState tg s) → Keeps h.routines s.env e → CellState tg (record s { env = e })
-  with_env {e} s h k = record {
+  pub with_env : {e : Env} (many : ℕ) (s : State) (h : CellRest tg many s) → Keeps h.routines s.env e → CellRest tg many (record s { env = e })
+  with_env {e} many s h k = record {
     routines = h.routines;
     frames = k.frames ∙ h.frames;
     cells = subst (λ n. AllCells tg n h.routines e.frames) (sym k.exec) (k.cells h.cells);
-    stack = subst (λ n. AllAre tg n h.routines (s.run ∷ s.callers)) (sym k.exec) h.stack;
+    run = subst (λ n. IsOf tg n many h.routines (length s.callers) s.run) (sym k.exec) h.run;
+    callers = subst (λ n. AllWait tg n h.routines s.callers) (sym k.exec) h.callers;
     env = k.env;
   }
 
   over_rests : (n : Exec) (s : State) → CellState tg s → CellState tg (sw.over n s)
-  over_rests n s h = with_env s h (links_keeps (λ l. record l { live = false; stage = Ended }) n s.env h.env)
+  over_rests n s h = with_env 0 s h (links_keeps (λ l. record l { live = false; stage = Ended }) n s.env h.env)
 
   take_down_stage : (g : Stage) (n : Exec) (x : Ex) (s : State) → CellEx tg n x → CellState tg s → LifeMoved (sw.take_down_at g n x s)
   take_down_stage Fresh n x s r h = over_rests n s h
-  take_down_stage Started n x s r h = switched_rests n _ s (there n (record x { links = record x.links { live = false; destroyer = Some s.env.exec } }) reason.Destroyed (record { routines = r.routines; frames = r.frames; cells = r.cells; stack = r.stack })) h
+  take_down_stage Started n x s r h = switched_rests n _ s (there n (record x { links = record x.links { live = false; destroyer = Some s.env.exec } }) reason.Destroyed (record { routines = r.routines; frames = r.frames; cells = r.cells; run = r.run; callers = r.callers })) h
   take_down_stage Ended n x s r h = over_rests n s h
 
   take_down_slot : (n : Exec) (o : Option Ex) (s : State) → SlotBy (CellEx tg) n o → CellState tg s → LifeMoved (sw.take_down_by n o s)

@@ -2,6 +2,9 @@ pub mod Unreferring
 pub mod Scopes
 pub mod Offsets
 pub mod Variables
+pub mod CellMarks
+pub mod CellLists
+pub mod CellPlaces
 pub mod CellFrames
 pub mod CellKeeping
 pub mod CellSteps

@@ -48,6 +48,16 @@ addressed (l ∷ p) h =
     let e : min (address p + link_cells l) LAST_ADDRESS ≡ address p + link_cells l = min-eq_left (omega (arith, k)) in
     omega (arith, e, ih)
 
+-- and where less cells lie before a place, its address is no other number
+pub has_address : (p : List Link) → offset p < LAST_ADDRESS → address p < LAST_ADDRESS
+has_address [] h = h
+has_address (l ∷ p) h =
+    let n : offset p + link_cells l < LAST_ADDRESS = h in
+    let k : address p < LAST_ADDRESS = has_address p (omega (arith, n)) in
+    let ih : address p ≡ offset p = addressed p k in
+    let e : min (address p + link_cells l) LAST_ADDRESS ≡ address p + link_cells l = min-eq_left (omega (arith, n, ih)) in
+    omega (arith, e, ih, n)
+
 -- a place, or a mutex object, in which fields are found from its first cell on
 abbrev pub IsSpot : Value → Type 0
 IsSpot (Number n) = ⊥

@@ -1,7 +1,9 @@
 -- The own cells of frames in steps and in runs of programs.
-use Rattle.std.proofs.Common.{◌≡◌, ℕ, ◌<◌, Bool, true, false, List, [], ◌∷◌, Some, sym, ap, ◌∙◌, subst}
-use Rattle.std.specs.Prelude.{slice_index_or, if◌then◌else◌}
+use Rattle.std.proofs.Common.{◌≡◌, ℕ, ◌≤◌, ◌<◌, Bool, true, false, List, [], ◌∷◌, Option, Some, None, sym, ap, ◌∙◌, subst}
+use Rattle.std.specs.Prelude.{slice_get, slice_index_or, if◌then◌else◌}
 use Rattle.uc_tree.specs.Programs.{Program}
+use Rattle.uc_tree.specs.Source.{Routine}
+use Rattle.uc_machine.specs.declared.exec.Exec.{Exec}
 use Rattle.uc_machine.specs.Executions.{at_depth, list_in, frames_in, parked_at}
 use Rattle.uc_machine.specs.Pieces.{Link, Slot, FieldAt, At, Value, Place, Object, State, Env, LAST_ADDRESS, address, further, loaded, nought}
 use Rattle.uc_machine.specs.declared.exec.Owner.{Owner}
@@ -10,35 +12,35 @@ use Rattle.uc_resolve.specs.Resolve.{source_of}
 use Rattle.uc_rules.specs.Breaks.{breaks_of}
 use Rattle.uc_typing.specs.Typing.{Ty, Cell, Obj, Table, element_shape}
 use Rattle.uc_state_laws.proofs.ValueSteps.{exec_same}
+use Rattle.uc_tree.specs.Numbering.{sites_of}
+use Rattle.uc_sound.proofs.SoundLemmas.{law_sound}
+use Rattle.uc_site_laws.proofs.Routines.{source_named}
+use Rattle.uc_state_laws.specs.Counted.{CountedRoutine}
+use Rattle.uc_state_laws.proofs.Arguments.{counted_source}
 use Rattle.uc_sound.specs.SoundFormed.{IsFormed}
 use Rattle.uc_sound.specs.Tables.{table_of}
 use Rattle.uc_sound.proofs.Lists.{left_is}
-use Rattle.uc_life_laws.specs.Things.{Few, IsField, IsMutex, Within, itself, field, element}
+use Rattle.uc_life_laws.specs.Things.{Few, IsField, IsMutex, Within, field}
 use Rattle.uc_life_laws.specs.HomedStates.{Owns, Inside, all_of_it, own_field, own_element}
 use Rattle.uc_cell_laws.specs.Places.{LiesInScope}
-use Rattle.uc_cell_laws.specs.CellStates.{Fits, CellState}
+use Rattle.uc_cell_laws.specs.Sites.{Telling, IsNoMaker, SitedRoutine, SitedSource}
+use Rattle.uc_cell_laws.specs.CellTodos.{IsOwnPart, CodeRoutine}
+use Rattle.uc_cell_laws.specs.CellStates.{IsOwnCell, Fits, CellState}
+use Rattle.uc_cell_laws.specs.OwnCells.{owns_of, is_of_objects, telling_of, LawFits, LawCells}
 use Rattle.uc_cell_laws.proofs.CellFrames.{cells_at}
-use Rattle.uc_cell_laws.specs.OwnCells.{IsOwnPart, IsOwnCell, owns_of, is_of_objects, telling_of, LawFits, LawCells}
+use Rattle.uc_cell_laws.proofs.CellPlaces.{MayWrite, inside_within, part_lies}
 use Rattle.uc_cell_laws.proofs.Offsets.{IsSpot, spots, last_links, before_last, not_root, one_type}
 use Rattle.uc_cell_laws.proofs.Variables.{same_scope, same_variable, law_variables, behind_params}
 use Rattle.uc_cell_laws.proofs.MainRoutine.{no_maker}
 use Rattle.uc_cell_laws.proofs.CellWalk as walks
-use Rattle.uc_cell_laws.proofs.CellWalk.{Behind}
 use Rattle.uc_cell_laws.proofs.CellWorlds.{run_cells, leads_cells}
 
--- an own part lies within
-pub inside_within : (t : Table) (owns : Owns) {w : Value} {a : Ty} {v : Value} {b : Ty} → Inside t owns w a v b → Within t w a v b
-inside_within t owns all_of_it = itself
-inside_within t owns (own_field h i f o) = field (inside_within t owns h) i f
-inside_within t owns (own_element h j l) = element (inside_within t owns h) j l
-
-pub part_lies : (t : Table) (owns : Owns) (p : Program) (r : ℕ) (o : Owner) (v : Value) (b : Ty) → IsOwnPart t owns (source_of p) r o v b → LiesInScope t (source_of p) r o v b
-part_lies t owns p r o v b h = record { clean = h.clean; scope = h.scope; cell = h.cell; type = h.type; cleans = h.cleans; within = inside_within t owns h.inside }
-
 module _ (p : Program) (formed : IsFormed p) (accepted : breaks_of p ≡ []) (few : Few) where
-  own_behind : Behind (telling_of p few)
-  own_behind r q e n d x i lt =
-      behind_params p formed accepted r q e (Frame n d) x i.0 (part_lies (table_of p) _ p r (Frame n d) (Place (Frame n d) x) (Cell i.0) i.2) lt
+  abbrev g : Telling
+  g = telling_of p few
+
+  own_behind : (r : ℕ) (q : Routine) → slice_get (source_of p).routines r ≡ Some q → (n : Exec) (d : ℕ) (x : List Link) → IsOwnCell g r (Frame n d) x → address x < LAST_ADDRESS → q.params ≤ address x
+  own_behind r q e n d x i lt = behind_params p formed accepted r q e (Frame n d) x i.0 (part_lies g r (Frame n d) (Place (Frame n d) x) (Cell i.0) i.2) lt
 
   -- writes
 
@@ -50,14 +52,14 @@ module _ (p : Program) (formed : IsFormed p) (accepted : breaks_of p ≡ []) (fe
     o = Frame e.exec d
 
     abbrev OwnAt : ℕ → List Link → Type 0
-    OwnAt q y = (telling_of p few).own q o y
+    OwnAt q y = IsOwnCell g q o y
 
     -- an own cell of the routine of the frame
     here : (q : ℕ) (y : List Link) → at_depth rs d ≡ Some q → OwnAt q y → OwnAt r y
     here q y i k = subst (λ n. OwnAt n y) (some_same q r (sym i ∙ at)) k
 
     lies : (y : List Link) (k : OwnAt r y) → LiesInScope (table_of p) (source_of p) r o (Place o y) (Cell k.0)
-    lies y k = part_lies (table_of p) _ p r o (Place o y) (Cell k.0) k.2
+    lies y k = part_lies g r o (Place o y) (Cell k.0) k.2
 
     fits_home : ((v : ℕ) → w ≡ Object v → few.home v ≡ Place o x) → Fits (telling_of p few) rs (Place o x) w e
     fits_home f = (exec_same e.exec, λ q i y k lt a v j. f v j ∙ ap (Place o) (sym (law_variables p formed accepted r o y x (here q y i k).0 b (lies y (here q y i k)) h lt a).0))
@@ -99,11 +101,11 @@ module _ (p : Program) (formed : IsFormed p) (accepted : breaks_of p ≡ []) (fe
       lies : LiesInScope t (source_of p) r o (Place o x) (Cell b)
       lies = record { clean = h.clean; scope = h.scope; cell = h.cell; type = h.type; cleans = h.cleans; within = there }
 
-      clash : (q : ℕ) → at_depth rs d ≡ Some q → (y : List Link) → IsOwnCell p q o y → address y < LAST_ADDRESS → address y ≡ address x → ⊥
+      clash : (q : ℕ) → at_depth rs d ≡ Some q → (y : List Link) → IsOwnCell g q o y → address y < LAST_ADDRESS → address y ≡ address x → ⊥
       clash q j y k lt a =
           let s : q ≡ r = some_same q r (sym j ∙ at) in
           let part : IsOwnPart t (owns_of p) (source_of p) r o (Place o y) (Cell k.0) = subst (λ n. IsOwnPart t (owns_of p) (source_of p) n o (Place o y) (Cell k.0)) s k.2 in
-          let own = part_lies t (owns_of p) p r o (Place o y) (Cell k.0) part in
+          let own = part_lies g r o (Place o y) (Cell k.0) part in
           let z = same_variable t part.type h.type part.cell h.cell part.clean h.clean (same_scope p formed accepted r o y x k.0 b own lies lt a) part.cleans h.cleans in
           let same : y ≡ x = (law_variables p formed accepted r o y x k.0 b own lies lt a).0 in
           let inner : Inside t (owns_of p) root h.type (Place o y) (Cell k.0) = subst (λ n. Inside t (owns_of p) (Place o (Slot n ∷ [])) h.type (Place o y) (Cell k.0)) z.0 (subst (λ n. Inside t (owns_of p) (Place o (Slot part.cell ∷ [])) n (Place o y) (Cell k.0)) z.1 part.inside) in
@@ -111,8 +113,22 @@ module _ (p : Program) (formed : IsFormed p) (accepted : breaks_of p ≡ []) (fe
           let no : true ≡ false = sym yes ∙ none in
           cc
 
+  may_write : MayWrite g
+  may_write = record { home = fits_home; other = fits_other; lent = fits_reference; behind = own_behind }
+
+  -- each routine is code of its own, in which arguments are counted
+  code : SitedSource g → (n : ℕ) → CodeRoutine g n (slice_get (source_of p).routines n)
+  code sited n = by (slice_get (source_of p).routines n) (counted_source (sites_of p) (source_of p) (table_of p) (law_sound p formed accepted) (source_named p) n) (sited n)
+    where
+      by : (q : Option Routine) → CountedRoutine (source_of p) q → SitedRoutine g n q → CodeRoutine g n q
+      by None h k = tt
+      by (Some q) h k = (h, k)
+
+  main_none : IsNoMaker g (source_of p).main
+  main_none h = no_maker p accepted (left_is ((table_of p).routine (source_of p).main).whole (is_of_objects p ((table_of p).routine (source_of p).main).this) h)
+
 -- what is loaded from an own cell
-own_read : (p : Program) (few : Few) (s : State) (h : CellState (telling_of p few) s) (d r : ℕ) (x : List Link) → at_depth h.routines d ≡ Some r → IsOwnCell p r (Frame s.env.exec d) x → address x < LAST_ADDRESS → (o : ℕ) → loaded (Place (Frame s.env.exec d) x) s.env ≡ Object o → few.home o ≡ Place (Frame s.env.exec d) x
+own_read : (p : Program) (few : Few) (s : State) (h : CellState (telling_of p few) s) (d r : ℕ) (x : List Link) → at_depth h.routines d ≡ Some r → IsOwnCell (telling_of p few) r (Frame s.env.exec d) x → address x < LAST_ADDRESS → (o : ℕ) → loaded (Place (Frame s.env.exec d) x) s.env ≡ Object o → few.home o ≡ Place (Frame s.env.exec d) x
 own_read p few s h d r x e i lt o q =
     cells_at (telling_of p few) s.env.exec d r h.routines s.env.frames e h.cells x i lt o (sym (ap (λ (b : Bool). slice_index_or (list_in (at_depth (if b then s.env.frames else frames_in (parked_at s.env.exec s.env)) d)) (address x) nought) (exec_same s.env.exec)) ∙ q)
 
@@ -125,10 +141,10 @@ law_fits = record {
 
 pub law_cells : LawCells
 law_cells = record {
-  begins = λ p formed accepted few r o n. walks.first (telling_of p few) (own_behind p formed accepted few) r o n;
-  steps = λ p formed accepted few s h f. walks.stepped (telling_of p few) (own_behind p formed accepted few) s h f;
-  told = λ p few given s h. walks.answered_there (telling_of p few) (source_of p) given s h;
+  begins = λ p formed accepted few sited r o n. walks.first (telling_of p few) (code p formed accepted few sited) (may_write p formed accepted few) r o n;
+  steps = λ p formed accepted few sited s h f. walks.stepped (telling_of p few) (code p formed accepted few sited) (may_write p formed accepted few) s h f;
+  told = λ p few form given s k h. walks.answered_there (telling_of p few) form given s k h;
   reads = λ p few s h d r x e i lt o q. own_read p few s h d r x e i lt o q;
-  runs = λ p formed accepted few input opts range j w r fits meets. (run_cells (telling_of p few) (own_behind p formed accepted few) (λ h. no_maker p accepted (left_is ((table_of p).routine (source_of p).main).whole (is_of_objects p ((table_of p).routine (source_of p).main).this) h)) input opts range r fits meets).1;
-  leads = λ p formed accepted few input opts range j w r fits meets on t s c l. leads_cells (telling_of p few) (own_behind p formed accepted few) (λ h. no_maker p accepted (left_is ((table_of p).routine (source_of p).main).whole (is_of_objects p ((table_of p).routine (source_of p).main).this) h)) input opts range r fits meets on t s c l;
+  runs = λ p formed accepted few sited input opts range j w r fits meets. (run_cells (telling_of p few) (code p formed accepted few sited) (may_write p formed accepted few) (main_none p formed accepted few) input opts range r fits meets).1;
+  leads = λ p formed accepted few sited input opts range j w r fits meets on t s c l. leads_cells (telling_of p few) (code p formed accepted few sited) (may_write p formed accepted few) (main_none p formed accepted few) input opts range r fits meets on t s c l;
 }

@@ -527,7 +527,7 @@ module _ (p : Program) where
   -- all routines of a source
 
   abbrev Between : Routine → Type 0
-  Between r = (low high : ℕ) × (r.params ≤ low) × Ss low high r.body
+  Between r = (low high : ℕ) × (r.params ≤ low) × (high ≤ r.cells) × Ss low high r.body
 
   abbrev AllBetween : List Routine → Type 0
   AllBetween [] = Unit {0}
@@ -552,7 +552,7 @@ module _ (p : Program) where
       let s : Scope = meaning.routine_scope p r (meaning.place_by p d) number texts sites in
       let high : ℕ = s.cells + stmts_cells r.body (declared_cells p) in
       let few = g.1 in
-      (s.cells, high, omega (arith, few), body_by s.cells high r.sig.role r s (all r.body s high refl g.0))
+      (s.cells, high, omega (arith, few), omega arith, body_by s.cells high r.sig.role r s (all r.body s high refl g.0))
 
   written : (ds : List Defined) (number texts sites : ℕ) → ArePlain p ds → AllBetween (meaning.routines_meant p ds number texts sites)
   written [] number texts sites h = tt
@@ -561,17 +561,18 @@ module _ (p : Program) where
 
   unwritten : (us : List Unwritten) → AllBetween (meaning.all_unwritten p us)
   unwritten [] = tt
-  unwritten (u ∷ us) = ((0, 0, omega arith, unwritten_body u.role u.class), unwritten us)
+  unwritten (u ∷ us) = ((0, 0, omega arith, omega arith, unwritten_body u.role u.class), unwritten us)
 
   scopes_apart : (o : Option Routine) → MaybeBetween o → (c d : CleanUp) → InRoutine c o → InRoutine d o → (c ≡ d) ⊎ LieApart (Sized p) c d
   scopes_apart None h c d i j = absurd i
-  scopes_apart (Some r) h c d i j = stmts_apart (Sized p) c d h.0 h.1 r.body h.3 i j
+  scopes_apart (Some r) h c d i j = stmts_apart (Sized p) c d h.0 h.1 r.body h.4 i j
 
--- all scopes of a routine are of what lies behind its parameters
+-- all scopes of a routine are of what lies behind its parameters, in the cells of its frame
 pub record LiesBehind (p : Program) (q : Routine) (c : CleanUp) : Type 0 where
   pub low : ℕ
   pub high : ℕ
   pub params : q.params ≤ low
+  pub cells : high ≤ q.cells
   pub lies : Lies (Sized p) low high c
 
 all_between : (p : Program) → breaks_of p ≡ [] → (r : ℕ) → MaybeBetween p (slice_get (source_of p).routines r)
@@ -581,7 +582,7 @@ all_between p accepted r =
 pub scope_behind : (p : Program) → breaks_of p ≡ [] → (r : ℕ) (q : Routine) → slice_get (source_of p).routines r ≡ Some q → (c : CleanUp) → IsScopeOf (source_of p) r c → LiesBehind p q c
 scope_behind p accepted r q e c i =
     let h : Between p q = subst (MaybeBetween p) e (all_between p accepted r) in
-    record { low = h.0; high = h.1; params = h.2; lies = stmts_lies (Sized p) c h.0 h.1 q.body h.3 (subst (InRoutine c) e i) }
+    record { low = h.0; high = h.1; params = h.2; cells = h.3; lies = stmts_lies (Sized p) c h.0 h.1 q.body h.4 (subst (InRoutine c) e i) }
 
 pub law_scopes : LawScopes
 law_scopes p accepted r c d i j = scopes_apart p (slice_get (source_of p).routines r) (all_between p accepted r) c d i j

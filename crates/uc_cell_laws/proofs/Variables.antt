@@ -12,15 +12,18 @@ use Rattle.uc_rules.specs.Breaks.{breaks_of}
 use Rattle.uc_typing.specs.Typing.{Ty, Num, Cell, Obj, Raw, Row, Clu, Pro, Table, element_shape, DestroysAt, CleansAt}
 use Rattle.uc_sound.specs.SoundFormed.{IsFormed}
 use Rattle.uc_sound.specs.Tables.{table_of}
+use Rattle.uc_state_laws.specs.FrameSizes.{MaybeRoutineFits}
 use Rattle.uc_state_laws.specs.Layout.{Sized}
+use Rattle.uc_state_laws.specs.Limits.{MOST_CELLS}
 use Rattle.uc_state_laws.specs.Rooms.{LiesAt, LiesIn, Destroyed, Lies}
+use Rattle.uc_state_laws.proofs.Limits.{law_limits}
 use Rattle.uc_life_laws.specs.Things.{Within}
 use Rattle.uc_life_laws.specs.LifeRuns.{span, IsFlat, IsLaidOut}
 use Rattle.uc_life_laws.proofs.Laying.{laid_out}
-use Rattle.uc_cell_laws.specs.Scopes.{LieApart}
-use Rattle.uc_cell_laws.specs.Places.{LiesInScope, LawVariables}
+use Rattle.uc_cell_laws.specs.Scopes.{LieApart, InRoutine}
+use Rattle.uc_cell_laws.specs.Places.{LiesInScope, LawVariables, LawAddresses}
 use Rattle.uc_cell_laws.proofs.Scopes.{LiesBehind, scope_behind, law_scopes}
-use Rattle.uc_cell_laws.proofs.Offsets.{offset, addressed, bounds, places}
+use Rattle.uc_cell_laws.proofs.Offsets.{offset, addressed, has_address, bounds, places}
 
 some_same : {A : Type 0} {x y : A} → Some x ≡ Some y → x ≡ y
 some_same e = cc
@@ -186,3 +189,21 @@ behind_params p formed accepted r q e o x b h lt =
     let params = z.params in
     let f = addressed x lt in
     omega (arith, low, first, params, f)
+
+-- in a program within its limits they have addresses
+pub law_addresses : LawAddresses
+law_addresses p formed accepted within r o x b h = by (slice_get (source_of p).routines r) refl (law_limits p within r)
+  where
+    by : (q : Option Routine) → slice_get (source_of p).routines r ≡ q → MaybeRoutineFits MOST_CELLS q → address x < LAST_ADDRESS
+    by None e fits = absurd (subst (InRoutine h.clean) e h.scope)
+    by (Some q) e fits =
+        let l : IsLaidOut (Sized p) (table_of p) = laid_out p formed accepted in
+        let z : LiesBehind p q h.clean = scope_behind p accepted r q e h.clean h.scope in
+        let i : Between (table_of p) z.low z.high h.cell h.type = between (Sized p) (table_of p) l z.low z.high h.cell h.type h.clean z.lies h.cleans in
+        let u = bounds (table_of p) (Sized p) l i.flat tt h.within in
+        let high : offset x + 1 ≤ (0 + h.cell) + span (table_of p) h.type = u.high in
+        let last = i.last in
+        let cells : z.high ≤ q.cells = z.cells in
+        let few : q.cells ≤ MOST_CELLS = fits.cells in
+        let most : MOST_CELLS < LAST_ADDRESS = omega arith in
+        has_address x (omega (arith, high, last, cells, few, most))

@@ -1,4 +1,6 @@
 pub mod Scopes
 pub mod Places
+pub mod Sites
+pub mod CellTodos
 pub mod CellStates
 pub mod OwnCells

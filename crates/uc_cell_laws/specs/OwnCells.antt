@@ -5,32 +5,31 @@ use Rattle.uc_tree.specs.Cells.{leading_cells}
 use Rattle.uc_tree.specs.Numbering.{is_event}
 use Rattle.uc_tree.specs.Objects.{ClassField, fields_of, class_at}
 use Rattle.uc_tree.specs.Programs.{Class, Program}
-use Rattle.uc_tree.specs.Source.{Variable, CleanUp, Source, routine_of}
+use Rattle.uc_tree.specs.Source.{routine_of}
 use Rattle.uc_entry.specs.declared.entry.Options.{Options}
 use Rattle.uc_entry.specs.declared.request.Answer.{Answer}
 use Rattle.uc_acts.specs.Journal.{Journal, is_over}
 use Rattle.uc_acts.specs.KernelRuns.{InRange}
-use Rattle.uc_machine.specs.declared.exec.Exec.{Exec}
-use Rattle.uc_machine.specs.declared.exec.Owner.{Owner}
 use Rattle.uc_machine.specs.declared.exec.Owner.TheVariants.{Frame}
 use Rattle.uc_machine.specs.Executions.{at_depth}
-use Rattle.uc_machine.specs.Pieces.{Link, Slot, FieldAt, Value, Place, Object, LAST_ADDRESS, State, Env, address, further, loaded}
+use Rattle.uc_machine.specs.Pieces.{Link, FieldAt, Value, Place, Object, LAST_ADDRESS, State, Env, address, further, loaded}
 use Rattle.uc_machine.specs.Quiet.{quiet, first_state}
 use Rattle.uc_machine.specs.Answering.{answered}
 use Rattle.uc_meaning.specs.Runs.{World, Runs, drawn}
 use Rattle.uc_resolve.specs.Resolve.{source_of}
 use Rattle.uc_rules.specs.Breaks.{breaks_of}
-use Rattle.uc_typing.specs.Typing.{Ty, Cell, Obj, Table, CleansAt}
+use Rattle.uc_typing.specs.Typing.{Ty, Cell, Obj}
 use Rattle.uc_sound.specs.SoundFormed.{IsFormed}
 use Rattle.uc_sound.specs.Tables.{of_kind, table_of}
 use Rattle.uc_state_laws.specs.Fitting.{RunFits}
 use Rattle.uc_state_laws.specs.RoomRuns.{Comes}
 use Rattle.uc_state_laws.specs.Opens.{RunMeets, LeadsMeet}
-use Rattle.uc_life_laws.specs.Things.{Few, IsField, IsMutex, is_outside}
-use Rattle.uc_life_laws.specs.HomedStates.{Owns, Inside}
-use Rattle.uc_cell_laws.specs.Scopes.{IsScopeOf}
+use Rattle.uc_life_laws.specs.Things.{Few, IsField, IsMutex}
+use Rattle.uc_life_laws.specs.HomedStates.{Owns}
 use Rattle.uc_cell_laws.specs.Places.{LiesInScope}
-use Rattle.uc_cell_laws.specs.CellStates.{Telling, IsNoMaker, Fits, CellState, CellStep, CellFinds}
+use Rattle.uc_answer_laws.specs.Suiting.{Form, IsForm}
+use Rattle.uc_cell_laws.specs.Sites.{Telling, IsNoMaker, SitedSource}
+use Rattle.uc_cell_laws.specs.CellStates.{IsOwnCell, Fits, CellState, CellsFor, CellStep, CellFinds}
 
 -- whether a field of a class holds what is its own: it is no reference
 abbrev pub is_own : Option ClassField → Bool
@@ -44,40 +43,16 @@ owns_by (Some c) i = if nat_lt i (leading_cells c.kind) then false else is_own (
 abbrev pub owns_of : Program → Owns
 owns_of p c i = owns_by (class_at p c) i
 
--- something of a type is an own part of what a scope of the routine of this number is of, which stands at a variable of a frame
-pub record IsOwnPart (t : Table) (owns : Owns) (source : Source) (r : ℕ) (o : Owner) (v : Value) (b : Ty) : Type 0 where
-  pub clean : CleanUp
-  pub scope : IsScopeOf source r clean
-  pub cell : ℕ
-  pub type : Ty
-  pub cleans : CleansAt t type (Variable cell) clean
-  pub inside : Inside t owns (Place o (Slot cell ∷ [])) type v b
-
--- so is the cell of a mutex object
-abbrev pub IsOwnCell : Program → ℕ → Owner → List Link → Type 0
-IsOwnCell p r o x = (b : Ty) × IsMutex (table_of p) b × IsOwnPart (table_of p) (owns_of p) (source_of p) r o (Place o x) (Cell b)
-
--- what a constructor or a destructor has at hand: an own part of a variable, of its class; or it lies in no frame of the execution
-abbrev pub OfClass : Program → Exec → ℕ → ℕ → ℕ → Value → Type 0
-OfClass p n r d q v = (c : ℕ) × (((table_of p).routine q).this ≡ Some c) × IsOwnPart (table_of p) (owns_of p) (source_of p) r (Frame n d) v (Obj c)
-
 -- a constructor or a destructor of a class whose objects are declared: events are built where they are raised, in hidden cells, and hold numbers alone
 abbrev pub is_of_objects : Program → Option ℕ → Bool
-is_of_objects p None = true
+is_of_objects p None = false
 is_of_objects p (Some c) = not (of_kind is_event (class_at p c))
 
 abbrev pub builds_or_ends : Program → ℕ → Bool
 builds_or_ends p r = ((table_of p).routine r).whole && is_of_objects p ((table_of p).routine r).this
 
 abbrev pub telling_of : Program → Few → Telling
-telling_of p few = record {
-  source = source_of p;
-  few = few;
-  special = builds_or_ends p;
-  own = IsOwnCell p;
-  lies = OfClass p;
-  outside = λ n q v. is_outside n v ≡ true;
-}
+telling_of p few = record { table = table_of p; source = source_of p; owns = owns_of p; special = builds_or_ends p; few = few }
 
 -- in a program that breaks no rule a value may be written to a binding in what scopes of the routine of a frame are of: where it is at home there, if it is an
 -- object; where no mutex object is bound there; and where that is a field that is a reference
@@ -95,25 +70,25 @@ pub record LawFits : Type 0 where
       further (FieldAt ((table_of p).shape c) i) v ≡ Place (Frame e.exec d) x →
       Fits (telling_of p few) rs (Place (Frame e.exec d) x) w e
 
--- of a program that breaks no rule: a task begins so with what is no constructor and no destructor; each step that finds what it is to find keeps it, and so
--- does each answer; what is loaded from an own cell of the routine of a frame is at home there, if it is an object; so it is in each run, in each state of each ride, and on the way to each state to which whoever runs comes
--- before it asks, and there
+-- of a program that breaks no rule, with code as it is to be (`SitedSource`): a task begins so with what is no constructor and no destructor; each step that
+-- finds what it is to find keeps it, and so does each answer of the form that was asked for; what is loaded from an own cell of the routine of a frame is at home
+-- there, if it is an object; so it is in each run, in each state of each ride, and on the way to each state to which whoever runs comes before it asks, and there
 pub record LawCells : Type 0 where
-  pub begins : (p : Program) → IsFormed p → breaks_of p ≡ [] → (few : Few) (r o : ℕ) → IsNoMaker (telling_of p few) r →
-      CellState (telling_of p few) (first_state (routine_of (source_of p) r) o)
-  pub steps : (p : Program) → IsFormed p → breaks_of p ≡ [] → (few : Few) (s : State) → CellState (telling_of p few) s →
-      CellFinds (telling_of p few) s → CellStep (telling_of p few) (quiet (source_of p) s)
-  pub told : (p : Program) (few : Few) (given : Answer) (s : State) → CellState (telling_of p few) s →
-      CellState (telling_of p few) (answered (source_of p) given s)
+  pub begins : (p : Program) → IsFormed p → breaks_of p ≡ [] → (few : Few) → SitedSource (telling_of p few) → (r o : ℕ) →
+      IsNoMaker (telling_of p few) r → CellState (telling_of p few) (first_state (routine_of (source_of p) r) o)
+  pub steps : (p : Program) → IsFormed p → breaks_of p ≡ [] → (few : Few) → SitedSource (telling_of p few) → (s : State) →
+      CellState (telling_of p few) s → CellFinds (telling_of p few) s → CellStep (telling_of p few) (quiet (source_of p) s)
+  pub told : (p : Program) (few : Few) (form : Form) (given : Answer) (s : State) → IsForm form given →
+      CellsFor (telling_of p few) form s → CellState (telling_of p few) (answered (source_of p) given s)
   pub reads : (p : Program) (few : Few) (s : State) (h : CellState (telling_of p few) s) (d r : ℕ) (x : List Link) →
-      at_depth h.routines d ≡ Some r → IsOwnCell p r (Frame s.env.exec d) x → address x < LAST_ADDRESS →
+      at_depth h.routines d ≡ Some r → IsOwnCell (telling_of p few) r (Frame s.env.exec d) x → address x < LAST_ADDRESS →
       (o : ℕ) → loaded (Place (Frame s.env.exec d) x) s.env ≡ Object o → few.home o ≡ Place (Frame s.env.exec d) x
-  pub runs : (p : Program) → IsFormed p → breaks_of p ≡ [] → (few : Few) →
+  pub runs : (p : Program) → IsFormed p → breaks_of p ≡ [] → (few : Few) → SitedSource (telling_of p few) →
       (input : List ℕ) (opts : Options) → InRange opts → (j : Journal) (w : World) →
       (r : Runs (source_of p) input opts j w) → RunFits (source_of p) input opts j w r →
       RunMeets (CellFinds (telling_of p few)) (source_of p) input opts j w r →
       RunMeets (CellState (telling_of p few)) (source_of p) input opts j w r
-  pub leads : (p : Program) → IsFormed p → breaks_of p ≡ [] → (few : Few) →
+  pub leads : (p : Program) → IsFormed p → breaks_of p ≡ [] → (few : Few) → SitedSource (telling_of p few) →
       (input : List ℕ) (opts : Options) → InRange opts → (j : Journal) (w : World) →
       (r : Runs (source_of p) input opts j w) → RunFits (source_of p) input opts j w r →
       RunMeets (CellFinds (telling_of p few)) (source_of p) input opts j w r →

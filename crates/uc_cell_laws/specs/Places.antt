@@ -10,6 +10,7 @@ use Rattle.uc_typing.specs.Typing.{Ty, Cell, Table, CleansAt}
 use Rattle.uc_sound.specs.SoundFormed.{IsFormed}
 use Rattle.uc_sound.specs.Tables.{table_of}
 use Rattle.uc_state_laws.specs.Layout.{Sized}
+use Rattle.uc_state_laws.specs.Limits.{IsWithinLimits}
 use Rattle.uc_life_laws.specs.Things.{Within}
 use Rattle.uc_life_laws.specs.LifeRuns.{IsFlat, IsLaidOut}
 use Rattle.uc_cell_laws.specs.Scopes.{IsScopeOf}
@@ -38,3 +39,8 @@ LawVariables = (p : Program) → IsFormed p → breaks_of p ≡ [] → (r : ℕ)
     LiesInScope (table_of p) (source_of p) r o (Place o x) (Cell b) →
     LiesInScope (table_of p) (source_of p) r o (Place o y) (Cell c) →
     address x < LAST_ADDRESS → address x ≡ address y → (x ≡ y) × (b ≡ c)
+
+-- and where the program is within its limits all of these have addresses
+abbrev pub LawAddresses : Type 0
+LawAddresses = (p : Program) → IsFormed p → breaks_of p ≡ [] → IsWithinLimits p → (r : ℕ) (o : Owner) (x : List Link) (b : Ty) →
+    LiesInScope (table_of p) (source_of p) r o (Place o x) (Cell b) → address x < LAST_ADDRESS

@@ -1,7 +1,7 @@
 // The laws: each is a function whose contract is the law.
 
 ghost use Rattle.uc_cell_laws.specs.OwnCells.{LawCells, LawFits};
-ghost use Rattle.uc_cell_laws.specs.Places.{LawPlaces, LawVariables};
+ghost use Rattle.uc_cell_laws.specs.Places.{LawAddresses, LawPlaces, LawVariables};
 ghost use Rattle.uc_cell_laws.specs.Scopes.{LawScopes};
 
 /// In the source of each program that breaks no rule cells of a frame are used for one declaration alone.
@@ -18,6 +18,11 @@ pub fn law_places()
 /// So are places within what the scopes of a routine are of, in one frame of it, in each such program.
 pub fn law_variables()
     ensures { LawVariables }
+{}
+
+/// And where such a program is within its limits, these have addresses.
+pub fn law_addresses()
+    ensures { LawAddresses }
 {}
 
 /// Each own cell of a frame holds no object, or the one that is at home there: of a task as it begins, and

@@ -54,6 +54,7 @@ use Rattle.uc_homed_ends.specs.EndLaws.{LawCode, LawWays}
 use Rattle.uc_homed_ends.specs.HomedEnds.{ReadsAt, Reads, LawReads, IsElsewhere, RestAt, Rest, LawFair}
 use Rattle.uc_homed_ends.proofs.EndCodes.{free_of}
 use Rattle.uc_homed_ends.proofs.EndRuns.{run_ways, leads_ways, comes_way}
+use Rattle.uc_homed_ends.proofs.EndReads.{Reading, reading_of}
 
 -- mutex objects in scope are at home in each state of a ride
 
@@ -114,12 +115,6 @@ module _ (p : Program) (formed : IsFormed p) (accepted : breaks_of p ≡ []) (ow
 
 -- what is read
 
-no_ending : (todo : List Todo) → NoEnding todo → IsEnding todo → ⊥
-no_ending (piece.EnterNow m r ∷ todo) n e = n
-no_ending (piece.TickNow ∷ (piece.EnterNow m r ∷ todo)) n e = n
-no_ending (piece.TickNow ∷ todo) n e = e
-no_ending todo n e = e
-
 no_element : (v : Value) (i : ℕ) (x : Exec) (d k : ℕ) → further (At Binding i) v ≡ Place (Frame x d) (Slot k ∷ []) → ⊥
 no_element (Number z) i x d k e = cc
 no_element (Place o p) i x d k e = cc
@@ -167,74 +162,8 @@ module _ (t : Table) (owns : Owns) (few : Few) (Z : ℕ → ℕ → Type 0) wher
   same_home s u k e f h =
       subst (λ (v : Env). IsHome few (loaded (Place (Frame v.exec s.run.frame) (Slot k ∷ [])) v) (Place (Frame v.exec s.run.frame) (Slot k ∷ []))) (sym e) (subst (λ (d : ℕ). IsHome few (loaded (Place (Frame u.env.exec d) (Slot k ∷ [])) u.env) (Place (Frame u.env.exec d) (Slot k ∷ []))) (sym f) h)
 
-  -- whoever reads before an end is on the way from a clean-up, at the end of it
-  pub record Reading (s : State) : Type 0 where
-    pub site : EndSite
-    pub routine : ℕ
-    pub written : Bool
-    pub class : ℕ
-    pub behind : List Todo
-    pub control : s.run.control ≡ LoadNow ∷ ways.entering routine written behind
-    pub found : Found ways.Reads site s
-    pub this : (t.routine routine).this ≡ Some class
-    pub whole : (t.routine routine).whole ≡ true
-    pub mutex : t.mutex class ≡ true
-    pub params : [] ≡ (t.routine routine).params
-    pub start : State
-    pub leaves : Leaves site routine written start.run.control
-    pub held : HomedHere start
-    pub env : s.env ≡ start.env
-    pub frame : s.run.frame ≡ start.run.frame
-
-  reading_at : (s : State) (todo : List Todo) → s.run.control ≡ LoadNow ∷ todo → (w : Way t HomedHere s) → Reading s
-  reading_at s todo c w = by w.stage w.site w.control w.found w.leaves
-    where
-      ends : (x : EndSite) → s.run.control ≡ LoadNow ∷ ways.entering w.routine w.written w.todo → Found ways.Reads x s → Leaves x w.routine w.written w.start.run.control → Reading s
-      ends x e f l = record {
-        site = x;
-        routine = w.routine;
-        written = w.written;
-        class = w.class;
-        behind = w.todo;
-        control = e;
-        found = f;
-        this = w.this;
-        whole = w.whole;
-        mutex = w.mutex;
-        params = w.params;
-        start = w.start;
-        leaves = l;
-        held = w.held;
-        env = w.env;
-        frame = w.frame;
-      }
-
-      by : (k : Stage) (x : EndSite) → s.run.control ≡ todo_at k x w.routine w.written w.todo → Found k x s → Leaves x w.routine w.written w.start.run.control → Reading s
-      by Ends x e f l = let q : LoadNow ∷ todo ≡ todo_at Ends x w.routine w.written w.todo = sym c ∙ e in absurd (cc)
-      by Loads x e f l = let q : LoadNow ∷ todo ≡ todo_at Loads x w.routine w.written w.todo = sym c ∙ e in absurd (cc)
-      by Finds x e f l = let q : LoadNow ∷ todo ≡ todo_at Finds x w.routine w.written w.todo = sym c ∙ e in absurd (cc)
-      by Arrays (AtSpot p) e f l = absurd f
-      by Arrays (AtElement n p) e f l = let q : LoadNow ∷ todo ≡ todo_at Arrays (AtElement n p) w.routine w.written w.todo = sym c ∙ e in absurd (cc)
-      by Counts (AtSpot p) e f l = absurd f
-      by Counts (AtElement n p) e f l = let q : LoadNow ∷ todo ≡ todo_at Counts (AtElement n p) w.routine w.written w.todo = sym c ∙ e in absurd (cc)
-      by Picks (AtSpot p) e f l = absurd f
-      by Picks (AtElement n p) e f l = let q : LoadNow ∷ todo ≡ todo_at Picks (AtElement n p) w.routine w.written w.todo = sym c ∙ e in absurd (cc)
-      by ways.Reads x e f l = ends x e f l
-
-  no_load : (s : State) (todo : List Todo) → s.run.control ≡ LoadNow ∷ todo → Enters t nothing_told s → ⊥
-  no_load s todo c e = by e.control
-    where
-      by : (s.run.control ≡ piece.EnterNow DESTRUCTOR e.routine ∷ e.todo) ⊎ (s.run.control ≡ piece.TickNow ∷ (piece.EnterNow DESTRUCTOR e.routine ∷ e.todo)) → ⊥
-      by (inl q) = let f : LoadNow ∷ todo ≡ piece.EnterNow DESTRUCTOR e.routine ∷ e.todo = sym c ∙ q in cc
-      by (inr q) = let f : LoadNow ∷ todo ≡ piece.TickNow ∷ (piece.EnterNow DESTRUCTOR e.routine ∷ e.todo) = sym c ∙ q in cc
-
-  pub reading_of : (s : State) (todo : List Todo) → s.run.control ≡ LoadNow ∷ todo → IsEnding todo → (FreeActive t s.run ⊎ Enters t nothing_told s) ⊎ Way t HomedHere s → Reading s
-  reading_of s todo c e (inl (inl h)) = absurd (no_ending todo (subst (FreeList t) c h).0 e)
-  reading_of s todo c e (inl (inr h)) = absurd (no_load s todo c h)
-  reading_of s todo c e (inr w) = reading_at s todo c w
-
   -- that of a variable
-  at_variable : (s : State) (k : ℕ) (x : Reading s) (y : EndSite) → x.site ≡ y → top s.run.operands ≡ variable_at k s → AtHomeOf s k
+  at_variable : (s : State) (k : ℕ) (x : Reading t HomedHere s) (y : EndSite) → x.site ≡ y → top s.run.operands ≡ variable_at k s → AtHomeOf s k
   at_variable s k x (AtSpot (OfVariable m)) q e =
       let f : top s.run.operands ≡ variable_at m s = subst (λ y. Found ways.Reads y s) q x.found in
       let same : m ≡ k = same_slot s.env.exec s.run.frame m k (sym f ∙ e) in
@@ -247,7 +176,7 @@ module _ (t : Table) (owns : Owns) (few : Few) (Z : ℕ → ℕ → Type 0) wher
       let f : top s.run.operands ≡ further (FieldAt h i) s.run.this = subst (λ y. Found ways.Reads y s) q x.found in
       absurd (no_field s.run.this h i s.env.exec s.run.frame k (sym f ∙ e))
   at_variable s k x (AtElement n p) q e =
-      let f : top s.run.operands ≡ further (At Binding s.run.elements) (place_at p s) = subst (λ y. Found ways.Reads y s) q x.found in
+      let f : top s.run.operands ≡ further (At Binding s.run.elements) (place_at p s) = (subst (λ y. Found ways.Reads y s) q x.found).0 in
       absurd (no_element (place_at p s) s.run.elements s.env.exec s.run.frame k (sym f ∙ e))
 
   reads_here : (s : State) → NowState t HomedHere s → Reads few s
@@ -255,7 +184,7 @@ module _ (t : Table) (owns : Owns) (few : Few) (Z : ℕ → ℕ → Type 0) wher
     where
       by : (l : List Todo) → s.run.control ≡ l → ReadsAt few l s
       by (LoadNow ∷ todo) c = λ e k q.
-          let x = reading_of s todo c e h.run in
+          let x = reading_of t HomedHere s todo c e h.run in
           subst (λ v. IsHome few (loaded v s.env) v) (sym q) (at_variable s k x x.site refl q)
       by [] c = tt
       by (p ∷ todo) c = tt
@@ -269,15 +198,15 @@ module _ (p : Program) (owns : Owns) (few : Few) (homes : ℕ → Value) (many :
   pub fair_here : (s : State) → NowState (table_of p) (HomedHere (table_of p) owns few (Sized p)) s → made.Binds (source_of p) homes many s → Rest g s → Fair g s
   fair_here s h b r = by s.run.control refl b r
     where
-      read : (todo : List Todo) → (x : Reading (table_of p) owns few (Sized p) s) (y : EndSite) → x.site ≡ y → (IsElsewhere s (top s.run.operands) → IsHome few (loaded (top s.run.operands) s.env) (top s.run.operands)) → IsHome few (loaded (top s.run.operands) s.env) (top s.run.operands)
+      read : (todo : List Todo) → (x : Reading (table_of p) (HomedHere (table_of p) owns few (Sized p)) s) (y : EndSite) → x.site ≡ y → (IsElsewhere s (top s.run.operands) → IsHome few (loaded (top s.run.operands) s.env) (top s.run.operands)) → IsHome few (loaded (top s.run.operands) s.env) (top s.run.operands)
       read todo x (AtSpot (OfVariable k)) q f =
           let e : top s.run.operands ≡ variable_at k s = subst (λ y. Found ways.Reads y s) q x.found in
           subst (λ v. IsHome few (loaded v s.env) v) (sym e) (at_variable (table_of p) owns few (Sized p) s k x (AtSpot (OfVariable k)) q e)
       read todo x (AtSpot (OfField h i)) q f = f (inl (h, i, subst (λ y. Found ways.Reads y s) q x.found))
-      read todo x (AtElement n q) e f = f (inr (q, subst (λ y. Found ways.Reads y s) e x.found))
+      read todo x (AtElement n q) e f = f (inr (q, (subst (λ y. Found ways.Reads y s) e x.found).0))
 
       by : (l : List Todo) → s.run.control ≡ l → made.BindsAt (source_of p) homes many l s → RestAt g l s → FairAt g l s
-      by (LoadNow ∷ todo) c b f = λ e. let x = reading_of (table_of p) owns few (Sized p) s todo c e h.run in read todo x x.site refl (f e)
+      by (LoadNow ∷ todo) c b f = λ e. let x = reading_of (table_of p) (HomedHere (table_of p) owns few (Sized p)) s todo c e h.run in read todo x x.site refl (f e)
       by (piece.BindMadeNow c r ∷ todo) e b f = record { number = b.number; object = b.object; home = same b.number ∙ b.home }
       by [] c b f = f
       by (q ∷ todo) c b f = f

@@ -2,6 +2,7 @@
 -- what it ends.
 use Rattle.std.proofs.Common.{◌≡◌, ℕ, zero, suc, inl, inr, ◌⊎◌, Bool, true, false, List, [], ◌∷◌, ◌++◌, drop, Option, Some, None, refl, sym, ap, ◌∙◌, subst}
 use Rattle.std.specs.Prelude.{pos, nat_lt, slice_get, if◌then◌else◌}
+use Rattle.std.proofs.lemmas.Bool.{ltb-true}
 use Rattle.uc_tree.specs.declared.limits.TheConstants.{DESTRUCTOR}
 use Rattle.uc_tree.specs.Source as src
 use Rattle.uc_tree.specs.Source.{Source, Expr, CleanUp, Routine, routine_or_none, routine_of}
@@ -263,12 +264,12 @@ module _ (tb : Table) (P : State → Type 0) (Q : Exec → Value → Type 0) (lo
         env = subst (RestsEnv (FreeActive tb) (FreeActive tb)) (sym e) env;
       }
 
-      picked : (n : ℕ) (p : Spot) (b : Bool) (c : Bool) → top (below s.run.operands) ≡ place_at p s → Leaves (AtElement n p) w.routine b w.start.run.control → OneLess (AtElement n p) w.start.run.elements s.run.elements → NowStep tb P Q (piece.element_step src.Binding (if c then Some s.run.elements else None) (piece.LoadNow ∷ ways.entering w.routine b w.todo) (top (below s.run.operands)) (below (below s.run.operands)) s)
-      picked n p b false f l m = env
-      picked n p b true f l m =
+      picked : (n : ℕ) (p : Spot) (b : Bool) (c : Bool) → nat_lt s.run.elements n ≡ c → top (below s.run.operands) ≡ place_at p s → Leaves (AtElement n p) w.routine b w.start.run.control → OneLess (AtElement n p) w.start.run.elements s.run.elements → NowStep tb P Q (piece.element_step src.Binding (if c then Some s.run.elements else None) (piece.LoadNow ∷ ways.entering w.routine b w.todo) (top (below s.run.operands)) (below (below s.run.operands)) s)
+      picked n p b false e f l m = env
+      picked n p b true e f l m =
           let todo : List Todo = piece.LoadNow ∷ ways.entering w.routine b w.todo in
           let vs : List Value = further (piece.At src.Binding s.run.elements) (top (below s.run.operands)) ∷ below (below s.run.operands) in
-          next Reads (AtElement n p) b (at todo vs s) refl (ap (λ v. further (piece.At src.Binding s.run.elements) v) (f ∙ sym (same_place p todo vs s))) l refl refl refl refl m
+          next Reads (AtElement n p) b (at todo vs s) refl (ap (λ v. further (piece.At src.Binding s.run.elements) v) (f ∙ sym (same_place p todo vs s)), ltb-true s.run.elements n e) l refl refl refl refl m
 
       -- what has been read is entered next
       read : (x : EndSite) (b : Bool) → s.run.control ≡ piece.LoadNow ∷ ways.entering w.routine b w.todo → Found Reads x s → Leaves x w.routine b w.start.run.control → Enters tb Q (at (ways.entering w.routine b w.todo) (loaded (top s.run.operands) s.env ∷ below s.run.operands) s)
@@ -302,7 +303,7 @@ module _ (tb : Table) (P : State → Type 0) (Q : Exec → Value → Type 0) (lo
       onward Counts (AtSpot p) b c f l m = absurd f
       onward Counts (AtElement n p) b c f l m = next Picks (AtElement n p) b (at (todo_at Picks (AtElement n p) w.routine b w.todo) (piece.Number (pos s.run.elements) ∷ s.run.operands) s) refl (refl, f ∙ sym (same_place p (todo_at Picks (AtElement n p) w.routine b w.todo) (piece.Number (pos s.run.elements) ∷ s.run.operands) s)) l refl refl refl refl m
       onward Picks (AtSpot p) b c f l m = absurd f
-      onward Picks (AtElement n p) b c f l m = subst (λ v. NowStep tb P Q (piece.element_step src.Binding (piece.index_in n (number v)) (piece.LoadNow ∷ ways.entering w.routine b w.todo) (top (below s.run.operands)) (below (below s.run.operands)) s)) (sym f.0) (picked n p b (nat_lt s.run.elements n) f.1 l m)
+      onward Picks (AtElement n p) b c f l m = subst (λ v. NowStep tb P Q (piece.element_step src.Binding (piece.index_in n (number v)) (piece.LoadNow ∷ ways.entering w.routine b w.todo) (top (below s.run.operands)) (below (below s.run.operands)) s)) (sym f.0) (picked n p b (nat_lt s.run.elements n) refl f.1 l m)
       onward Reads x b c f l m = record { run = inl (inr (read x b c f l)); callers = callers; env = env }
 
       go_on : NowStep tb P Q (quiet.quiet source s)

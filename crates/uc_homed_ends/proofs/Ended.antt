@@ -192,7 +192,7 @@ module _ (p : Program) (sound : Sound (table_of p) (source_of p)) (few : Few) (s
         let before : loaded (variable_at k w.start) w.start.env ≡ Object o = subst (λ (v : Env). loaded (Place (Frame v.exec w.start.run.frame) (Slot k ∷ [])) v ≡ Object o) w.env framed in
         left_there (table_of p) few j w.start w.held.life k w.routine w.class b w.this w.whole (Sized p) w.held.stands.stack l o before
     there_at (AtSpot (OfField h i)) f l o e = elsewhere (inl (h, i, f)) o e
-    there_at (AtElement n q) f l o e = elsewhere (inr (q, f)) o e
+    there_at (AtElement n q) f l o e = elsewhere (inr (q, f.0)) o e
 
     load : (x : EndSite) → Found ways.Reads x s → Leaves x w.routine b w.start.run.control → Loaded few j s.env.exec (loaded (top s.run.operands) s.env)
     load x f l =

@@ -2,6 +2,7 @@ pub mod EndSteps
 pub mod EndWalk
 pub mod EndCodes
 pub mod EndRuns
+pub mod EndReads
 pub mod EndHomes
 pub mod BoundCells
 pub mod BoundKeeping
@@ -18,6 +19,8 @@ pub mod ArrayLists
 pub mod ArrayRuns
 pub mod Elements
 pub mod Wholes
+pub mod SitedSources
+pub mod CellHomes
 pub mod Ended
 pub mod HomesLeft
 pub mod Found

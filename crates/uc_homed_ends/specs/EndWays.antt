@@ -1,5 +1,5 @@
 -- On the way from the clean-up of a mutex object to where that is read: nothing changes but what is to do and operands.
-use Rattle.std.specs.Prelude.{◌≡◌, ℕ, suc, pos, ◌⊎◌, Bool, true, List, [], ◌∷◌, Some}
+use Rattle.std.specs.Prelude.{◌≡◌, ℕ, suc, pos, ◌<◌, ◌⊎◌, Bool, true, List, [], ◌∷◌, Some}
 use Rattle.uc_tree.specs.declared.limits.TheConstants.{DESTRUCTOR}
 use Rattle.uc_tree.specs.Source.{Binding, Load, OfObject, EndOn, Counted}
 use Rattle.uc_entry.specs.declared.request.Request.{Request}
@@ -39,7 +39,7 @@ todo_at Counts (AtElement n p) r written todo =
 todo_at Picks (AtElement n p) r written todo = ElementNow n Binding ∷ (LoadNow ∷ entering r written todo)
 todo_at k x r written todo = LoadNow ∷ entering r written todo
 
--- the place is found: of an element, that of its array first; it is the last one that stood, so as many stand now as are before it
+-- the place is found: of an element, that of its array first; it is the last one that stood, so as many stand now as are before it, and the array has more
 abbrev pub Found : Stage → EndSite → State → Type 0
 Found Ends x s = Unit {0}
 Found Loads x s = Unit {0}
@@ -52,7 +52,7 @@ Found Picks (AtSpot p) s = ⊥
 Found Picks (AtElement n p) s = (top s.run.operands ≡ Number (pos s.run.elements)) ×
     (top (below s.run.operands) ≡ place_at p s)
 Found Reads (AtSpot p) s = top s.run.operands ≡ place_at p s
-Found Reads (AtElement n p) s = top s.run.operands ≡ further (At Binding s.run.elements) (place_at p s)
+Found Reads (AtElement n p) s = (top s.run.operands ≡ further (At Binding s.run.elements) (place_at p s)) × (s.run.elements < n)
 
 -- the scope of what is at a site is left, or it is a part of the object at hand and that is left, or it is the last element that stands of an array
 abbrev pub Leaves : EndSite → ℕ → Bool → List Todo → Type 0

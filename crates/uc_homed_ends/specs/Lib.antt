@@ -9,5 +9,6 @@ pub mod ArrayHomes
 pub mod ArrayLaws
 pub mod Ended
 pub mod Elements
+pub mod Sited
 pub mod HomesLeft
 pub mod Found

@@ -6,6 +6,7 @@ ghost use Rattle.uc_homed_ends.specs.Ended.{LawEnded};
 ghost use Rattle.uc_homed_ends.specs.EndLaws.{LawCode, LawWays};
 ghost use Rattle.uc_homed_ends.specs.Found.{LawFound};
 ghost use Rattle.uc_homed_ends.specs.HomedEnds.{LawFair, LawReads};
+ghost use Rattle.uc_homed_ends.specs.Sited.{LawSited};
 
 /// In the source of every program that breaks no rule mutex objects are ended by clean-ups alone.
 pub fn law_code()
@@ -65,6 +66,12 @@ pub fn law_arrays()
 /// What is entered to be destroyed is not gone, where it was not as it was loaded for that.
 pub fn law_ended()
     ensures { LawEnded }
+{}
+
+/// In the source of every program that breaks no rule what is built, destroyed and bound stands where its
+/// routine has it.
+pub fn law_sited()
+    ensures { LawSited }
 {}
 
 /// So where all is known nothing of homes is left to find for marks that are put but that arrays hold what

@@ -8,7 +8,7 @@ use Rattle.uc_entry.specs.declared.request.Asked.{Asked}
 use Rattle.uc_entry.specs.declared.request.Request.{Request}
 use Rattle.uc_entry.specs.declared.request.Request.TheVariants as ask
 use Rattle.uc_acts.specs.Journal.{Journal, is_over}
-use Rattle.uc_acts.specs.Known.{is_gone, owner}
+use Rattle.uc_acts.specs.Known.{object_count, is_gone, owner}
 use Rattle.uc_acts.specs.KernelRuns.{InRange}
 use Rattle.uc_acts.specs.Serves.{left}
 use Rattle.uc_machine.specs.declared.exec.Exec.{Exec}
@@ -44,7 +44,7 @@ use Rattle.uc_life_laws.specs.Lasting.{lasting, RunForgets}
 use Rattle.uc_life_laws.proofs.Called.{law_called}
 use Rattle.uc_life_laws.proofs.Lasting.{law_raised}
 use Rattle.uc_putting_laws.specs.PuttingLaws.{setting_of, Fair}
-use Rattle.uc_homed_ends.specs.HomesLeft.{KnowsReads, FairKnown}
+use Rattle.uc_homed_ends.specs.HomesLeft.{KnowsReads, Told, Homes}
 use Rattle.uc_homed_ends.proofs.Found.{law_found}
 use Rattle.uc_request_laws.specs.ApartRuns.{StepApart}
 use Rattle.uc_request_laws.specs.Lasting.{IsLasting}
@@ -118,21 +118,6 @@ module _ (P : State → Type 0) (source : Source) where
   asks_at (rides.ticks e r) m = ticks_at e m.0 (asks_at r m.1)
   asks_at (rides.asks {s} {t} e) m = inr (record { state = s; leads = rooms.stays; meets = tt; here = m; asks = e })
 
--- what follows at the states of a run and of a ride
-
-module _ (P Q : State → Type 0) (source : Source) where
-  ride_then : {s u : State} {q k : ℕ} {a : Asked} (r : Rides source s q u k a) → RideMeets (λ v. P v → Q v) source s q u k a r → RideMeets P source s q u k a r → RideMeets Q source s q u k a r
-  ride_then rides.slices h l = tt
-  ride_then (rides.goes_on e r) h l = (h.0 l.0, ride_then r h.1 l.1)
-  ride_then (rides.ticks e r) h l = (h.0 l.0, ride_then r h.1 l.1)
-  ride_then (rides.asks e) h l = h l
-
-  run_then : {input : List ℕ} {opts : Options} {j : Journal} {w : World} (r : Runs source input opts j w) → RunMeets (λ v. P v → Q v) source input opts j w r → RunMeets P source input opts j w r → RunMeets Q source input opts j w r
-  run_then begun h l = tt
-  run_then (more r on (gives q n s le)) h l = (run_then r h.0 l.0, tt)
-  run_then (more r on (no_room q n s le)) h l = (run_then r h.0 l.0, tt)
-  run_then (more r on (acts q n k s asked d)) h l = (run_then r h.0 l.0, ride_then d.rides h.1 l.1)
-
 -- the main of task 0 has its own object alone of others
 first_mine : (few : Few) (own : Exec → Value → Ty → Bool) (z : Value) (b : Ty) → Base few (main_of 0) z b → with_first own (main_of 0) z b ≡ true
 first_mine few own z b h = refl
@@ -143,26 +128,27 @@ first_mine few own z b h = refl
 abbrev telling : (Ty → ℕ → Bool) → (ℕ → Value) → (Exec → Value → Ty → Bool) → Few
 telling numbers home base = record { numbers = numbers; home = home; base = base }
 
--- what is left of a run, where what marks ask is found as far as all is known
-record IsLeftKnown (p : Program) (few : Few) (input : List ℕ) (opts : Options) (j : Journal) (w : World) (r : Runs (source_of p) input opts j w) : Type 0 where
+-- what is left of a run, in which that is told of homes which a run tells in the end that makes so many objects
+record IsLeftKnown (p : Program) (few : Few) (many : ℕ) (input : List ℕ) (opts : Options) (j : Journal) (w : World) (r : Runs (source_of p) input opts j w) : Type 0 where
   reads : RunMeets (ReadsOthers few) (source_of p) input opts j w r
-  fair : RunMeets (FairKnown (setting_of p few)) (source_of p) input opts j w r
+  told : RunMeets (Told p few many) (source_of p) input opts j w r
+  homes : RunMeets (Homes (setting_of p few)) (source_of p) input opts j w r
 
-module _ (p : Program) (formed : IsFormed p) (ok : breaks_of p ≡ []) (numbers : Ty → ℕ → Bool) (home : ℕ → Value) (base : Exec → Value → Ty → Bool) (own : Exec → Value → Ty → Bool) (yet : Exec → List Active → Value → Ty → Bool) (raws : RawsPass (telling numbers home base)) (main : MainPasses (table_of p) (telling numbers home base) ((table_of p).routine (source_of p).main).this 0) (places : (n : Exec) (w : Value) (b : Ty) → Base (telling numbers home base) n w b → IsPlace w) (zero : (n : Exec) → Belongs (telling numbers home base) n (home 0) → ⊥) (mine : (z : Value) (b : Ty) → Base (telling numbers home base) (main_of 0) z b → own (main_of 0) z b ≡ true) (input : List ℕ) (opts : Options) (range : InRange opts) where
+module _ (p : Program) (formed : IsFormed p) (ok : breaks_of p ≡ []) (within : IsWithinLimits p) (many : ℕ) (numbers : Ty → ℕ → Bool) (home : ℕ → Value) (base : Exec → Value → Ty → Bool) (own : Exec → Value → Ty → Bool) (yet : Exec → List Active → Value → Ty → Bool) (raws : RawsPass (telling numbers home base)) (main : MainPasses (table_of p) (telling numbers home base) ((table_of p).routine (source_of p).main).this 0) (places : (n : Exec) (w : Value) (b : Ty) → Base (telling numbers home base) n w b → IsPlace w) (zero : (n : Exec) → Belongs (telling numbers home base) n (home 0) → ⊥) (mine : (z : Value) (b : Ty) → Base (telling numbers home base) (main_of 0) z b → own (main_of 0) z b ≡ true) (input : List ℕ) (opts : Options) (range : InRange opts) where
   abbrev these : Few
   these = telling numbers home base
 
   abbrev Left : (j : Journal) (w : World) → Runs (source_of p) input opts j w → Type 0
-  Left j w r = RunKeepsTo (table_of p) these own yet (source_of p) input opts r × IsLeftKnown p these input opts j w r
+  Left j w r = RunKeepsTo (table_of p) these own yet (source_of p) input opts r × IsLeftKnown p these many input opts j w r
 
   shorter : (j : Journal) (w : World) (a : List Entry) (v : World) (r : Runs (source_of p) input opts j w) (on : is_over j ≡ false) (m : May (source_of p) opts input j w a v) → Left (j ++ a) v (more r on m) → Left j w r
-  shorter j w a v r on m x = (x.0.0, record { reads = x.1.reads.0; fair = x.1.fair.0 })
+  shorter j w a v r on m x = (x.0.0, record { reads = x.1.reads.0; told = x.1.told.0; homes = x.1.homes.0 })
 
   -- all is known where each step found what it was to find
-  left_so : (j : Journal) (w : World) (r : Runs (source_of p) input opts j w) → RunFits (source_of p) input opts j w r → PassesBelow these opts j → RunMeets (Meets (table_of p) these) (source_of p) input opts j w r → IsLeftKnown p these input opts j w r → IsLeftOf p these input opts j w r
+  left_so : (j : Journal) (w : World) (r : Runs (source_of p) input opts j w) → RunFits (source_of p) input opts j w r → PassesBelow these opts j → RunMeets (Meets (table_of p) these) (source_of p) input opts j w r → IsLeftKnown p these many input opts j w r → IsLeftOf p these input opts j w r
   left_so j w r f below met x = record {
     reads = x.reads;
-    fair = run_then (KnowsReads (table_of p) these) (Fair (setting_of p these)) (source_of p) r x.fair (run_reads p formed ok numbers home base raws main input opts range r f below met);
+    fair = law_found.runs p formed ok within these many input opts range j w r f x.told (run_reads p formed ok numbers home base raws main input opts range r f below met) x.homes;
   }
 
   apart_so : (j : Journal) (w : World) (r : Runs (source_of p) input opts j w) → RunFits (source_of p) input opts j w r → is_over j ≡ false → PassesBelow these opts j → RunMeets (Meets (table_of p) these) (source_of p) input opts j w r → Left j w r → RunMeets (StepApart (table_of p) these (source_of p)) (source_of p) input opts j w r × RunGoes (IsLeftNowhere (table_of p) these) (source_of p) input opts r
@@ -185,9 +171,15 @@ module _ (p : Program) (formed : IsFormed p) (ok : breaks_of p ≡ []) (within :
   abbrev few : Few
   few = few_of p input opts j w r x.base
 
-  -- homes are those that the run tells, so of marks nothing is left to find but what is asked, as far as all is known
-  left_here : IsLeftKnown p few input opts j w r
-  left_here = record { reads = x.reads; fair = law_found.runs p formed ok within few input opts range j w r f (λ o. refl) x.rest }
+  abbrev all : ℕ
+  all = object_count j
+
+  -- homes are those that the run tells
+  told_here : RunMeets (Told p few all) source input opts j w r
+  told_here = law_found.told p formed ok within few input opts range j w r f (λ o. refl)
+
+  left_here : IsLeftKnown p few all input opts j w r
+  left_here = record { reads = x.reads; told = told_here; homes = x.rest }
 
   tells : IsTelling p few opts j
   tells = law_telling p formed ok input opts j w r x.base
@@ -204,13 +196,13 @@ module _ (p : Program) (formed : IsFormed p) (ok : breaks_of p ≡ []) (within :
 
   so : HasMet p formed ok few.numbers few.home few.base input opts j w r
   so =
-      run_met p formed ok few.numbers few.home few.base tells.raws tells.main input opts range (λ j w r. Left p formed ok few.numbers few.home few.base (with_first x.own) x.yet tells.raws tells.main tells.places tells.nobodys (first_mine few x.own) input opts range j w r) (λ j w a v r on m l. shorter p formed ok few.numbers few.home few.base (with_first x.own) x.yet tells.raws tells.main tells.places tells.nobodys (first_mine few x.own) input opts range j w a v r on m l) (λ j w r f on below so l. forgotten p formed ok few.numbers few.home few.base (with_first x.own) x.yet tells.raws tells.main tells.places tells.nobodys (first_mine few x.own) input opts range j w r f on below so.all l) r f tells.below met_so_far (x.ways, left_here)
+      run_met p formed ok few.numbers few.home few.base tells.raws tells.main input opts range (λ j w r. Left p formed ok within all few.numbers few.home few.base (with_first x.own) x.yet tells.raws tells.main tells.places tells.nobodys (first_mine few x.own) input opts range j w r) (λ j w a v r on m l. shorter p formed ok within all few.numbers few.home few.base (with_first x.own) x.yet tells.raws tells.main tells.places tells.nobodys (first_mine few x.own) input opts range j w a v r on m l) (λ j w r f on below so l. forgotten p formed ok within all few.numbers few.home few.base (with_first x.own) x.yet tells.raws tells.main tells.places tells.nobodys (first_mine few x.own) input opts range j w r f on below so.all l) r f tells.below met_so_far (x.ways, left_here)
 
   left_of : IsLeftOf p few input opts j w r
-  left_of = left_so p formed ok few.numbers few.home few.base (with_first x.own) x.yet tells.raws tells.main tells.places tells.nobodys (first_mine few x.own) input opts range j w r f tells.below so.all left_here
+  left_of = left_so p formed ok within all few.numbers few.home few.base (with_first x.own) x.yet tells.raws tells.main tells.places tells.nobodys (first_mine few x.own) input opts range j w r f tells.below so.all left_here
 
   forgets : RunForgets (table_of p) few source input opts j w r
-  forgets = forgotten p formed ok few.numbers few.home few.base (with_first x.own) x.yet tells.raws tells.main tells.places tells.nobodys (first_mine few x.own) input opts range j w r f on tells.below so.all (x.ways, left_here)
+  forgets = forgotten p formed ok within all few.numbers few.home few.base (with_first x.own) x.yet tells.raws tells.main tells.places tells.nobodys (first_mine few x.own) input opts range j w r f on tells.below so.all (x.ways, left_here)
 
   lasts_now : RideMeets (Meets (table_of p) (lasting few j)) source start (left opts j t) s n asked d.rides
   lasts_now = ride_lasts p formed ok few.numbers few.home few.base tells.raws tells.main input opts range j w r f on tells.below forgets so q t n s asked d met_next
@@ -220,7 +212,7 @@ module _ (p : Program) (formed : IsFormed p) (ok : breaks_of p ≡ []) (within :
 
   fair_now : RideMeets (Fair (setting_of p few)) source start (left opts j t) s n asked d.rides
   fair_now =
-      ride_then (KnowsReads (table_of p) few) (Fair (setting_of p few)) source d.rides (law_found.rides p formed ok within few input opts range j w r f (λ o. refl) on q t n s asked d x.rest_now) (ride_reads p formed ok few.numbers few.home few.base tells.raws tells.main input opts range j w r f on tells.below so.all q t n s asked d met_now)
+      law_found.rides p formed ok within few all input opts range j w r f told_here (run_reads p formed ok few.numbers few.home few.base tells.raws tells.main input opts range r f tells.below so.all) on q t n s asked d (law_found.told_next p formed ok within few input opts range j w r f (λ o. refl) on q t n s asked d) (ride_reads p formed ok few.numbers few.home few.base tells.raws tells.main input opts range j w r f on tells.below so.all q t n s asked d met_now) x.rest_now
 
   -- where an event is raised what executions have of others stands upwards
   abbrev Upwards : State → Type 0
@@ -232,7 +224,7 @@ module _ (p : Program) (formed : IsFormed p) (ok : breaks_of p ≡ []) (within :
   -- nobody else has at hand what is let go of, so far and in this ride
   apart : RunMeets (StepApart (table_of p) few source) source input opts j w r × RideMeets (StepApart (table_of p) few source) source start (left opts j t) s n asked d.rides
   apart = (
-    (apart_so p formed ok few.numbers few.home few.base (with_first x.own) x.yet tells.raws tells.main tells.places tells.nobodys (first_mine few x.own) input opts range j w r f on tells.below so.all (x.ways, left_here)).0,
+    (apart_so p formed ok within all few.numbers few.home few.base (with_first x.own) x.yet tells.raws tells.main tells.places tells.nobodys (first_mine few x.own) input opts range j w r f on tells.below so.all (x.ways, left_here)).0,
     on_way.0,
   )
 

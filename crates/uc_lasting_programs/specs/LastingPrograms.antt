@@ -68,7 +68,7 @@ pub record IsLeftFor (p : Program) (input : List ℕ) (opts : Options) (j : Jour
   pub reads_now : RideMeets (ReadsOthers (few_of p input opts j w r base)) (source_of p) (answered (source_of p) d.given (drawn j w t)) (left opts j t) s n asked d.rides
   -- what is left so that nobody has at hand what has gone: no step reads the name of the running execution in what is not its own
   pub reads : RunMeets (ReadsOthers (few_of p input opts j w r base)) (source_of p) input opts j w r
-  -- objects that fields and elements hold as they end are at home there
+  -- objects that fields of mutex objects, and elements of arrays in them, hold as they end are at home there
   pub rest : RunMeets (Homes (setting_of p (few_of p input opts j w r base))) (source_of p) input opts j w r
   pub rest_now : RideMeets (Homes (setting_of p (few_of p input opts j w r base))) (source_of p) (answered (source_of p) d.given (drawn j w t)) (left opts j t) s n asked d.rides
   -- what is loaded from fields and elements to be destroyed is not gone
