@@ -147,7 +147,8 @@ module _ (tg : Telling) where
     routines = r.routines;
     frames = r.frames;
     cells = r.cells;
-    run = r.run; callers = r.callers;
+    run = r.run;
+    callers = r.callers;
     env = like (parked.slot_rests (CellEx tg) s.env.exec (Some (sw.stopped s)) (sw.set_slot n None s.env) (record { routines = h.routines; frames = h.frames; cells = h.cells; run = h.run; callers = h.callers }) (parked.slot_rests (CellEx tg) n None s.env tt h.env)) refl refl refl;
   }
 

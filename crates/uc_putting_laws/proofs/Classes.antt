@@ -1,10 +1,10 @@
 -- What code cleans up of the object at hand lies in that, by its class; and no mutex object lies in an event.
-use Rattle.std.proofs.Common.{◌≡◌, ℕ, zero, suc, ◌≤◌, ◌⊎◌, inl, inr, ◌&&◌, Bool, true, false, List, [], ◌∷◌, Option, Some, None, refl, sym, ap, ◌∙◌, subst, arith}
+use Rattle.std.proofs.Common.{◌≡◌, ℕ, zero, suc, ◌⊎◌, inl, inr, ◌&&◌, Bool, true, List, [], ◌∷◌, Option, Some, None, refl, sym, ap, ◌∙◌, subst, arith}
 use Rattle.std.specs.Prelude.{nat_eq, slice_get, if◌then◌else◌}
 use Rattle.uc_tree.specs.declared.kinds.Base.TheVariants as base
 use Rattle.uc_tree.specs.Cells.{classes_of}
 use Rattle.uc_tree.specs.Names.{same_name}
-use Rattle.uc_tree.specs.Numbering.{Defined, is_event, routines_of}
+use Rattle.uc_tree.specs.Numbering.{Defined, routines_of}
 use Rattle.uc_tree.specs.Objects.{class_at, event_place, is_constructor, place_of}
 use Rattle.uc_tree.specs.Programs.{Program}
 use Rattle.uc_tree.specs.Source as src
@@ -24,7 +24,7 @@ use Rattle.uc_sound.proofs.Origins.{Looked, looked, event_looked}
 use Rattle.uc_sound.proofs.Signatures.{has_sig}
 use Rattle.uc_sound.proofs.Ties.{some_same}
 use Rattle.uc_life_laws.specs.Things.{IsField, Within, itself, field, element}
-use Rattle.uc_life_laws.specs.Ending.{Spot, OfVariable, OfField}
+use Rattle.uc_life_laws.specs.Ending.{OfVariable, OfField}
 use Rattle.uc_putting_laws.specs.CleanedSpots.{HoldsObjects, LiesInClass, AllInClass}
 use Rattle.uc_putting_laws.specs.Calling.{FieldsInClass}
 use Rattle.uc_putting_laws.proofs.CleanedSpots.{some_one, cleans_spot}

@@ -1,13 +1,13 @@
 -- Code that keeps to a room names variables from the beginning of that on, whatever else is known of it: so do handlers of guarded blocks.
-use Rattle.std.proofs.Common.{◌≡◌, ℕ, ◌≤◌, ◌⊎◌, inl, inr, Bool, Option, Some, None, arith, sym, ◌∙◌, refl, ap}
+use Rattle.std.proofs.Common.{◌≡◌, ℕ, ◌≤◌, inl, inr, Bool, Some, None, arith, sym, ◌∙◌, refl, ap}
 use Rattle.uc_tree.specs.Source as src
 use Rattle.uc_tree.specs.Source.{Expr, CleanUp, Stmt, Stmts, EventStmt, TaskStmt, Raised, Handlers, Clauses, Source}
 use Rattle.uc_typing.specs.Typing.{Table}
 use Rattle.uc_state_laws.specs.Ordinary.{IsNew, Evaluated}
 use Rattle.uc_state_laws.specs.Rooms.{Room, IsRoom, IsWithin, Lies, OwnPart, RaisedIn, StmtIn, StmtsIn, EventIn, HandlersIn, TaskIn, ClausesIn}
 use Rattle.uc_state_laws.proofs.RoomLemmas.{within_room}
-use Rattle.uc_life_laws.specs.Ending.{Spot, OfVariable, OfField}
-use Rattle.uc_putting_laws.specs.CleanedSpots.{Site, One, Each, Under, site_spot, NoSite, AnyPlace, place_spot, spot_of, IsOver, OpensFor, IsHollow, Reach, from_variable}
+use Rattle.uc_life_laws.specs.Ending.{Spot, OfVariable}
+use Rattle.uc_putting_laws.specs.CleanedSpots.{Site, One, Each, Under, site_spot, NoSite, AnyPlace, place_spot, IsOver, OpensFor, IsHollow, Reach, from_variable}
 use Rattle.uc_putting_laws.specs.Calling.{PlaceAt, Binds, CallsAt, MakesAt, MakesEach, EndsAt, EndsEach, EndsNumber, Evaluates, FillsBy, SweepsBy, CleansBy, RaisesBy, CallingStmt, CallingStmts, CallingEvent, CallingHandlers, CallingTask, CallingClauses}
 use Rattle.uc_putting_laws.proofs.CleanedSpots.{some_one, over_spot}
 use Rattle.uc_putting_laws.proofs.SpotRooms.{variable_one, cleaned_between, own_part}

@@ -16,7 +16,7 @@ use Rattle.uc_life_laws.specs.Marks.{Outward, Free}
 use Rattle.uc_life_laws.specs.Ending.{Spot, OfVariable, OfField}
 use Rattle.uc_place_laws.specs.OlderResting.{AllWait}
 use Rattle.uc_place_laws.proofs.AsideKeeping.{tested}
-use Rattle.uc_putting_laws.specs.CleanedSpots.{Site, One, Each, Under, site_spot, AnySite, AnyPlace, HasSome, IsOver, IsHollow, Reach, apart, IsOf, IsIn}
+use Rattle.uc_putting_laws.specs.CleanedSpots.{Site, One, Each, Under, site_spot, AnyPlace, HasSome, IsOver, IsHollow, Reach, apart, IsOf, IsIn}
 use Rattle.uc_putting_laws.specs.ObjectsAtHand.{LiesUnder, same_place, further_on, BelongsBelow, in_frame}
 use Rattle.uc_putting_laws.specs.Seats.{IsSeated}
 use Rattle.uc_putting_laws.specs.Calling.{opens_object, PlainExpr, PlaceAt, Binds, CallsAt, MakesAt, MakesEach, EndsAt, EndsEach, EndsNumber, Evaluates, FillsBy, SweepsBy, CleansBy, RaisesBy, CallingStmt, CallingEvent, CallingTask, Opening}

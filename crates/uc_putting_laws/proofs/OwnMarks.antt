@@ -1,5 +1,5 @@
 -- What activations have to clean up: variables, or fields of their objects, which are in frames below theirs.
-use Rattle.std.proofs.Common.{◌≡◌, ℕ, ◌≤◌, ◌<◌, ◌⊎◌, inl, inr, ⊎_elim, true, false, List, [], ◌∷◌, length, Option, None, sym, subst, arith}
+use Rattle.std.proofs.Common.{◌≡◌, ℕ, ◌≤◌, ◌⊎◌, inl, inr, ⊎_elim, true, false, List, [], ◌∷◌, length, Option, None, sym, subst, arith}
 use Rattle.uc_tree.specs.Source as src
 use Rattle.uc_tree.specs.Source.{Shape, CleanUp}
 use Rattle.uc_machine.specs.declared.exec.Exec.{Exec}
@@ -9,7 +9,7 @@ use Rattle.uc_machine.specs.Pieces as piece
 use Rattle.uc_machine.specs.Pieces.{FieldAt, Value, Todo, Sort, Active, sort, further}
 use Rattle.uc_typing.specs.Typing.{Ty, Cell, Obj, Table}
 use Rattle.uc_state_laws.specs.RoomStacks.{Stack}
-use Rattle.uc_life_laws.specs.Things.{Few, Within, AtVariable, AtField, Nowhere, IsFor, Marks, InTodo, Stands, Variables}
+use Rattle.uc_life_laws.specs.Things.{Within, AtVariable, AtField, Nowhere, IsFor, Marks, InTodo, Stands, Variables}
 use Rattle.uc_life_laws.specs.Marks.{Marked}
 use Rattle.uc_life_laws.specs.Ending.{OfField}
 use Rattle.uc_putting_laws.specs.CleanedSpots.{HoldsObjects, LiesInClass, Reach, reach_of}

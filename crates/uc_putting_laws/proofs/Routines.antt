@@ -27,7 +27,7 @@ use Rattle.uc_sound.specs.Tables.{table_of}
 use Rattle.uc_state_laws.specs.Makers.{roles}
 use Rattle.uc_sound.proofs.Lookups.{MakesPlain, making_plain}
 use Rattle.uc_life_laws.specs.Ending.{OfField}
-use Rattle.uc_putting_laws.specs.CleanedSpots.{Site, AnyPlace, spot_of, OpensFor, reach_of, AscendsBy, Ascends}
+use Rattle.uc_putting_laws.specs.CleanedSpots.{Site, spot_of, OpensFor, reach_of, AscendsBy, Ascends}
 use Rattle.uc_putting_laws.specs.Calling.{Evaluates, CallingStmts, CallingBody, CallingRoutine}
 use Rattle.uc_putting_laws.specs.PuttingLaws.{is_special, special_of, LawCalling}
 use Rattle.uc_putting_laws.proofs.Roles.{main_plain, program_main_plain}

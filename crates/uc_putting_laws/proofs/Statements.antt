@@ -1,5 +1,5 @@
 -- What statements of a program stand for calls constructors and destructors where they may be called.
-use Rattle.std.proofs.Common.{◌≡◌, ℕ, ◌+◌, ◌≤◌, inl, inr, false, List, [], ◌∷◌, Option, Some, None, refl, sym, ap, ◌∙◌, subst, arith}
+use Rattle.std.proofs.Common.{◌≡◌, ℕ, ◌+◌, ◌≤◌, inl, inr, false, List, [], ◌∷◌, Option, Some, None, refl, sym, ◌∙◌, subst, arith}
 use Rattle.std.specs.Prelude.{slice_get}
 use Rattle.uc_tree.specs.declared.kinds.Base.{Base}
 use Rattle.uc_tree.specs.declared.kinds.Role.{Role}
@@ -25,7 +25,7 @@ use Rattle.uc_sound.proofs.MemberLemmas.{tells_maker}
 use Rattle.uc_depth_laws.specs.Entering.{lets_go, holds_object}
 use Rattle.uc_sound.proofs.Lookups.{IsPlainClass, IsObjectClass, MakesPlain, making_plain, event_free, written_free, unwritten_free}
 use Rattle.uc_life_laws.specs.Ending.{Spot, OfVariable, OfField, naming}
-use Rattle.uc_putting_laws.specs.CleanedSpots.{Site, One, Each, Under, NoSite, AnyPlace, place_spot, spot_in, spot_of, IsOver, OpensFor, IsHollow, Reach, reach_of, IsOf}
+use Rattle.uc_putting_laws.specs.CleanedSpots.{Site, One, Each, Under, NoSite, AnyPlace, place_spot, spot_in, spot_of, IsOver, OpensFor, Reach, reach_of, IsOf}
 use Rattle.uc_putting_laws.specs.Calling.{of_object, opens_object, opens_at, EndsWhole, PlainExpr, PlainMaybe, PlainItems, PlainTargets, PlainDeclared, PlaceAt, CallsAt, MakesAt, MakesEach, EndsAt, EndsEach, Evaluates, FillsBy, SweepsBy, CleansBy, RaisesBy, CallingStmt, CallingStmts, CallingHandlers, CallingClauses}
 use Rattle.uc_putting_laws.specs.PuttingLaws.{special_of}
 use Rattle.uc_putting_laws.proofs.CleanedSpots.{named_spot}

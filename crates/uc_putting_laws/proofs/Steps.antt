@@ -32,11 +32,11 @@ use Rattle.uc_life_laws.specs.Marks.{Outward, Free}
 use Rattle.uc_life_laws.specs.Ending.{Spot, OfVariable, OfField}
 use Rattle.uc_place_laws.proofs.AsideKeeping as kept
 use Rattle.uc_place_laws.proofs.AsideKeeping.{either}
-use Rattle.uc_putting_laws.specs.CleanedSpots.{Site, One, Each, Under, site_spot, AnySite, AnyPlace, HasSome, spot_of, HoldsObjects, MayHold, IsOver, LiesInClass, Reach, reach_of, from_variable, apart, IsOf, IsIn, AllBelow, IsOutermost, Ascends}
-use Rattle.uc_putting_laws.specs.ObjectsAtHand.{LiesUnder, same_place, further_on, LiesIn, there, BelongsBelow, in_object, variable, OwnMarked, NoneWithin}
+use Rattle.uc_putting_laws.specs.CleanedSpots.{Site, One, Each, Under, site_spot, AnySite, AnyPlace, HasSome, spot_of, HoldsObjects, MayHold, LiesInClass, Reach, reach_of, from_variable, apart, IsOf, IsIn, AllBelow, IsOutermost, Ascends}
+use Rattle.uc_putting_laws.specs.ObjectsAtHand.{LiesUnder, same_place, further_on, LiesIn, there, BelongsBelow, in_object, OwnMarked, NoneWithin}
 use Rattle.uc_putting_laws.specs.Seats.{Searched, Beyond, IsSeated}
 use Rattle.uc_putting_laws.specs.Calling.{opens_object, opens_at, is_opening, PlainNew, Binds, PlaceAt, CallsAt, MakesAt, MakesEach, EndsAt, EndsEach, EndsNumber, CleansBy}
-use Rattle.uc_putting_laws.specs.Putting.{Setting, Around, around, IsHome, Mark, Any, At, Homed, rest, rests, anys, FirstUnder, FirstAt, FirstHome, IsEnding, OfObjects, OpensRest, Located, Enters, Loads, spot_at, StandsAt, HomedAt, Holds, LoneAt, BehindBy, SeatAt, Counts, Plain, CodeStmt, CodeStmts, CodeHandlers, CodeSweep, CodeSpine, CodeRest, CodeScope, CodeRoutine, made_marks, LeftBy, Ok, Left, Finds, Runs, Waits, PutState, PutStep}
+use Rattle.uc_putting_laws.specs.Putting.{Setting, Around, around, IsHome, Mark, Any, At, Homed, rest, rests, anys, FirstUnder, FirstAt, FirstHome, IsEnding, OfObjects, OpensRest, Located, Enters, Loads, spot_at, StandsAt, HomedAt, Holds, BehindBy, SeatAt, Counts, Plain, CodeStmt, CodeStmts, CodeHandlers, CodeSweep, CodeSpine, CodeRest, CodeScope, CodeRoutine, made_marks, LeftBy, Ok, Left, Finds, Runs, Waits, PutState, PutStep}
 use Rattle.uc_putting_laws.proofs.CleanedSpots.{apart_outermost, apart_class, next_mark}
 use Rattle.uc_putting_laws.proofs.ObjectsWithin.{in_under, in_object_home, below_own, below_more, not_standing}
 use Rattle.uc_putting_laws.proofs.VariableMarks.{variable_one}

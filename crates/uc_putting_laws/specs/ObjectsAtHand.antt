@@ -7,7 +7,6 @@ use Rattle.uc_machine.specs.declared.exec.Owner.TheVariants.{Frame, Fields}
 use Rattle.uc_machine.specs.Pieces.{Link, Slot, Value, Number, Place, Running, Object, Nothing, further, Active}
 use Rattle.uc_typing.specs.Typing.{Ty, Cell, Obj, Table}
 use Rattle.uc_life_laws.specs.Things.{Few, AtField, NoBase, InStack, Stands}
-use Rattle.uc_life_laws.specs.Marks.{Marked}
 
 -- a place of an owner, or an object of which the fields have it
 abbrev pub OwnedBy : Owner → Value → Type 0

@@ -35,6 +35,10 @@ sort_of ask.Cluster = sort.Clusters
 sort_of (ask.Processor c) = sort.Processors
 sort_of r = sort.Stays
 
+abbrev pub is_make : Request → Bool
+is_make (ask.Make c) = true
+is_make r = false
+
 -- how many of each an act makes
 abbrev pub new_clusters : Sort → ℕ
 new_clusters sort.Clusters = 1

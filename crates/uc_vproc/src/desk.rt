@@ -163,6 +163,7 @@ impl Desk {
     }
 
     /// The act of what a worker brings from a ride. Where what is asked does not fit, or memory is wanting, the run is abandoned.
+    #[inline(always)]
     pub fn act(&mut self, maker: u32, back: Back<Option<Task>, Members>, asked: &Asked) -> Step
         requires brings { (seen : Log) × Saw maker seen self.old.log
             × Brings self.old.code maker seen (with_asked back asked.now) }

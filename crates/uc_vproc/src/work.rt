@@ -46,6 +46,7 @@ fn begin<R: Wait>(rt: &R, lock: &Shared<Locked>, seat: &mut Seat<Locked>) -> Ste
 }
 
 // Takes the kernel for the act of what a ride brings. Where it makes work for another worker, that is told.
+#[inline(always)]
 fn bring<R: Wait>(
     rt: &R,
     lock: &Shared<Locked>,
@@ -89,6 +90,7 @@ fn give_up<R: Wait>(rt: &R, lock: &Shared<Locked>, seat: &mut Seat<Locked>)
 
 // A ride of what was given, outside the lock, up to a request, which is written where it is lent. A task that does not go on behind it
 // is given up.
+#[inline(always)]
 fn go<G: Gate>(
     alloc: Global,
     code: &Code,
