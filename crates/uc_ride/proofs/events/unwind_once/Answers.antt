@@ -1,4 +1,4 @@
-use Rattle.std.proofs.Common.{◌≡◌, ◌<◌, ◌^◌, None, Some, true, false, refl, sym, ap, subst, ◌∙◌, to_z, of_z, w64, rules}
+use Rattle.std.proofs.Common.{◌≡◌, ◌<◌, ◌^◌, [], None, Some, true, false, refl, sym, ap, subst, ◌∙◌, to_z, of_z, w64, rules}
 use Rattle.uc_code.specs.Layout.{laid_of, chain}
 use Rattle.uc_frames.specs.UnwindingOutcomes.{event_by}
 use Rattle.uc_frames.specs.Machine.{Activation}
@@ -17,11 +17,11 @@ use Rattle.uc_ride.proofs.events.unwind_once.Goals as goal
 
 -- no row covers the op, so the activation is left
 
-pub returns-in_ok-left-clause-source : goal.returns-in_ok-left-clause-source
-returns-in_ok-left-clause-source c =
+pub returns-then-not-is_covered-clause-source : goal.returns-then-not-is_covered-clause-source
+returns-then-not-is_covered-clause-source c =
     let code = c.args.code.now in
     let m = c.args.work.now in
-    let bare = c.is_covered.ensures c.if-not.true in
+    let bare = subst (λ n. chain code.rows n ≡ []) c.next.ensures (c.is_covered.ensures c.if-not-is_covered.true) in
     λ source s low h. let l = bare_leads source code m s h bare in follow_before source (laid_of code) (how_unwound c.in_ok-left.left c.leave_on.new.asked) c.leave_on.new.work s l.after l.by (c.in_ok-left.ensures.source source l.after l.stands)
 
 -- rows cover it
