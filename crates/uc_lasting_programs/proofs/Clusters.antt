@@ -1,19 +1,17 @@
 -- A cluster that is a variable has a number that was made, where its scope opens.
-use Rattle.std.proofs.Common.{◌≡◌, ℕ, zero, suc, ◌<◌, ◌≤◌, ◌⊎◌, inl, inr, ⊎_elim, Bool, true, false, List, [], ◌∷◌, length, refl, sym, ap, ◌∙◌, subst, arith}
+use Rattle.std.proofs.Common.{◌≡◌, ℕ, zero, suc, ◌<◌, ◌≤◌, ◌⊎◌, inl, inr, Bool, true, false, List, [], ◌∷◌, length, refl, sym, ap, ◌∙◌, subst, arith}
 use Rattle.std.specs.Prelude.{nat_lt, slice_index_or}
 use Rattle.std.proofs.lemmas.Bool.{ltb-true}
 use Rattle.uc_tree.specs.Source as src
 use Rattle.uc_tree.specs.Source.{CleanUp, Expr, Stmts}
 use Rattle.uc_machine.specs.declared.exec.Owner.{Owner}
-use Rattle.uc_machine.specs.declared.exec.Owner.TheVariants.{Frame}
 use Rattle.uc_machine.specs.declared.exec.Exec.{Exec}
-use Rattle.uc_machine.specs.Pieces as piece
-use Rattle.uc_machine.specs.Pieces.{Link, Slot, Value, Number, Place, Running, Object, Nothing, LAST_ADDRESS, address, nought}
+use Rattle.uc_machine.specs.Pieces.{Slot, Value, Number, Place, Running, Object, Nothing, LAST_ADDRESS, address, nought}
 use Rattle.uc_typing.specs.Typing.{Ty, Num, Cell, Obj, Raw, Row, Clu, Pro, Table, CleansAt}
 use Rattle.uc_state_laws.specs.There as there
 use Rattle.uc_state_laws.specs.There.{IsThere, IsCounted, OfVariable, HoldsObject}
 use Rattle.uc_typing.specs.States.{IsNumbered}
-use Rattle.uc_life_laws.specs.Things.{Few, IsBinding, Within, itself, field, element, Holds, Known}
+use Rattle.uc_life_laws.specs.Things.{Few, Within, itself, field, element, Holds, Known}
 
 -- whether a type is that of such a variable
 pub is_cluster : (a : Ty) → (a ≡ Cell Clu) ⊎ (a ≡ Cell Clu → ⊥)

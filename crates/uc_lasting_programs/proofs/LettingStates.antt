@@ -1,5 +1,5 @@
 -- What is called is told of its object: it is known to who calls, or is what is built or destroyed; or it lets go of the object.
-use Rattle.std.proofs.Common.{◌≡◌, ℕ, ◌⊎◌, inl, inr, suc, Bool, true, false, List, [], ◌∷◌, length, drop, Option, Some, None, refl, sym, ◌∙◌, subst, arith, ⊎_elim}
+use Rattle.std.proofs.Common.{◌≡◌, ℕ, ◌⊎◌, inl, inr, Bool, true, false, List, [], ◌∷◌, length, drop, Option, Some, None, refl, sym, ◌∙◌, subst, arith, ⊎_elim}
 use Rattle.std.specs.Prelude.{slice_get, if◌then◌else◌}
 use Rattle.uc_tree.specs.Programs.{Program}
 use Rattle.uc_tree.specs.Source as src
@@ -32,12 +32,11 @@ use Rattle.uc_life_laws.proofs.Reading.{within_raw, not_whole, NoNumber, behind_
 use Rattle.uc_life_laws.specs.Rooted.{IsPlace}
 use Rattle.uc_life_laws.proofs.Rooted.{within_object, things_place, stands_things}
 use Rattle.uc_life_laws.specs.Ending.{calling}
-use Rattle.uc_depth_laws.specs.Owing.{owed_waiting}
 use Rattle.uc_putting_laws.specs.CleanedSpots.{Site, Reach, from_variable, apart}
 use Rattle.uc_putting_laws.specs.Calling.{CleansBy, CallingStmt, CallingStmts, CallingHandlers, Opening}
 use Rattle.uc_putting_laws.specs.Putting as putting
 use Rattle.uc_putting_laws.specs.Putting.{Setting, CodeRest, PutState}
-use Rattle.uc_putting_laws.specs.PuttingLaws.{special_of, setting_of, FairAt, Fair}
+use Rattle.uc_putting_laws.specs.PuttingLaws.{setting_of, FairAt, Fair}
 use Rattle.uc_putting_laws.proofs.Steps.{here}
 use Rattle.uc_putting_laws.proofs.Walk.{HandlerFound, handler_found}
 use Rattle.uc_making_laws.specs.LettingGo.{of_object, opens_object, is_letting, WaitsBy, RunsBy, IsClosed, AllClosed, FoundClosed, IsTold, Told, LetsStack, LetsState, OpensStmt, OpensStmts, LeavesAt, LettingAt}

@@ -1,5 +1,5 @@
 -- Step by step: where an object is let go of, or is given up, no activation that waits is to let go of it.
-use Rattle.std.proofs.Common.{◌≡◌, ℕ, ◌==◌, ◌⊎◌, inl, inr, Bool, true, false, ◌&&◌, List, [], ◌∷◌, ◌++◌, refl, sym, ap, ◌∙◌, subst}
+use Rattle.std.proofs.Common.{◌≡◌, ℕ, ◌==◌, ◌⊎◌, inl, inr, Bool, true, false, ◌&&◌, List, [], ◌∷◌, refl, sym, ap, ◌∙◌, subst}
 use Rattle.std.specs.Prelude.{nat_eq, if◌then◌else◌}
 use Rattle.std.proofs.lemmas.Bool.{eqb-true, eq-eqb}
 use Rattle.uc_tree.specs.Programs.{Program}
@@ -42,7 +42,7 @@ use Rattle.uc_letting_laws.specs.AloneRuns.{RideAlone, RunAlone}
 use Rattle.uc_letting_laws.proofs.NewObjects.{told_for, own_not_told, told_other, told_away}
 use Rattle.uc_letting_laws.proofs.StandingWorlds.{standing_start}
 use Rattle.uc_letting_laws.proofs.LettingWorlds.{both_run, sole, start, tells}
-use Rattle.uc_making_laws.specs.ForgetsThis.{GoesBy, MayGo, RunGoes, IsOwedNothing}
+use Rattle.uc_making_laws.specs.ForgetsThis.{GoesBy, RunGoes, IsOwedNothing}
 use Rattle.uc_lasting_programs.specs.Asking.{LetsGoAt}
 use Rattle.uc_lasting_programs.proofs.Asking.{law_asked_at}
 

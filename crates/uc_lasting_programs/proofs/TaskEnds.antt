@@ -1,9 +1,8 @@
 -- In runs of programs a task whose own object went has ended, by its own main: so no main is still there of a task whose object goes.
-use Rattle.std.proofs.Common.{◌≡◌, ℕ, zero, suc, ◌==◌, ◌<◌, ◌≤◌, ◌⊎◌, inl, inr, ℤ, Bool, true, false, ◌||◌, List, [], ◌∷◌, ◌++◌, Option, refl, sym, ap, ◌∙◌, subst, arith}
+use Rattle.std.proofs.Common.{◌≡◌, ℕ, zero, suc, ◌==◌, ◌<◌, ◌⊎◌, inl, inr, ℤ, Bool, true, false, ◌||◌, List, [], ◌∷◌, ◌++◌, refl, sym, ap, ◌∙◌, subst, arith}
 use Rattle.std.specs.Prelude.{if◌then◌else◌, map, pos}
-use Rattle.std.proofs.lemmas.Bool.{eqb-true, eq-eqb, cases_lt}
+use Rattle.std.proofs.lemmas.Bool.{eqb-true, eq-eqb}
 use Rattle.uc_tree.specs.Programs.{Program}
-use Rattle.uc_tree.specs.Source.{Source}
 use Rattle.uc_entry.specs.declared.entry.Entry.{Entry}
 use Rattle.uc_entry.specs.declared.entry.EntryKind.TheVariants as kind
 use Rattle.uc_entry.specs.declared.entry.Options.{Options}
@@ -11,11 +10,10 @@ use Rattle.uc_entry.specs.declared.request.Asked.{Asked}
 use Rattle.uc_entry.specs.declared.request.Request.{Request}
 use Rattle.uc_entry.specs.declared.request.Request.TheVariants as ask
 use Rattle.uc_entry.specs.Keyed.{find}
-use Rattle.uc_acts.specs.Journal.{Journal, begin, cost, asking as asking_entry, inside, is_over, own_object}
+use Rattle.uc_acts.specs.Journal.{Journal, begin, cost, asking as asking_entry, is_over, own_object}
 use Rattle.uc_acts.specs.Queues.{waiting, stacked}
 use Rattle.uc_acts.specs.Doors.{blocked_at}
 use Rattle.uc_acts.specs.Known.{has, has_ended, is_gone, task_count, spawns}
-use Rattle.uc_acts.specs.Answers.{just_made}
 use Rattle.uc_acts.specs.Acts.{act, row, dispatch, lone_limit}
 use Rattle.uc_acts.specs.KernelRuns.{InRange, Fits}
 use Rattle.uc_acts.proofs.Bounds.{over_limit}
@@ -32,7 +30,7 @@ use Rattle.uc_machine.specs.Pieces.{Value, Todo, State, Members, Asks, object_in
 use Rattle.uc_machine.specs.Quiet.{quiet}
 use Rattle.uc_machine.specs.Answering.{answered, child_of}
 use Rattle.uc_machine.specs.Rides.{Rides, slices, goes_on, ticks, asks}
-use Rattle.uc_meaning.specs.Runs.{World, May, Runs, AsksIn, begun, more, gives, no_room, acts, bare, drawn, world_after}
+use Rattle.uc_meaning.specs.Runs.{World, Runs, AsksIn, begun, more, gives, no_room, acts, bare, drawn, world_after}
 use Rattle.uc_resolve.specs.Resolve.{source_of}
 use Rattle.uc_rules.specs.Breaks.{breaks_of}
 use Rattle.uc_sound.specs.SoundFormed.{IsFormed}
@@ -49,7 +47,7 @@ use Rattle.uc_state_laws.proofs.Others.{RunRests, run_rests, may_ask}
 use Rattle.uc_state_laws.proofs.Rows.{row_places}
 use Rattle.uc_name_laws.proofs.Homes.{no_both, same_exec, exec_self}
 use Rattle.uc_depth_laws.specs.Entering.{EnteredSource}
-use Rattle.uc_depth_laws.specs.Owing.{IsInside, DeepAsk}
+use Rattle.uc_depth_laws.specs.Owing.{IsInside}
 use Rattle.uc_depth_laws.proofs.Answers.{law_steps}
 use Rattle.uc_depth_laws.proofs.Depths.{own_one, inside_of}
 use Rattle.uc_depth_laws.proofs.Standing.{law_inside, law_free, law_drawn}

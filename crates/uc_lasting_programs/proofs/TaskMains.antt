@@ -23,7 +23,6 @@ use Rattle.uc_machine.specs.Pieces as piece
 use Rattle.uc_machine.specs.Pieces.{Todo, State}
 use Rattle.uc_resolve.specs.Resolve.{source_of, place_by, class_by, has_tasks, has_coroutines, has_number_in, is_main, value_purpose, role_purpose, purpose_of}
 use Rattle.uc_rules.specs.ProgramVisits.{program_visits}
-use Rattle.uc_typing.specs.Typing.{Ty, Name, Sig, Table}
 use Rattle.uc_typing.specs.Pieces.{Ok}
 use Rattle.uc_sound.specs.Unbroken.{Unbroken}
 use Rattle.uc_sound.specs.SoundFormed.{IsFormed}
