@@ -1,5 +1,5 @@
 -- What is still to be bound of an object that is built, and that it holds what is known once nothing is.
-use Rattle.std.proofs.Common.{◌≡◌, ℕ, suc, ◌⊎◌, inl, inr, Bool, List, [], ◌∷◌, length, refl, sym, subst}
+use Rattle.std.proofs.Common.{◌≡◌, ℕ, suc, ◌⊎◌, inl, inr, Bool, true, List, [], ◌∷◌, length, refl, sym, subst}
 use Rattle.std.specs.Prelude.{slice_index_or}
 use Rattle.uc_tree.specs.Source as src
 use Rattle.uc_tree.specs.Source.{Stmt, Stmts, CleanUp}
@@ -7,11 +7,11 @@ use Rattle.uc_machine.specs.declared.exec.Exec.{Exec}
 use Rattle.uc_machine.specs.declared.exec.Owner.TheVariants.{Frame}
 use Rattle.uc_machine.specs.Pieces as piece
 use Rattle.uc_machine.specs.Pieces.{FieldAt, Value, Place, Todo, Active, address, further, nought}
-use Rattle.uc_typing.specs.Typing.{Ty, Cell, Obj, Row, Table, element_shape, IsParam, CleansAt}
+use Rattle.uc_typing.specs.Typing.{Ty, Cell, Obj, Row, Sig, Table, element_shape, IsParam, CleansAt}
 use Rattle.uc_life_laws.specs.Things.{Few, IsField, Within, itself, field, element, IsUnbound, Known, Holds}
-use Rattle.uc_life_laws.specs.LifeStates.{frame_at, Outwards}
+use Rattle.uc_life_laws.specs.LifeStates.{frame_at}
 use Rattle.uc_building_laws.specs.Building.{IsHead, AllLeft, Behind, Now}
-use Rattle.uc_building_laws.specs.BuildingStates.{variable, Awaits, IsBuilt, IsMaking, Builds, of_wait, AllBuild}
+use Rattle.uc_building_laws.specs.BuildingStates.{variable, AtScope, Awaits, IsBuilt, IsMaking, Builds, of_wait, AllBuild}
 use Rattle.uc_building_laws.proofs.Memory.{FrameKeeps, same_frame, known_kept, holds_kept}
 
 -- parts
@@ -100,15 +100,15 @@ pub awaits_all : (P : CleanUp → List Todo → Type 0) → ((c : CleanUp) (todo
 awaits_all P f (piece.DropNow ∷ (piece.Within line ∷ (piece.Rest (src.Scoped c ss) ∷ todo))) = f c todo
 awaits_all P f l = tt
 
-module _ (t : Table) (heads : ℕ → ℕ → Bool) (few : Few) (n : Exec) where
+module _ (t : Table) (heads : ℕ → ℕ → Bool) (few : Few) (kinds : List Sig) (n : Exec) where
   pub unbound : (fs : List (List Value)) (g : ℕ) (w : Value) (K : Value → Ty → Type 0) (a : Ty) → IsUnbound t a → Holds t few n K (Frame n g) (frame_at g fs) w a
   unbound fs g w K a none p b i binds = absurd (none w (Place (Frame n g) p) b i binds)
 
   -- of an object in which nothing is bound
-  pub none_bound : (fs : List (List Value)) (g : ℕ) (w : Value) (K : Value → Ty → Type 0) (c : ℕ) → IsUnbound t (Obj c) → IsBuilt t heads few n fs g w c K
+  pub none_bound : (fs : List (List Value)) (g : ℕ) (w : Value) (K : Value → Ty → Type 0) (c : ℕ) → IsUnbound t (Obj c) → IsBuilt t heads few kinds n fs g w c K
   none_bound fs g w K c none i f told p b h binds = absurd (none w (Place (Frame n g) p) b (within_more t (field itself i f) h) binds)
 
-  pub built_kept : (fs gs : List (List Value)) (g : ℕ) (w : Value) (c : ℕ) (K : Value → Ty → Type 0) → FrameKeeps fs gs g → IsBuilt t heads few n fs g w c K → IsBuilt t heads few n gs g w c K
+  pub built_kept : (fs gs : List (List Value)) (g : ℕ) (w : Value) (c : ℕ) (K : Value → Ty → Type 0) → FrameKeeps fs gs g → IsBuilt t heads few kinds n fs g w c K → IsBuilt t heads few kinds n gs g w c K
   built_kept fs gs g w c K k h i f told = holds_kept t few n K (Frame n g) (frame_at g fs) (frame_at g gs) (further (FieldAt (t.shape c) i) w) (t.fields c i) k (h i f told)
 
   -- those that wait keep what is bound in their frames
@@ -128,57 +128,57 @@ module _ (t : Table) (heads : ℕ → ℕ → Bool) (few : Few) (n : Exec) where
   module _ (E : ℕ → ℕ → ℕ → Type 0) (L M : List Ty → ℕ → ℕ → Value → (Ty → Value → Type 0) → Type 0) (fs gs : List (List Value)) (f : ℕ) (this : Value) where
     -- what is still to be bound of an object is bound, or still to be bound
     abbrev pub Goes : ℕ → Type 1
-    Goes g = (k : ℕ) (ps : List Ty) (c i : ℕ) (K : Value → Ty → Type 0) → E g k c → IsField t c i → this ≡ variable n g k → ((j : ℕ) (b : Ty) → IsParam ps j b → Known t few n K b (slice_index_or (frame_at f fs) j nought)) → Known t few n K (Obj c) (variable n g k) → L ps c i (variable n g k) (Known t few n K) → Holds t few n K (Frame n g) (frame_at g gs) (further (FieldAt (t.shape c) i) (variable n g k)) (t.fields c i) ⊎ M ps c i (variable n g k) (Known t few n K)
+    Goes g = (k : ℕ) (ps : List Ty) (c i : ℕ) (K : Value → Ty → Type 0) → E g k c → IsField t c i → heads c i ≡ true → this ≡ variable n g k → ((j : ℕ) (b : Ty) → IsParam ps j b → Known t few n K b (slice_index_or (frame_at f fs) j nought)) → Known t few n K (Obj c) (variable n g k) → L ps c i (variable n g k) (Known t few n K) → Holds t few n K (Frame n g) (frame_at g gs) (further (FieldAt (t.shape c) i) (variable n g k)) (t.fields c i) ⊎ M ps c i (variable n g k) (Known t few n K)
 
-    making_to : (depth g k c : ℕ) (K : Value → Ty → Type 0) → FrameKeeps fs gs f → FrameKeeps fs gs g → Goes g → E g k c → IsMaking t heads few n L fs f depth this g (variable n g k) c K → IsMaking t heads few n M gs f depth this g (variable n g k) c K
+    making_to : (depth g k c : ℕ) (K : Value → Ty → Type 0) → FrameKeeps fs gs f → FrameKeeps fs gs g → Goes g → E g k c → IsMaking t heads few kinds n L fs f depth this g (variable n g k) c K → IsMaking t heads few kinds n M gs f depth this g (variable n g k) c K
     making_to depth g k c K kf kg m e h = record {
       frame = h.frame;
       object = h.object;
       known_object = h.known_object;
       params = h.params;
       known = λ j b i. known_kept t few n K b _ _ (kf j) (h.known j b i);
-      fields = λ i x told. by i x (h.fields i x told);
+      fields = λ i x told. by i x told (h.fields i x told);
     }
       where
-        by : (i : ℕ) → IsField t c i → Holds t few n K (Frame n g) (frame_at g fs) (further (FieldAt (t.shape c) i) (variable n g k)) (t.fields c i) ⊎ L h.params c i (variable n g k) (Known t few n K) → Holds t few n K (Frame n g) (frame_at g gs) (further (FieldAt (t.shape c) i) (variable n g k)) (t.fields c i) ⊎ M h.params c i (variable n g k) (Known t few n K)
-        by i x (inl y) = inl (holds_kept t few n K (Frame n g) (frame_at g fs) (frame_at g gs) _ (t.fields c i) kg y)
-        by i x (inr y) = m k h.params c i K e x h.object h.known h.known_object y
+        by : (i : ℕ) → IsField t c i → heads c i ≡ true → Holds t few n K (Frame n g) (frame_at g fs) (further (FieldAt (t.shape c) i) (variable n g k)) (t.fields c i) ⊎ L h.params c i (variable n g k) (Known t few n K) → Holds t few n K (Frame n g) (frame_at g gs) (further (FieldAt (t.shape c) i) (variable n g k)) (t.fields c i) ⊎ M h.params c i (variable n g k) (Known t few n K)
+        by i x told (inl y) = inl (holds_kept t few n K (Frame n g) (frame_at g fs) (frame_at g gs) _ (t.fields c i) kg y)
+        by i x told (inr y) = m k h.params c i K e x told h.object h.known h.known_object y
 
-    either_to : (depth g k c : ℕ) (K : Value → Ty → Type 0) → FrameKeeps fs gs f → FrameKeeps fs gs g → Goes g → E g k c → IsBuilt t heads few n fs g (variable n g k) c K ⊎ IsMaking t heads few n L fs f depth this g (variable n g k) c K → IsBuilt t heads few n gs g (variable n g k) c K ⊎ IsMaking t heads few n M gs f depth this g (variable n g k) c K
+    either_to : (depth g k c : ℕ) (K : Value → Ty → Type 0) → FrameKeeps fs gs f → FrameKeeps fs gs g → Goes g → E g k c → IsBuilt t heads few kinds n fs g (variable n g k) c K ⊎ IsMaking t heads few kinds n L fs f depth this g (variable n g k) c K → IsBuilt t heads few kinds n gs g (variable n g k) c K ⊎ IsMaking t heads few kinds n M gs f depth this g (variable n g k) c K
     either_to depth g k c K kf kg m e (inl h) = inl (built_kept fs gs g (variable n g k) c K kg h)
     either_to depth g k c K kf kg m e (inr h) = inr (making_to depth g k c K kf kg m e h)
 
-    pub builds_in : (cs : List Active) → FrameKeeps fs gs f → AllKeep fs gs cs → Lying E cs → ((g : ℕ) → Goes g) → Builds t heads few n L fs f this cs → Builds t heads few n M gs f this cs
+    pub builds_in : (cs : List Active) → FrameKeeps fs gs f → AllKeep fs gs cs → Lying E cs → ((g : ℕ) → Goes g) → Builds t heads few kinds n L fs f this cs → Builds t heads few kinds n M gs f this cs
     builds_in [] kf k y m h = tt
     builds_in (b ∷ older) kf k y m h =
-        awaits_both _ _ _ (λ c todo e x j i d. either_to (suc (length older)) b.frame j i (Outwards t few n b.frame b.this older c todo) kf k.0 (m b.frame) (e j i d) (x j i d)) b.control y h
+        awaits_both _ _ _ (λ c todo e x j i d. either_to (suc (length older)) b.frame j i (AtScope t few kinds n b.frame b.this older c todo) kf k.0 (m b.frame) (e j i d) (x j i d)) b.control y h
 
   all_lying : (cs : List Active) → Lying (λ g k c. Unit {0}) cs
   all_lying [] = tt
   all_lying (b ∷ older) = awaits_all _ (λ c todo k i d. tt) b.control
 
   module _ (L M : List Ty → ℕ → ℕ → Value → (Ty → Value → Type 0) → Type 0) (fs gs : List (List Value)) (f : ℕ) (this : Value) where
-    pub builds_to : (cs : List Active) → FrameKeeps fs gs f → AllKeep fs gs cs → ((g k : ℕ) (ps : List Ty) (c i : ℕ) (K : Value → Ty → Type 0) → this ≡ variable n g k → ((j : ℕ) (b : Ty) → IsParam ps j b → Known t few n K b (slice_index_or (frame_at f fs) j nought)) → Known t few n K (Obj c) (variable n g k) → L ps c i (variable n g k) (Known t few n K) → Holds t few n K (Frame n g) (frame_at g gs) (further (FieldAt (t.shape c) i) (variable n g k)) (t.fields c i) ⊎ M ps c i (variable n g k) (Known t few n K)) → Builds t heads few n L fs f this cs → Builds t heads few n M gs f this cs
-    builds_to cs kf k m h = builds_in (λ g k c. Unit {0}) L M fs gs f this cs kf k (all_lying cs) (λ g k ps c i K e x. m g k ps c i K) h
+    pub builds_to : (cs : List Active) → FrameKeeps fs gs f → AllKeep fs gs cs → ((g k : ℕ) (ps : List Ty) (c i : ℕ) (K : Value → Ty → Type 0) → this ≡ variable n g k → ((j : ℕ) (b : Ty) → IsParam ps j b → Known t few n K b (slice_index_or (frame_at f fs) j nought)) → Known t few n K (Obj c) (variable n g k) → L ps c i (variable n g k) (Known t few n K) → Holds t few n K (Frame n g) (frame_at g gs) (further (FieldAt (t.shape c) i) (variable n g k)) (t.fields c i) ⊎ M ps c i (variable n g k) (Known t few n K)) → Builds t heads few kinds n L fs f this cs → Builds t heads few kinds n M gs f this cs
+    builds_to cs kf k m h = builds_in (λ g k c. Unit {0}) L M fs gs f this cs kf k (all_lying cs) (λ g k ps c i K e x told. m g k ps c i K) h
 
   -- without a frame of its own an activation builds nothing
-  pub not_making : (L M : List Ty → ℕ → ℕ → Value → (Ty → Value → Type 0) → Type 0) (fs : List (List Value)) (f : ℕ) (this : Value) (cs : List Active) → (f ≡ length cs → ⊥) → Builds t heads few n L fs f this cs → Builds t heads few n M fs f this cs
+  pub not_making : (L M : List Ty → ℕ → ℕ → Value → (Ty → Value → Type 0) → Type 0) (fs : List (List Value)) (f : ℕ) (this : Value) (cs : List Active) → (f ≡ length cs → ⊥) → Builds t heads few kinds n L fs f this cs → Builds t heads few kinds n M fs f this cs
   not_making L M fs f this [] none h = tt
   not_making L M fs f this (b ∷ older) none h = awaits_more _ _ (λ c todo x j i d. by c todo j i (x j i d)) b.control h
     where
-      by : (c : CleanUp) (todo : List Todo) (j i : ℕ) → IsBuilt t heads few n fs b.frame (variable n b.frame j) i (Outwards t few n b.frame b.this older c todo) ⊎ IsMaking t heads few n L fs f (suc (length older)) this b.frame (variable n b.frame j) i (Outwards t few n b.frame b.this older c todo) → IsBuilt t heads few n fs b.frame (variable n b.frame j) i (Outwards t few n b.frame b.this older c todo) ⊎ IsMaking t heads few n M fs f (suc (length older)) this b.frame (variable n b.frame j) i (Outwards t few n b.frame b.this older c todo)
+      by : (c : CleanUp) (todo : List Todo) (j i : ℕ) → IsBuilt t heads few kinds n fs b.frame (variable n b.frame j) i (AtScope t few kinds n b.frame b.this older c todo) ⊎ IsMaking t heads few kinds n L fs f (suc (length older)) this b.frame (variable n b.frame j) i (AtScope t few kinds n b.frame b.this older c todo) → IsBuilt t heads few kinds n fs b.frame (variable n b.frame j) i (AtScope t few kinds n b.frame b.this older c todo) ⊎ IsMaking t heads few kinds n M fs f (suc (length older)) this b.frame (variable n b.frame j) i (AtScope t few kinds n b.frame b.this older c todo)
       by c todo j i (inl x) = inl x
       by c todo j i (inr x) = absurd (none x.frame)
 
-  pub builds_kept : (L : List Ty → ℕ → ℕ → Value → (Ty → Value → Type 0) → Type 0) (fs gs : List (List Value)) (f : ℕ) (this : Value) (cs : List Active) → FrameKeeps fs gs f → AllKeep fs gs cs → Builds t heads few n L fs f this cs → Builds t heads few n L gs f this cs
+  pub builds_kept : (L : List Ty → ℕ → ℕ → Value → (Ty → Value → Type 0) → Type 0) (fs gs : List (List Value)) (f : ℕ) (this : Value) (cs : List Active) → FrameKeeps fs gs f → AllKeep fs gs cs → Builds t heads few kinds n L fs f this cs → Builds t heads few kinds n L gs f this cs
   builds_kept L fs gs f this cs kf k h = builds_to L L fs gs f this cs kf k (λ g j ps c i K e p o x. inr x) h
 
-  pub all_kept : (fs gs : List (List Value)) (cs : List Active) → AllKeep fs gs cs → AllBuild t heads few n fs cs → AllBuild t heads few n gs cs
+  pub all_kept : (fs gs : List (List Value)) (cs : List Active) → AllKeep fs gs cs → AllBuild t heads few kinds n fs cs → AllBuild t heads few kinds n gs cs
   all_kept fs gs [] k h = tt
   all_kept fs gs (a ∷ older) k h = (builds_kept (of_wait t a) fs gs a.frame a.this older k.0 k.1 h.0, all_kept fs gs older k.1 h.1)
 
   -- something else is left
-  pub builds_more : (L M : List Ty → ℕ → ℕ → Value → (Ty → Value → Type 0) → Type 0) → ((ps : List Ty) (c i : ℕ) (w : Value) (K : Ty → Value → Type 0) → L ps c i w K → M ps c i w K) → (fs : List (List Value)) (f : ℕ) (this : Value) (cs : List Active) → Builds t heads few n L fs f this cs → Builds t heads few n M fs f this cs
+  pub builds_more : (L M : List Ty → ℕ → ℕ → Value → (Ty → Value → Type 0) → Type 0) → ((ps : List Ty) (c i : ℕ) (w : Value) (K : Ty → Value → Type 0) → L ps c i w K → M ps c i w K) → (fs : List (List Value)) (f : ℕ) (this : Value) (cs : List Active) → Builds t heads few kinds n L fs f this cs → Builds t heads few kinds n M fs f this cs
   builds_more L M m fs f this cs h =
       builds_to L M fs fs f this cs (same_frame fs f) (all_keep fs fs (same_frame fs) cs) (λ g j ps c i K e p o x. inr (m ps c i (variable n g j) (Known t few n K) x)) h
 

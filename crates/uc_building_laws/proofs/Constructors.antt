@@ -29,20 +29,19 @@ use Rattle.uc_sound.proofs.DeclaringLemmas.{made_kind, made}
 use Rattle.uc_sound.proofs.ObjectLemmas.{Making_is, made_told}
 use Rattle.uc_sound.proofs.SoundLemmas.{law_sound}
 use Rattle.uc_state_laws.specs.Counted.{params_at, params}
-use Rattle.uc_life_laws.specs.Things.{IsUnbound, Within, itself}
+use Rattle.uc_life_laws.specs.Things.{Few, IsUnbound, Within, itself}
 use Rattle.uc_life_laws.specs.Makings as makings
 use Rattle.uc_life_laws.specs.Makings.{Builds}
 use Rattle.uc_life_laws.specs.Knowing.{KnowsState}
-use Rattle.uc_life_laws.specs.Opened.{any}
 use Rattle.uc_place_laws.specs.Opened.{role_number, ArePaired, OfPlain}
 use Rattle.uc_place_laws.specs.OpeningLaws.{Awaited, IsAt, CallsAt, IsCalled}
 use Rattle.uc_building_laws.specs.Building.{is_bound_in, heads_of, InHead}
 use Rattle.uc_building_laws.specs.BuildingStates.{variable}
 use Rattle.uc_building_laws.specs.BuildingLaws.{IsConstructed, Constructs, BuildsAt, Fair}
-use Rattle.uc_building_laws.specs.BuildingRuns.{Makes, MakesNext, RemainsAt, Remains, LawHeads}
+use Rattle.uc_building_laws.specs.BuildingRuns.{BindsAnew, LawHeads}
 use Rattle.uc_building_laws.specs.Awaiting.{OpensPlain, LawAwaited}
-use Rattle.uc_building_laws.proofs.Given.{owns, in_scope, made_elsewhere, numbered_holds}
-use Rattle.uc_building_laws.proofs.Heads.{heads, unsited}
+use Rattle.uc_building_laws.proofs.Given.{given, numbered_holds}
+use Rattle.uc_building_laws.proofs.Heads.{heads}
 use Rattle.uc_building_laws.proofs.Plain.{plain_of, no_scope}
 
 -- what is made of a sort
@@ -166,7 +165,7 @@ module _ (p : Program) (formed : IsFormed p) (accepted : breaks_of p ≡ []) whe
     awaited h r todo (inl e) o = subst (makings.BuildsAt t ends source s) (sym e) (opens r todo (subst (λ l. CallsAt p source l s) e h.calls) o)
     awaited h r todo (inr e) o = subst (makings.BuildsAt t ends source s) (sym e) (opens r todo (subst (λ l. CallsAt p source l s) e h.calls) o)
 
-  module _ (s : State) (x : KnowsState t any [] s) where
+  module _ (few : Few) (s : State) (x : KnowsState t few [] s) where
     -- the routine is called at the variable
     abbrev Called : ℕ → ℕ → ℕ → Type 0
     Called r d k = ArePaired p r d × (top (drop (params source r) s.run.operands) ≡ variable s.env.exec s.run.frame k)
@@ -177,34 +176,30 @@ module _ (p : Program) (formed : IsFormed p) (accepted : breaks_of p ≡ []) whe
     abbrev Calls : ℕ → List Todo → Type 0
     Calls r todo = (s.run.control ≡ piece.CallOnNow r ∷ todo) ⊎ (s.run.control ≡ piece.CallUnwrittenNow r ∷ todo)
 
-    is_constructed : (r k i : ℕ) (c : CleanUp) (todo : List Todo) → Calls r todo → CleansAt t (Obj i) (src.Variable k) c → OfPlain (Called r) c → Makes t source s r → IsConstructed t (heads_of p) any source s r k i
-    is_constructed r k i c todo calls d h m =
+    is_constructed : (r k i line : ℕ) (c : CleanUp) (ss : src.Stmts) (todo : List Todo) → Calls r (piece.DropNow ∷ (piece.Within line ∷ (piece.Rest (src.Scoped c ss) ∷ todo))) → CleansAt t (Obj i) (src.Variable k) c → OfPlain (Called r) c → IsConstructed t (heads_of p) few x.sigs source s r k i c todo
+    is_constructed r k i line c ss todo calls d h =
         let z = plain_of t k i (Called r) c d h in
         record {
           purpose = purpose r z.0 z.2.0;
           plain = plain r z.0 z.2.0 i z.1;
           makes = λ q e j f told. makes r z.0 z.2.0 i z.1 q e j told;
           object = object r k z.2.1;
-          given = λ q e j b l. in_scope t source (law_sound p formed accepted) s x r q e (owns t source (law_sound p formed accepted) s x r todo calls) (unsited p r) m j b l;
+          given = λ q e j b l. given t few source (law_sound p formed accepted) s x r q e line c ss todo calls j b l;
         }
 
-    constructs_at : (r : ℕ) (todo : List Todo) → Calls r todo → Awaited (Called r) todo → MakesNext t source s r todo → Constructs t (heads_of p) any source s r todo
-    constructs_at r (piece.DropNow ∷ (piece.Within line ∷ (piece.Rest (src.Scoped c ss) ∷ todo))) e h m = λ k i d. by k i d (m k i d)
-      where
-        by : (k i : ℕ) → CleansAt t (Obj i) (src.Variable k) c → IsUnbound t (Obj i) ⊎ Makes t source s r → IsUnbound t (Obj i) ⊎ IsConstructed t (heads_of p) any source s r k i
-        by k i d (inl none) = inl none
-        by k i d (inr y) = inr (is_constructed r k i c (piece.DropNow ∷ (piece.Within line ∷ (piece.Rest (src.Scoped c ss) ∷ todo))) e d h y)
-    constructs_at r todo e h m = tt
+    constructs_at : (r : ℕ) (todo : List Todo) → Calls r todo → Awaited (Called r) todo → Constructs t (heads_of p) few x.sigs source s r todo
+    constructs_at r (piece.DropNow ∷ (piece.Within line ∷ (piece.Rest (src.Scoped c ss) ∷ todo))) e h = λ k i d. inr (is_constructed r k i line c ss todo e d h)
+    constructs_at r todo e h = tt
 
-    at : (l : List Todo) → s.run.control ≡ l → CallsAt p source l s → RemainsAt t source s l → BuildsAt t (heads_of p) any source s l
+    at : (l : List Todo) → s.run.control ≡ l → CallsAt p source l s → BindsAnew t (heads_of p) s l → BuildsAt t (heads_of p) few x.sigs source s l
     at (piece.CallNow r ∷ todo) e h m = no_scope t todo h
     at (piece.RaiseNow ∷ todo) e h m = no_scope t (piece.DropNow ∷ todo) h
-    at (piece.CallOnNow r ∷ todo) e h m = constructs_at r todo (inl e) h m
-    at (piece.CallUnwrittenNow r ∷ todo) e h m = constructs_at r todo (inr e) h m
+    at (piece.CallOnNow r ∷ todo) e h m = constructs_at r todo (inl e) h
+    at (piece.CallUnwrittenNow r ∷ todo) e h m = constructs_at r todo (inr e) h
     at (piece.BindNow ∷ todo) e h m = m
     at l e h m = tt
 
-    pub fair : Remains t source s → IsCalled p source s → Fair t (heads_of p) any source s
+    pub fair : BindsAnew t (heads_of p) s s.run.control → IsCalled p source s → Fair t (heads_of p) few x.sigs source s
     fair m c = record { at = at s.run.control refl c.calls m; joins = c.joins }
 
 pub law_awaited : LawAwaited
@@ -213,6 +208,6 @@ law_awaited p formed accepted ends s h r todo e o = awaited p formed accepted en
 pub law_heads : LawHeads
 law_heads = record {
   binds = λ p formed accepted r d x q e i h. binds p formed accepted r d x q e i h;
-  given = λ t source sound s r todo e h. made_elsewhere t source sound s r todo e h;
+  given = λ t few source sound s x r line c rest todo e q is j b i. given t few source sound s x r q is line c rest todo e j b i;
   numbered = λ t s c todo o vs p b n h. numbered_holds t s c todo o vs p b n h;
 }

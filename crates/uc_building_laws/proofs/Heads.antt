@@ -25,7 +25,7 @@ use Rattle.uc_sound.specs.SoundFormed.{IsFormed}
 use Rattle.uc_sound.specs.Tables.{known_field, listed_field, class_field, written_sigs, unwritten_sigs, sig_or_none, table_of}
 use Rattle.uc_sound.proofs.Lists.{left_is, right_is}
 use Rattle.uc_sound.proofs.SoundLemmas.{law_sound}
-use Rattle.uc_life_laws.specs.Things.{IsField, Within, itself, field, element, IsBinding, IsUnbound, IsSited}
+use Rattle.uc_life_laws.specs.Things.{IsField, Within, itself, field, element, IsBinding, IsUnbound}
 use Rattle.uc_building_laws.specs.Building.{is_path, is_object_path, is_bound_by, is_bound_in, IsGiven, BindsField, InHead}
 
 -- what is whole
@@ -279,20 +279,6 @@ module _ (p : Program) where
 
     pub of_routine : (n k : ℕ) (a : Ty) → IsParam ((table_of p).routine n).params k a → P a
     of_routine n = both (written_sigs p (routines_of p) 0 0 0) (unwritten_sigs p (unwritten_of p)) (of_written (routines_of p) 0 0 0) (of_unwritten (unwritten_of p)) n
-
-found_unsited : (s : Sort) → IsSited (found_ty s) → ⊥
-found_unsited sort.Void h = h
-found_unsited sort.Int h = h
-found_unsited sort.Char h = h
-found_unsited sort.Bool h = h
-found_unsited sort.Condition h = h
-found_unsited sort.Cluster h = h
-found_unsited sort.Processor h = h
-found_unsited (sort.Object c k) h = h
-
--- no parameter is the place of a cluster or a processor
-pub unsited : (p : Program) (r k : ℕ) (a : Ty) → IsParam ((table_of p).routine r).params k a → IsSited a → ⊥
-unsited p r k a h = of_routine p (λ a. IsSited a → ⊥) (λ h. h) found_unsited r k a h
 
 -- what a routine of a class binds in its first statements
 pub heads : (p : Program) → IsFormed p → breaks_of p ≡ [] → (r c : ℕ) → ((table_of p).routine r).this ≡ Some c → (q : Routine) → slice_get (source_of p).routines r ≡ Some q → (i : ℕ) → is_bound_in i q.body ≡ true → InHead (table_of p) ((table_of p).routine r).params c i q.body ⊎ IsUnbound (table_of p) ((table_of p).fields c i)

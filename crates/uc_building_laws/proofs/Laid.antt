@@ -10,7 +10,7 @@ use Rattle.uc_machine.specs.declared.exec.Owner.{Owner}
 use Rattle.uc_machine.specs.declared.exec.Owner.TheVariants.{Frame}
 use Rattle.uc_machine.specs.Pieces as piece
 use Rattle.uc_machine.specs.Pieces.{Link, Slot, FieldAt, At, Value, Place, Todo, Sort, Active, State, LAST_ADDRESS, address, further}
-use Rattle.uc_typing.specs.Typing.{Ty, Num, Cell, Obj, Raw, Row, Clu, Pro, Table, element_shape, DestroysAt, CleansAt}
+use Rattle.uc_typing.specs.Typing.{Ty, Num, Cell, Obj, Raw, Row, Clu, Pro, Sig, Table, element_shape, DestroysAt, CleansAt}
 use Rattle.uc_state_laws.specs.Layout.{Sized}
 use Rattle.uc_state_laws.specs.Rooms.{Room, LiesAt, Destroyed, Lies}
 use Rattle.uc_state_laws.specs.RoomStates.{Reached, PieceIn}
@@ -162,9 +162,9 @@ module _ (Z : ℕ → ℕ → Type 0) (t : Table) (l : IsLaidOut Z t) where
   high_at cell o (p ∷ todo) h = high_by cell (piece.sort p) (PieceIn Z o p) o (λ m. TodoTo Z (UpTo cell) m todo) (λ m k. high_at cell m todo k) h
 
   -- what is awaited lies within its frame
-  pub lying : (heads : ℕ → ℕ → Bool) (few : Few) (n : Exec) (fs : List (List Value)) (cs : List Active) → Stack Z fs cs → Lying t heads few n (λ g k i. LiesBefore t (length (frame_at g fs)) (Frame n g) (variable n g k) (Obj i)) cs
-  lying heads few n fs [] h = tt
-  lying heads few n fs (b ∷ older) h =
+  pub lying : (heads : ℕ → ℕ → Bool) (few : Few) (kinds : List Sig) (n : Exec) (fs : List (List Value)) (cs : List Active) → Stack Z fs cs → Lying t heads few kinds n (λ g k i. LiesBefore t (length (frame_at g fs)) (Frame n g) (variable n g k) (Obj i)) cs
+  lying heads few kinds n fs [] h = tt
+  lying heads few kinds n fs (b ∷ older) h =
       let u = some_up Z h.0.top (frame_cells fs b.frame) b.control h.0.cells h.0.fits in
       awaited n b.frame (length (frame_at b.frame fs)) b.control (u.0, high_at (frame_cells fs b.frame) u.0 b.control u.1, forget Z (UpTo (frame_cells fs b.frame)) u.0 b.control u.1)
 

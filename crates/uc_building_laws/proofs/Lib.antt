@@ -11,6 +11,11 @@ pub mod Laid
 pub mod Walk
 pub mod Heads
 pub mod Given
+pub mod Turning
+pub mod Kept
 pub mod Constructors
 pub mod Worlds
 pub mod BuiltRuns
+pub mod BuiltEndings
+pub mod Fewer
+pub mod BuiltLasting

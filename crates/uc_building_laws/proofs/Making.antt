@@ -12,16 +12,16 @@ use Rattle.uc_machine.specs.Raising.{Event, Found}
 use Rattle.uc_machine.specs.Quiet as quiet
 use Rattle.uc_machine.specs.Pieces as piece
 use Rattle.uc_machine.specs.Pieces.{Link, Slot, FieldAt, Value, Place, Todo, Active, State, Env, Goes, at, in_env, top, below, further, loaded, stored, written, address, variable_at, nought, LAST_ADDRESS}
-use Rattle.uc_typing.specs.Typing.{Ty, Cell, Obj, Row, Table, CleansAt, IsParam, IsPlaced}
+use Rattle.uc_typing.specs.Typing.{Ty, Cell, Obj, Row, Sig, Table, CleansAt, IsParam, IsPlaced}
 use Rattle.uc_typing.specs.States.{IsObjectBy}
-use Rattle.uc_life_laws.specs.Things.{Few, IsField, lies, Within, itself, field, element, IsUnbound, InTodo, IsFor, AtField, Around, Known, Holds, LiesBefore}
-use Rattle.uc_life_laws.specs.LifeStates.{frame_at, Outwards}
+use Rattle.uc_life_laws.specs.Things.{Few, IsField, Within, itself, field, element, IsUnbound, Known, Holds, LiesBefore}
+use Rattle.uc_life_laws.specs.LifeStates.{frame_at}
 use Rattle.uc_state_laws.specs.RoomStacks.{StackState}
 use Rattle.uc_life_laws.proofs.Cells.{either}
 use Rattle.uc_life_laws.proofs.LifeSteps.{exec_same}
 use Rattle.uc_life_laws.proofs.Knowns as known
 use Rattle.uc_building_laws.specs.Building.{InHead, AllLeft, Starts, Onwards, Now}
-use Rattle.uc_building_laws.specs.BuildingStates.{IsFree, variable, Awaits, NotBack, IsBuilt, IsMaking, Builds, of_wait, AllBuild, IsApart, AllApart, BuildsEnv}
+use Rattle.uc_building_laws.specs.BuildingStates.{IsFree, variable, AtScope, Awaits, NotBack, IsBuilt, IsMaking, Builds, of_wait, AllBuild, IsApart, AllApart}
 use Rattle.uc_building_laws.specs.BuildingLaws.{IsPlain, IsConstructed, Constructs}
 use Rattle.uc_building_laws.proofs.Memory.{frame_newer, same_frame, stored_there}
 use Rattle.uc_building_laws.proofs.Building as building
@@ -94,12 +94,12 @@ far m a (c ∷ cs) l le h = ((λ e o k. let n : ⊥ = omega (arith, e, l, le) in
 newest_frame : (x : List Value) (fs : List (List Value)) → frame_at (length fs) (x ∷ fs) ≡ x
 newest_frame x fs = ap (λ (b : Bool). list_in (if b then Some x else at_depth fs (length fs))) (eq-eqb (length fs) (length fs) refl)
 
-module _ (t : Table) (heads : ℕ → ℕ → Bool) (few : Few) (Z : ℕ → ℕ → Type 0) (s : State) (life : StackState Z s) (env : BuildsEnv t heads few s.env) (callers : AllBuild t heads few s.env.exec s.env.frames s.callers) (apart : AllApart (s.run ∷ s.callers)) where
+module _ (t : Table) (heads : ℕ → ℕ → Bool) (few : Few) (kinds : List Sig) (Z : ℕ → ℕ → Type 0) (s : State) (life : StackState Z s) (callers : AllBuild t heads few kinds s.env.exec s.env.frames s.callers) (apart : AllApart (s.run ∷ s.callers)) where
   abbrev With : (List Ty → ℕ → ℕ → Value → (Ty → Value → Type 0) → Type 0) → Type 0
-  With L = steps.With t heads few Z s life env callers apart L
+  With L = steps.With t heads few kinds Z s life callers apart L
 
   abbrev Holding : List Todo → Type 0
-  Holding todo = steps.Holding t heads few Z s life env callers apart todo
+  Holding todo = steps.Holding t heads few kinds Z s life callers apart todo
 
   frames_here : frames_of s.env.exec s.env ≡ s.env.frames
   frames_here = ap (λ (c : Bool). if c then s.env.frames else frames_in (parked_at s.env.exec s.env)) (exec_same s.env.exec)
@@ -109,47 +109,43 @@ module _ (t : Table) (heads : ℕ → ℕ → Bool) (few : Few) (Z : ℕ → ℕ
       ap (λ fs. slice_index_or (list_in (at_depth fs s.run.frame)) (address (Slot m ∷ [])) nought) frames_here ∙ ap (λ k. slice_index_or (frame_at s.run.frame s.env.frames) k nought) (slot_address m l)
 
   -- the place of a field of the object at hand is found
-  pub own : (k : Shape) (j : ℕ) (todo : List Todo) → With (λ ps c i w K. Now t ps c i w K (piece.Eval (src.OfObject (src.OwnField k j)) ∷ todo) s.run.operands) → StepBuilds t heads few (quiet.eval_step (src.OfObject (src.OwnField k j)) todo s)
+  pub own : (k : Shape) (j : ℕ) (todo : List Todo) → With (λ ps c i w K. Now t ps c i w K (piece.Eval (src.OfObject (src.OwnField k j)) ∷ todo) s.run.operands) → StepBuilds t heads few kinds (quiet.eval_step (src.OfObject (src.OwnField k j)) todo s)
   own k j todo h = record {
     apart = apart;
-    run = builds_to t heads few s.env.exec (λ ps c i w K. Now t ps c i w K (piece.Eval (src.OfObject (src.OwnField k j)) ∷ todo) s.run.operands × NotBack s.run) (λ ps c i w K. Now t ps c i w K todo (further (FieldAt k j) s.run.this ∷ s.run.operands) × NotBack s.run) s.env.frames s.env.frames s.run.frame s.run.this s.callers (same_frame s.env.frames s.run.frame) (all_keep t heads few s.env.exec s.env.frames s.env.frames (same_frame s.env.frames) s.callers) (λ g m ps c i K e p o x. inr (owns t ps c i (variable s.env.exec g m) (Known t few s.env.exec K) k j s.run.this e (λ n f l. known.further_field t few s.env.exec K c n (t.shape c) (variable s.env.exec g m) refl l (λ r. f) o) todo s.run.operands x.0, x.1)) h;
+    run = builds_to t heads few kinds s.env.exec (λ ps c i w K. Now t ps c i w K (piece.Eval (src.OfObject (src.OwnField k j)) ∷ todo) s.run.operands × NotBack s.run) (λ ps c i w K. Now t ps c i w K todo (further (FieldAt k j) s.run.this ∷ s.run.operands) × NotBack s.run) s.env.frames s.env.frames s.run.frame s.run.this s.callers (same_frame s.env.frames s.run.frame) (all_keep t heads few kinds s.env.exec s.env.frames s.env.frames (same_frame s.env.frames) s.callers) (λ g m ps c i K e p o x. inr (owns t ps c i (variable s.env.exec g m) (Known t few s.env.exec K) k j s.run.this e (λ n f l. known.further_field t few s.env.exec K c n (t.shape c) (variable s.env.exec g m) refl l (λ r. f) o) todo s.run.operands x.0, x.1)) h;
     callers = callers;
-    env = env;
   }
 
   -- so is what a parameter is bound to
-  pub get : (m : ℕ) (todo : List Todo) → With (λ ps c i w K. Now t ps c i w K (piece.Eval (src.Get m) ∷ todo) s.run.operands) → StepBuilds t heads few (quiet.eval_step (src.Get m) todo s)
+  pub get : (m : ℕ) (todo : List Todo) → With (λ ps c i w K. Now t ps c i w K (piece.Eval (src.Get m) ∷ todo) s.run.operands) → StepBuilds t heads few kinds (quiet.eval_step (src.Get m) todo s)
   get m todo h = record {
     apart = apart;
-    run = builds_to t heads few s.env.exec (λ ps c i w K. Now t ps c i w K (piece.Eval (src.Get m) ∷ todo) s.run.operands × NotBack s.run) (λ ps c i w K. Now t ps c i w K todo (loaded (variable_at m s) s.env ∷ s.run.operands) × NotBack s.run) s.env.frames s.env.frames s.run.frame s.run.this s.callers (same_frame s.env.frames s.run.frame) (all_keep t heads few s.env.exec s.env.frames s.env.frames (same_frame s.env.frames) s.callers) (λ g j ps c i K e k o x. inr (gets t ps c i (variable s.env.exec g j) (Known t few s.env.exec K) m (loaded (variable_at m s) s.env) (λ b p l. subst (Known t few s.env.exec K b) (sym (loaded_here m l)) (k m b p)) todo s.run.operands x.0, x.1)) h;
+    run = builds_to t heads few kinds s.env.exec (λ ps c i w K. Now t ps c i w K (piece.Eval (src.Get m) ∷ todo) s.run.operands × NotBack s.run) (λ ps c i w K. Now t ps c i w K todo (loaded (variable_at m s) s.env ∷ s.run.operands) × NotBack s.run) s.env.frames s.env.frames s.run.frame s.run.this s.callers (same_frame s.env.frames s.run.frame) (all_keep t heads few kinds s.env.exec s.env.frames s.env.frames (same_frame s.env.frames) s.callers) (λ g j ps c i K e k o x. inr (gets t ps c i (variable s.env.exec g j) (Known t few s.env.exec K) m (loaded (variable_at m s) s.env) (λ b p l. subst (Known t few s.env.exec K b) (sym (loaded_here m l)) (k m b p)) todo s.run.operands x.0, x.1)) h;
     callers = callers;
-    env = env;
   }
 
   -- a field of an object is found behind that
-  pub field_of : (k : Shape) (j : ℕ) (a : Expr) (todo : List Todo) → With (λ ps c i w K. Now t ps c i w K (piece.Eval (src.OfObject (src.FieldOf k j a)) ∷ todo) s.run.operands) → StepBuilds t heads few (quiet.eval_step (src.OfObject (src.FieldOf k j a)) todo s)
+  pub field_of : (k : Shape) (j : ℕ) (a : Expr) (todo : List Todo) → With (λ ps c i w K. Now t ps c i w K (piece.Eval (src.OfObject (src.FieldOf k j a)) ∷ todo) s.run.operands) → StepBuilds t heads few kinds (quiet.eval_step (src.OfObject (src.FieldOf k j a)) todo s)
   field_of k j a todo h = record {
     apart = apart;
-    run = builds_more t heads few s.env.exec (λ ps c i w K. Now t ps c i w K (piece.Eval (src.OfObject (src.FieldOf k j a)) ∷ todo) s.run.operands × NotBack s.run) (λ ps c i w K. Now t ps c i w K (piece.Eval a ∷ (piece.FieldNow k j ∷ todo)) s.run.operands × NotBack s.run) (λ ps c i w K x. (parts t ps c i w K k j a todo s.run.operands x.0, x.1)) s.env.frames s.run.frame s.run.this s.callers h;
+    run = builds_more t heads few kinds s.env.exec (λ ps c i w K. Now t ps c i w K (piece.Eval (src.OfObject (src.FieldOf k j a)) ∷ todo) s.run.operands × NotBack s.run) (λ ps c i w K. Now t ps c i w K (piece.Eval a ∷ (piece.FieldNow k j ∷ todo)) s.run.operands × NotBack s.run) (λ ps c i w K x. (parts t ps c i w K k j a todo s.run.operands x.0, x.1)) s.env.frames s.run.frame s.run.this s.callers h;
     callers = callers;
-    env = env;
   }
 
-  pub field_now : (k : Shape) (j : ℕ) (todo : List Todo) → With (λ ps c i w K. Now t ps c i w K (piece.FieldNow k j ∷ todo) s.run.operands) → StepBuilds t heads few (Goes (at todo (further (FieldAt k j) (top s.run.operands) ∷ below s.run.operands) s))
+  pub field_now : (k : Shape) (j : ℕ) (todo : List Todo) → With (λ ps c i w K. Now t ps c i w K (piece.FieldNow k j ∷ todo) s.run.operands) → StepBuilds t heads few kinds (Goes (at todo (further (FieldAt k j) (top s.run.operands) ∷ below s.run.operands) s))
   field_now k j todo h = record {
     apart = apart;
-    run = builds_to t heads few s.env.exec (λ ps c i w K. Now t ps c i w K (piece.FieldNow k j ∷ todo) s.run.operands × NotBack s.run) (λ ps c i w K. Now t ps c i w K todo (further (FieldAt k j) (top s.run.operands) ∷ below s.run.operands) × NotBack s.run) s.env.frames s.env.frames s.run.frame s.run.this s.callers (same_frame s.env.frames s.run.frame) (all_keep t heads few s.env.exec s.env.frames s.env.frames (same_frame s.env.frames) s.callers) (λ g m ps c i K e p o x. inr (fields t ps c i (variable s.env.exec g m) (Known t few s.env.exec K) k j (λ d v f l q. known.further_field t few s.env.exec K d j (t.shape d) v refl l (λ r. f) q) todo s.run.operands x.0, x.1)) h;
+    run = builds_to t heads few kinds s.env.exec (λ ps c i w K. Now t ps c i w K (piece.FieldNow k j ∷ todo) s.run.operands × NotBack s.run) (λ ps c i w K. Now t ps c i w K todo (further (FieldAt k j) (top s.run.operands) ∷ below s.run.operands) × NotBack s.run) s.env.frames s.env.frames s.run.frame s.run.this s.callers (same_frame s.env.frames s.run.frame) (all_keep t heads few kinds s.env.exec s.env.frames s.env.frames (same_frame s.env.frames) s.callers) (λ g m ps c i K e p o x. inr (fields t ps c i (variable s.env.exec g m) (Known t few s.env.exec K) k j (λ d v f l q. known.further_field t few s.env.exec K d j (t.shape d) v refl l (λ r. f) q) todo s.run.operands x.0, x.1)) h;
     callers = callers;
-    env = env;
   }
 
   -- a field is bound
-  module _ (todo : List Todo) (loose : (c i : ℕ) → top (below s.run.operands) ≡ further (FieldAt (t.shape c) i) s.run.this → IsFree (loaded (top (below s.run.operands)) s.env)) where
+  module _ (todo : List Todo) (loose : (c i g k : ℕ) → heads c i ≡ true → s.run.this ≡ variable s.env.exec g k → top (below s.run.operands) ≡ further (FieldAt (t.shape c) i) s.run.this → IsFree (loaded (top (below s.run.operands)) s.env)) where
     abbrev after : Env
     after = written (top (below s.run.operands)) (top s.run.operands) s.env
 
-    keeps : Keeps t heads few s.env after
-    keeps = kept.written_keeps t heads few (top (below s.run.operands)) (top s.run.operands) s.env env
+    keeps : Keeps s.env after
+    keeps = kept.written_keeps (top (below s.run.operands)) (top s.run.operands) s.env
 
     -- the object lies within the frame
     abbrev Lies : ℕ → ℕ → ℕ → Type 0
@@ -161,8 +157,8 @@ module _ (t : Table) (heads : ℕ → ℕ → Bool) (few : Few) (Z : ℕ → ℕ
     written_frames : (g : ℕ) (p : List Link) (v : Value) → (written (Place (Frame s.env.exec g) p) v s.env).frames ≡ frame_changed g (value_changed (address p) (stored v) nought) s.env.frames
     written_frames g p v = ap (λ (b : Bool). frames_by (if b then record s.env { frames = frame_changed g (value_changed (address p) (stored v) nought) s.env.frames } else change s.env.exec.home (frames_changed s.env.exec.serial (frame_changed g (value_changed (address p) (stored v) nought))) s.env)) (exec_same s.env.exec)
 
-    held : (g k c i : ℕ) (K : Value → Ty → Type 0) → Lies g k c → IsField t c i → s.run.this ≡ variable s.env.exec g k → (b : Ty) → t.fields c i ≡ Cell b → top (below s.run.operands) ≡ further (FieldAt (t.shape c) i) (variable s.env.exec g k) → Known t few s.env.exec K b (top s.run.operands) → Holds t few s.env.exec K (Frame s.env.exec g) (frame_at g after.frames) (further (FieldAt (t.shape c) i) (variable s.env.exec g k)) (t.fields c i)
-    held g k c i K fits is e b f p h q d x binds =
+    held : (g k c i : ℕ) (K : Value → Ty → Type 0) → Lies g k c → IsField t c i → heads c i ≡ true → s.run.this ≡ variable s.env.exec g k → (b : Ty) → t.fields c i ≡ Cell b → top (below s.run.operands) ≡ further (FieldAt (t.shape c) i) (variable s.env.exec g k) → Known t few s.env.exec K b (top s.run.operands) → Holds t few s.env.exec K (Frame s.env.exec g) (frame_at g after.frames) (further (FieldAt (t.shape c) i) (variable s.env.exec g k)) (t.fields c i)
+    held g k c i K fits is told e b f p h q d x binds =
         let v = top s.run.operands in
         let place = FieldAt (t.shape c) i ∷ (Slot k ∷ []) in
         let y = within_cell t (further (FieldAt (t.shape c) i) (variable s.env.exec g k)) b (Place (Frame s.env.exec g) q) (Cell d) (subst (λ a. Within t (further (FieldAt (t.shape c) i) (variable s.env.exec g k)) a (Place (Frame s.env.exec g) q) (Cell d)) f x) in
@@ -171,7 +167,7 @@ module _ (t : Table) (heads : ℕ → ℕ → Bool) (few : Few) (Z : ℕ → ℕ
         let path : q ≡ FieldAt (t.shape c) i ∷ (Slot k ∷ []) = cc in
         let type : d ≡ b = cc in
         let before : address place < length (frame_at g s.env.frames) = fits place b (subst (λ a. Within t (variable s.env.exec g k) (Obj c) (Place (Frame s.env.exec g) place) a) f (field itself i is)) in
-        let free0 : IsFree (loaded (top (below s.run.operands)) s.env) = loose c i (p ∙ sym (ap (further (FieldAt (t.shape c) i)) e)) in
+        let free0 : IsFree (loaded (top (below s.run.operands)) s.env) = loose c i g k told e (p ∙ sym (ap (further (FieldAt (t.shape c) i)) e)) in
         let free1 : IsFree (loaded (Place (Frame s.env.exec g) place) s.env) = subst (λ u. IsFree (loaded u s.env)) p free0 in
         let free : IsFree (slice_index_or (frame_at g s.env.frames) (address place) nought) = subst (λ fs. IsFree (slice_index_or (list_in (at_depth fs g)) (address place) nought)) frames_here free1 in
         let there : slice_index_or (frame_at g (frame_changed g (value_changed (address place) (stored v) nought) s.env.frames)) (address place) nought ≡ v = stored_there s.env.frames g (address place) v before free in
@@ -179,16 +175,15 @@ module _ (t : Table) (heads : ℕ → ℕ → Bool) (few : Few) (Z : ℕ → ℕ
         let stands : slice_index_or (frame_at g after.frames) (address place) nought ≡ v = ap (λ fs. slice_index_or (frame_at g fs) (address place) nought) frames ∙ there in
         subst (λ q. Known t few s.env.exec K d (slice_index_or (frame_at g after.frames) (address q) nought)) (sym path) (subst (λ d. Known t few s.env.exec K d (slice_index_or (frame_at g after.frames) (address place) nought)) (sym type) (subst (Known t few s.env.exec K b) (sym stands) h))
 
-    bound : (vs : List Value) (g k : ℕ) (ps : List Ty) (c i : ℕ) (K : Value → Ty → Type 0) → Lies g k c → IsField t c i → s.run.this ≡ variable s.env.exec g k → Now t ps c i (variable s.env.exec g k) (Known t few s.env.exec K) (piece.BindNow ∷ todo) s.run.operands × NotBack s.run → Holds t few s.env.exec K (Frame s.env.exec g) (frame_at g after.frames) (further (FieldAt (t.shape c) i) (variable s.env.exec g k)) (t.fields c i) ⊎ (Now t ps c i (variable s.env.exec g k) (Known t few s.env.exec K) todo vs × NotBack s.run)
-    bound vs g k ps c i K fits is e (inl x, back) = inl (held g k c i K fits is e x.0 x.1.0 x.1.1 x.2)
-    bound vs g k ps c i K fits is e (inr x, back) = inr (building.now t ps c i (variable s.env.exec g k) (Known t few s.env.exec K) todo vs x, back)
+    bound : (vs : List Value) (g k : ℕ) (ps : List Ty) (c i : ℕ) (K : Value → Ty → Type 0) → Lies g k c → IsField t c i → heads c i ≡ true → s.run.this ≡ variable s.env.exec g k → Now t ps c i (variable s.env.exec g k) (Known t few s.env.exec K) (piece.BindNow ∷ todo) s.run.operands × NotBack s.run → Holds t few s.env.exec K (Frame s.env.exec g) (frame_at g after.frames) (further (FieldAt (t.shape c) i) (variable s.env.exec g k)) (t.fields c i) ⊎ (Now t ps c i (variable s.env.exec g k) (Known t few s.env.exec K) todo vs × NotBack s.run)
+    bound vs g k ps c i K fits is told e (inl x, back) = inl (held g k c i K fits is told e x.0 x.1.0 x.1.1 x.2)
+    bound vs g k ps c i K fits is told e (inr x, back) = inr (building.now t ps c i (variable s.env.exec g k) (Known t few s.env.exec K) todo vs x, back)
 
-    pub bind_now : (vs : List Value) → Lying t heads few s.env.exec Lies s.callers → With (λ ps c i w K. Now t ps c i w K (piece.BindNow ∷ todo) s.run.operands) → StepBuilds t heads few (Goes (at todo vs (in_env after s)))
+    pub bind_now : (vs : List Value) → Lying t heads few kinds s.env.exec Lies s.callers → With (λ ps c i w K. Now t ps c i w K (piece.BindNow ∷ todo) s.run.operands) → StepBuilds t heads few kinds (Goes (at todo vs (in_env after s)))
     bind_now vs lying h = record {
       apart = apart;
-      run = subst (λ n. Builds t heads few n (λ ps c i w K. Now t ps c i w K todo vs × NotBack s.run) after.frames s.run.frame s.run.this s.callers) (sym keeps.exec) (builds_in t heads few s.env.exec Lies (λ ps c i w K. Now t ps c i w K (piece.BindNow ∷ todo) s.run.operands × NotBack s.run) (λ ps c i w K. Now t ps c i w K todo vs × NotBack s.run) s.env.frames after.frames s.run.frame s.run.this s.callers (keeps.frames s.run.frame) (all_keep t heads few s.env.exec s.env.frames after.frames keeps.frames s.callers) lying (λ g m ps c i K fits is e k o x. bound vs g m ps c i K fits is e x) h);
-      callers = subst (λ n. AllBuild t heads few n after.frames s.callers) (sym keeps.exec) (all_kept t heads few s.env.exec s.env.frames after.frames s.callers (all_keep t heads few s.env.exec s.env.frames after.frames keeps.frames s.callers) callers);
-      env = keeps.env;
+      run = subst (λ n. Builds t heads few kinds n (λ ps c i w K. Now t ps c i w K todo vs × NotBack s.run) after.frames s.run.frame s.run.this s.callers) (sym keeps.exec) (builds_in t heads few kinds s.env.exec Lies (λ ps c i w K. Now t ps c i w K (piece.BindNow ∷ todo) s.run.operands × NotBack s.run) (λ ps c i w K. Now t ps c i w K todo vs × NotBack s.run) s.env.frames after.frames s.run.frame s.run.this s.callers (keeps.frames s.run.frame) (all_keep t heads few kinds s.env.exec s.env.frames after.frames keeps.frames s.callers) lying (λ g m ps c i K fits is told e k o x. bound vs g m ps c i K fits is told e x) h);
+      callers = subst (λ n. AllBuild t heads few kinds n after.frames s.callers) (sym keeps.exec) (all_kept t heads few kinds s.env.exec s.env.frames after.frames s.callers (all_keep t heads few kinds s.env.exec s.env.frames after.frames keeps.frames s.callers) callers);
     }
 
   -- calls
@@ -198,44 +193,42 @@ module _ (t : Table) (heads : ℕ → ℕ → Bool) (few : Few) (Z : ℕ → ℕ
     abbrev waits : Active
     waits = record s.run { control = todo; operands = vs }
 
-    all_new : AllBuild t heads few s.env.exec (x ∷ s.env.frames) (waits ∷ s.callers)
+    all_new : AllBuild t heads few kinds s.env.exec (x ∷ s.env.frames) (waits ∷ s.callers)
     all_new =
         let n = life.frames in
         let r = life.stack.0.frame in
-        let k = newer_all t heads few Z s.env.exec x s.env.frames s.callers (omega (arith, n)) life.stack.1 in
-        (builds_kept t heads few s.env.exec (of_wait t waits) s.env.frames (x ∷ s.env.frames) s.run.frame s.run.this s.callers (frame_newer x s.env.frames s.run.frame (omega (arith, n, r))) k h, all_kept t heads few s.env.exec s.env.frames (x ∷ s.env.frames) s.callers k callers)
+        let k = newer_all t heads few kinds Z s.env.exec x s.env.frames s.callers (omega (arith, n)) life.stack.1 in
+        (builds_kept t heads few kinds s.env.exec (of_wait t waits) s.env.frames (x ∷ s.env.frames) s.run.frame s.run.this s.callers (frame_newer x s.env.frames s.run.frame (omega (arith, n, r))) k h, all_kept t heads few kinds s.env.exec s.env.frames (x ∷ s.env.frames) s.callers k callers)
 
   -- no scope of an object opens behind what is called
-  none_built : (L : List Ty → ℕ → ℕ → Value → (Ty → Value → Type 0) → Type 0) (fs : List (List Value)) (f : ℕ) (this : Value) (b : Active) (older : List Active) → Awaits (λ c rest. IsPlain t c → ⊥) b.control → Builds t heads few s.env.exec L fs f this (b ∷ older)
+  none_built : (L : List Ty → ℕ → ℕ → Value → (Ty → Value → Type 0) → Type 0) (fs : List (List Value)) (f : ℕ) (this : Value) (b : Active) (older : List Active) → Awaits (λ c rest. IsPlain t c → ⊥) b.control → Builds t heads few kinds s.env.exec L fs f this (b ∷ older)
   none_built L fs f this b older h = awaits_more (λ c rest. IsPlain t c → ⊥) _ (λ c rest none k i d. absurd (none (k, i, d))) b.control h
 
   waits_apart : (todo : List Todo) (vs : List Value) → AllApart (record s.run { control = todo; operands = vs } ∷ s.callers)
   waits_apart todo vs = ((apart.0.0, apart.0.1, apart.0.2), apart.1)
 
-  begun : (r : Routine) (this : Value) (counts : Bool) (todo : List Todo) (vs : List Value) → Holding todo → Builds t heads few s.env.exec (λ ps c i w K. Now t ps c i w K (quiet.routine_todo r) []) (quiet.call_frame r s.run.operands ∷ s.env.frames) (length s.env.frames) this (record s.run { control = todo; operands = vs } ∷ s.callers) → StepBuilds t heads few (quiet.begun_step r this counts todo vs s)
+  begun : (r : Routine) (this : Value) (counts : Bool) (todo : List Todo) (vs : List Value) → Holding todo → Builds t heads few kinds s.env.exec (λ ps c i w K. Now t ps c i w K (quiet.routine_todo r) []) (quiet.call_frame r s.run.operands ∷ s.env.frames) (length s.env.frames) this (record s.run { control = todo; operands = vs } ∷ s.callers) → StepBuilds t heads few kinds (quiet.begun_step r this counts todo vs s)
   begun r this counts todo vs h b = record {
     apart = ((far (length s.env.frames) (record s.run { control = todo; operands = vs }) s.callers (let n = life.frames in omega (arith, n)) life.stack.0.frame (frames_of_stack Z s.env.frames s.callers life.stack.1), life.frames, λ home e. absurd (cc)), waits_apart todo vs);
-    run = builds_more t heads few s.env.exec (λ ps c i w K. Now t ps c i w K (quiet.routine_todo r) []) _ (λ ps c i w K x. (x, λ e. absurd (cc))) (quiet.call_frame r s.run.operands ∷ s.env.frames) (length s.env.frames) this (record s.run { control = todo; operands = vs } ∷ s.callers) b;
+    run = builds_more t heads few kinds s.env.exec (λ ps c i w K. Now t ps c i w K (quiet.routine_todo r) []) _ (λ ps c i w K x. (x, λ e. absurd (cc))) (quiet.call_frame r s.run.operands ∷ s.env.frames) (length s.env.frames) this (record s.run { control = todo; operands = vs } ∷ s.callers) b;
     callers = all_new (quiet.call_frame r s.run.operands) todo vs h;
-    env = kept.like t heads few env refl refl refl;
   }
 
-  pub call : (r : Option Routine) (todo : List Todo) → Awaits (λ c rest. IsPlain t c → ⊥) todo → Holding todo → StepBuilds t heads few (quiet.call_step r todo s)
-  call None todo n h = steps.stays t heads few Z s life env callers apart _ _ h
+  pub call : (r : Option Routine) (todo : List Todo) → Awaits (λ c rest. IsPlain t c → ⊥) todo → Holding todo → StepBuilds t heads few kinds (quiet.call_step r todo s)
+  call None todo n h = steps.stays t heads few kinds Z s life callers apart _ _ h
   call (Some r) todo n h =
-      either (StepBuilds t heads few) (nat_lt s.env.links.calls CALLS) _ _ (begun r _ true todo (drop r.params s.run.operands) h (none_built (λ ps c i w K. Now t ps c i w K (quiet.routine_todo r) []) (quiet.call_frame r s.run.operands ∷ s.env.frames) (length s.env.frames) piece.Nothing (record s.run { control = todo; operands = drop r.params s.run.operands }) s.callers n)) (steps.stays t heads few Z s life env callers apart todo _ h)
+      either (StepBuilds t heads few kinds) (nat_lt s.env.links.calls CALLS) _ _ (begun r _ true todo (drop r.params s.run.operands) h (none_built (λ ps c i w K. Now t ps c i w K (quiet.routine_todo r) []) (quiet.call_frame r s.run.operands ∷ s.env.frames) (length s.env.frames) piece.Nothing (record s.run { control = todo; operands = drop r.params s.run.operands }) s.callers n)) (steps.stays t heads few kinds Z s life callers apart todo _ h)
 
   -- the handler of a resumption begins
-  handles : (o : Option Found) (e : Event) (todo : List Todo) → FoundApart (record s.run { control = todo } ∷ s.callers) o → Awaits (λ c rest. IsPlain t c → ⊥) (piece.DropNow ∷ todo) → Holding todo → StepBuilds t heads few (raising.handle_step o e todo s)
-  handles None e todo f n h = steps.throws t heads few Z s life env callers apart e todo h
+  handles : (o : Option Found) (e : Event) (todo : List Todo) → FoundApart (record s.run { control = todo } ∷ s.callers) o → Awaits (λ c rest. IsPlain t c → ⊥) (piece.DropNow ∷ todo) → Holding todo → StepBuilds t heads few kinds (raising.handle_step o e todo s)
+  handles None e todo f n h = steps.throws t heads few kinds Z s life callers apart e todo h
   handles (Some x) e todo f n h = record {
     apart = ((f.0, f.2, λ home r. absurd (cc)), waits_apart (piece.DropNow ∷ todo) (below (below (below s.run.operands))));
     run = none_built _ ([] ∷ s.env.frames) _ _ (record s.run { control = piece.DropNow ∷ todo; operands = below (below (below s.run.operands)) }) s.callers n;
     callers = all_new [] (piece.DropNow ∷ todo) (below (below (below s.run.operands))) h;
-    env = kept.like t heads few env refl refl refl;
   }
 
-  pub raises : (e : Event) (todo : List Todo) → Awaits (λ c rest. IsPlain t c → ⊥) (piece.DropNow ∷ todo) → Holding todo → StepBuilds t heads few (raising.raise_step e todo s)
+  pub raises : (e : Event) (todo : List Todo) → Awaits (λ c rest. IsPlain t c → ⊥) (piece.DropNow ∷ todo) → Holding todo → StepBuilds t heads few kinds (raising.raise_step e todo s)
   raises e todo n h = handles (raising.seek None e (record s.run { control = todo } ∷ s.callers)) e todo (seek_apart None e (record s.run { control = todo } ∷ s.callers) (life.stack.0.frame, frames_of_stack Z s.env.frames s.callers life.stack.1) apart) n h
 
   -- a constructor is called at the variable whose scope opens next
@@ -253,55 +246,49 @@ module _ (t : Table) (heads : ℕ → ℕ → Bool) (few : Few) (Z : ℕ → ℕ
     -- what is left to be bound as it begins
     lacks : (K : Value → Ty → Type 0) (fs : List (List Value)) (g k c i : ℕ) → q.purpose ≡ src.Builder → InHead t ps c i q.body ⊎ IsUnbound t (t.fields c i) → Holds t few s.env.exec K (Frame s.env.exec g) (frame_at g fs) (further (FieldAt (t.shape c) i) (variable s.env.exec g k)) (t.fields c i) ⊎ Now t ps c i (variable s.env.exec g k) (Known t few s.env.exec K) (quiet.routine_todo q) []
     lacks K fs g k c i p (inl x) = inr (x, behind_left q.purpose q.line p)
-    lacks K fs g k c i p (inr x) = inl (building.unbound t heads few s.env.exec fs g _ K (t.fields c i) x)
+    lacks K fs g k c i p (inr x) = inl (building.unbound t heads few kinds s.env.exec fs g _ K (t.fields c i) x)
 
-    module _ (o : Todo) (outside : (w : Value) (a : Ty) (todo : List Todo) → InTodo (IsFor t (Frame s.env.exec s.run.frame) s.run.this) (AtField t (Frame s.env.exec s.run.frame) s.run.this) (o ∷ todo) w a → InTodo (IsFor t (Frame s.env.exec s.run.frame) s.run.this) (AtField t (Frame s.env.exec s.run.frame) s.run.this) todo w a) where
-      -- its parameters are known to what lies outwards of the scope to come
-      module _ (line : ℕ) (c : CleanUp) (ss : src.Stmts) (rest : List Todo) (control : s.run.control ≡ o ∷ (piece.DropNow ∷ (piece.Within line ∷ (piece.Rest (src.Scoped c ss) ∷ rest)))) where
-        abbrev K : Value → Ty → Type 0
-        K w a = Outwards t few s.env.exec s.run.frame s.run.this s.callers c rest w a
+    -- its parameters are known to what is at hand outwards of the scope to come
+    module _ (c : CleanUp) (rest : List Todo) where
+      abbrev K : Value → Ty → Type 0
+      K w a = AtScope t few kinds s.env.exec s.run.frame s.run.this s.callers c rest w a
 
-        less : (w : Value) (a : Ty) → Around t few s.env.exec (s.run ∷ s.callers) w a → K w a
-        less w a (inl h) =
-            inl (inr (outside w a (piece.DropNow ∷ (piece.Within line ∷ (piece.Rest (src.Scoped c ss) ∷ rest))) (subst (λ l. InTodo (IsFor t (Frame s.env.exec s.run.frame) s.run.this) (AtField t (Frame s.env.exec s.run.frame) s.run.this) l w a) control h)))
-        less w a (inr h) = inr h
+      in_frame : (k : ℕ) (b : Ty) → Known t few s.env.exec K b (slice_index_or (quiet.call_frame q s.run.operands) k nought) → Known t few s.env.exec K b (slice_index_or (frame_at (length s.env.frames) (quiet.call_frame q s.run.operands ∷ s.env.frames)) k nought)
+      in_frame k b h =
+          subst (λ vs. Known t few s.env.exec K b (slice_index_or vs k nought)) (sym (newest_frame (quiet.call_frame q s.run.operands) s.env.frames)) h
 
-        in_frame : (k : ℕ) (b : Ty) → Known t few s.env.exec (Around t few s.env.exec (s.run ∷ s.callers)) b (slice_index_or (quiet.call_frame q s.run.operands) k nought) → Known t few s.env.exec K b (slice_index_or (frame_at (length s.env.frames) (quiet.call_frame q s.run.operands ∷ s.env.frames)) k nought)
-        in_frame k b h =
-            subst (λ vs. Known t few s.env.exec K b (slice_index_or vs k nought)) (sym (newest_frame (quiet.call_frame q s.run.operands) s.env.frames)) (known.known_more t few s.env.exec (Around t few s.env.exec (s.run ∷ s.callers)) K less b _ h)
+      known_object : (k i : ℕ) → CleansAt t (Obj i) (src.Variable k) c → t.mutex i ≡ false → Known t few s.env.exec K (Obj i) (variable s.env.exec s.run.frame k)
+      known_object k i d plain = record {
+        is = subst (λ (b : Bool). IsObjectBy t b i (variable s.env.exec s.run.frame k)) (sym plain) tt;
+        passes = tt;
+        rooted = λ l. inr (variable s.env.exec s.run.frame k, i, inl (inl (inl (i, refl, (variable s.env.exec s.run.frame k, Obj i, inl (k, d, refl), itself)))), itself);
+        held = λ m. absurd (cc);
+        seated = λ i. absurd i;
+      }
 
-        known_object : (k i : ℕ) → CleansAt t (Obj i) (src.Variable k) c → t.mutex i ≡ false → Known t few s.env.exec K (Obj i) (variable s.env.exec s.run.frame k)
-        known_object k i d plain = record {
-          is = subst (λ (b : Bool). IsObjectBy t b i (variable s.env.exec s.run.frame k)) (sym plain) tt;
-          passes = tt;
-          rooted = λ l. inl (lies (inl (inl (inl (k, d, refl)))) itself);
-          held = λ m. absurd (cc);
-          seated = λ i. absurd i;
-        }
+      begins : (k i : ℕ) → CleansAt t (Obj i) (src.Variable k) c → IsUnbound t (Obj i) ⊎ IsConstructed t heads few kinds source s r k i c rest → IsBuilt t heads few kinds s.env.exec (quiet.call_frame q s.run.operands ∷ s.env.frames) s.run.frame (variable s.env.exec s.run.frame k) i K ⊎ IsMaking t heads few kinds s.env.exec (λ ps c i w K. Now t ps c i w K (quiet.routine_todo q) []) (quiet.call_frame q s.run.operands ∷ s.env.frames) (length s.env.frames) (suc (length s.callers)) (top (drop q.params s.run.operands)) s.run.frame (variable s.env.exec s.run.frame k) i K
+      begins k i d (inl none) = inl (none_bound t heads few kinds s.env.exec (quiet.call_frame q s.run.operands ∷ s.env.frames) s.run.frame (variable s.env.exec s.run.frame k) K i none)
+      begins k i d (inr z) =
+          inr (record {
+            frame = life.frames;
+            object = z.object q is;
+            known_object = known_object k i d z.plain;
+            params = ps;
+            known = λ j b l. in_frame j b (z.given q is j b l);
+            fields = λ j l told. lacks K (quiet.call_frame q s.run.operands ∷ s.env.frames) s.run.frame k i j (z.purpose q is) (z.makes q is j l told);
+          })
 
-        begins : (k i : ℕ) → CleansAt t (Obj i) (src.Variable k) c → IsUnbound t (Obj i) ⊎ IsConstructed t heads few source s r k i → IsBuilt t heads few s.env.exec (quiet.call_frame q s.run.operands ∷ s.env.frames) s.run.frame (variable s.env.exec s.run.frame k) i K ⊎ IsMaking t heads few s.env.exec (λ ps c i w K. Now t ps c i w K (quiet.routine_todo q) []) (quiet.call_frame q s.run.operands ∷ s.env.frames) (length s.env.frames) (suc (length s.callers)) (top (drop q.params s.run.operands)) s.run.frame (variable s.env.exec s.run.frame k) i K
-        begins k i d (inl none) = inl (none_bound t heads few s.env.exec (quiet.call_frame q s.run.operands ∷ s.env.frames) s.run.frame (variable s.env.exec s.run.frame k) K i none)
-        begins k i d (inr z) =
-            inr (record {
-              frame = life.frames;
-              object = z.object q is;
-              known_object = known_object k i d z.plain;
-              params = ps;
-              known = λ j b l. in_frame j b (z.given q is j b l);
-              fields = λ j l told. lacks K (quiet.call_frame q s.run.operands ∷ s.env.frames) s.run.frame k i j (z.purpose q is) (z.makes q is j l told);
-            })
+    made : (todo : List Todo) (vs : List Value) → Constructs t heads few kinds source s r todo → Builds t heads few kinds s.env.exec (λ ps c i w K. Now t ps c i w K (quiet.routine_todo q) []) (quiet.call_frame q s.run.operands ∷ s.env.frames) (length s.env.frames) (top (drop q.params s.run.operands)) (record s.run { control = todo; operands = vs } ∷ s.callers)
+    made (piece.DropNow ∷ (piece.Within line ∷ (piece.Rest (src.Scoped c ss) ∷ rest))) vs h = λ k i d. begins c rest k i d (h k i d)
+    made todo vs h = tt
 
-      made : (todo : List Todo) (vs : List Value) → s.run.control ≡ o ∷ todo → Constructs t heads few source s r todo → Builds t heads few s.env.exec (λ ps c i w K. Now t ps c i w K (quiet.routine_todo q) []) (quiet.call_frame q s.run.operands ∷ s.env.frames) (length s.env.frames) (top (drop q.params s.run.operands)) (record s.run { control = todo; operands = vs } ∷ s.callers)
-      made (piece.DropNow ∷ (piece.Within line ∷ (piece.Rest (src.Scoped c ss) ∷ rest))) vs e h = λ k i d. begins line c ss rest e k i d (h k i d)
-      made todo vs e h = tt
+  module _ (source : Source) (r : ℕ) (todo : List Todo) (h : Holding todo) (build : Constructs t heads few kinds source s r todo) where
+    pub call_on : (o : Option Routine) → slice_get source.routines r ≡ o → StepBuilds t heads few kinds (quiet.call_on_step o todo s)
+    call_on None is = steps.stays t heads few kinds Z s life callers apart _ _ h
+    call_on (Some q) is =
+        either (StepBuilds t heads few kinds) (nat_lt s.env.links.calls CALLS) _ _ (begun q (top (drop q.params s.run.operands)) true todo (below (drop q.params s.run.operands)) h (made source r q is todo (below (drop q.params s.run.operands)) build)) (steps.stays t heads few kinds Z s life callers apart todo _ h)
 
-  module _ (source : Source) (r : ℕ) (todo : List Todo) (h : Holding todo) (build : Constructs t heads few source s r todo) where
-    pub call_on : (o : Option Routine) → slice_get source.routines r ≡ o → s.run.control ≡ piece.CallOnNow r ∷ todo → StepBuilds t heads few (quiet.call_on_step o todo s)
-    call_on None is e = steps.stays t heads few Z s life env callers apart _ _ h
-    call_on (Some q) is e =
-        either (StepBuilds t heads few) (nat_lt s.env.links.calls CALLS) _ _ (begun q (top (drop q.params s.run.operands)) true todo (below (drop q.params s.run.operands)) h (made source r q is (piece.CallOnNow r) (λ w a l k. k) todo (below (drop q.params s.run.operands)) e build)) (steps.stays t heads few Z s life env callers apart todo _ h)
-
-    pub call_unwritten : (o : Option Routine) → slice_get source.routines r ≡ o → s.run.control ≡ piece.CallUnwrittenNow r ∷ todo → StepBuilds t heads few (quiet.call_unwritten_step o todo s)
-    call_unwritten None is e = steps.stays t heads few Z s life env callers apart _ _ h
-    call_unwritten (Some q) is e =
-        begun q (top (drop q.params s.run.operands)) false todo (below (drop q.params s.run.operands)) h (made source r q is (piece.CallUnwrittenNow r) (λ w a l k. k) todo (below (drop q.params s.run.operands)) e build)
+    pub call_unwritten : (o : Option Routine) → slice_get source.routines r ≡ o → StepBuilds t heads few kinds (quiet.call_unwritten_step o todo s)
+    call_unwritten None is = steps.stays t heads few kinds Z s life callers apart _ _ h
+    call_unwritten (Some q) is =
+        begun q (top (drop q.params s.run.operands)) false todo (below (drop q.params s.run.operands)) h (made source r q is todo (below (drop q.params s.run.operands)) build)

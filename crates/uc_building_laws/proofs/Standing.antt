@@ -15,13 +15,14 @@ use Rattle.uc_machine.specs.Executions.{others, returned}
 use Rattle.uc_machine.specs.Quiet as quiet
 use Rattle.uc_machine.specs.Pieces as piece
 use Rattle.uc_machine.specs.Pieces.{FieldAt, Value, Todo, Active, State, Step, Goes, Ticks, Asks, at, below, further, nought}
-use Rattle.uc_typing.specs.Typing.{Ty, Obj, Table, CleansAt}
+use Rattle.uc_typing.specs.Typing.{Ty, Obj, Sig, Table, CleansAt}
 use Rattle.uc_life_laws.specs.Things.{Few, Known, Holds}
-use Rattle.uc_life_laws.specs.LifeStates.{Outwards, frame_at}
+use Rattle.uc_life_laws.specs.LifeStates.{frame_at}
+use Rattle.uc_life_laws.specs.Kinds.{GoesOn}
 use Rattle.uc_state_laws.specs.RoomStacks.{Stack, StackState}
 use Rattle.uc_life_laws.proofs.Cells.{either, others_length}
 use Rattle.uc_building_laws.specs.Building.{Now}
-use Rattle.uc_building_laws.specs.BuildingStates.{variable, Awaits, Nears, NotBack, IsBuilt, IsMaking, Builds, of_run, Stands, StandsBehind, BuildsState}
+use Rattle.uc_building_laws.specs.BuildingStates.{variable, AtScope, Awaits, Nears, NotBack, IsBuilt, IsMaking, Builds, of_run, Stands, StandsBehind, BuildsState}
 use Rattle.uc_place_laws.specs.CalledStates.{Ends, Joins, AskJoins, StepJoins}
 use Rattle.uc_building_laws.proofs.Memory.{frame_older}
 use Rattle.uc_building_laws.proofs.Plain.{none_plain}
@@ -35,8 +36,8 @@ arrives_is (Some (reason.ReturnTo home)) n e = ap (λ m. Some (reason.ReturnTo m
 arrives_is (Some reason.Destroyed) n e = absurd (cc)
 
 -- so a list tells
-abbrev pub StandsOf : (t : Table) (heads : ℕ → ℕ → Bool) (few : Few) → State → List Todo → Type 0
-StandsOf t heads few u l = Nears (λ c todo. (k i : ℕ) → CleansAt t (Obj i) (src.Variable k) c → IsBuilt t heads few u.env.exec u.env.frames u.run.frame (variable u.env.exec u.run.frame k) i (Outwards t few u.env.exec u.run.frame u.run.this u.callers c todo)) l
+abbrev pub StandsOf : (t : Table) (heads : ℕ → ℕ → Bool) (few : Few) (kinds : List Sig) → State → List Todo → Type 0
+StandsOf t heads few kinds u l = Nears (λ c todo. (k i : ℕ) → CleansAt t (Obj i) (src.Variable k) c → IsBuilt t heads few kinds u.env.exec u.env.frames u.run.frame (variable u.env.exec u.run.frame k) i (AtScope t few kinds u.env.exec u.run.frame u.run.this u.callers c todo)) l
 
 -- what the end of an activation of a state leads to: to who waits for it, which goes on or is unwound
 abbrev EndsTo : State → List Active → Step → Type 0
@@ -83,15 +84,33 @@ module _ (s : State) where
   ends_to source (piece.Unwind ∷ []) e = leave_to s.callers
   ends_to source l e = absurd e
 
-module _ (t : Table) (heads : ℕ → ℕ → Bool) (few : Few) (source : Source) (Z : ℕ → ℕ → Type 0) (s : State) (life : StackState Z s) (st : BuildsState t heads few s) where
+-- where another execution goes on behind a step no scope of an object opens next
+module _ (s : State) (other : GoesOn s.run.control s.run.raised → ⊥) where
+  ends_calm : (l : List Todo) → Ends s l → GoesOn l s.run.raised
+  ends_calm [] h = tt
+  ends_calm (piece.Exit w ∷ []) h = tt
+  ends_calm (piece.Finish ∷ todo) h = tt
+  ends_calm (piece.Unwind ∷ []) h = tt
+  ends_calm l h = absurd h
+
+  pub others_stand : (t : Table) (heads : ℕ → ℕ → Bool) (few : Few) (kinds : List Sig) (u : State) (l : List Todo) → Joins s l → StandsOf t heads few kinds u l
+  others_stand t heads few kinds u (piece.Rest (src.Scoped c ss) ∷ todo) (inl none) = λ k i d. absurd (none_plain t c none (k, i, d))
+  others_stand t heads few kinds u (piece.Rest (src.Scoped c ss) ∷ todo) (inr q) = absurd (other (subst (λ l. GoesOn l s.run.raised) (sym q.1) tt))
+  others_stand t heads few kinds u (piece.Within line ∷ (piece.Rest (src.Scoped c ss) ∷ todo)) (inl none) = λ k i d. absurd (none_plain t c none (k, i, d))
+  others_stand t heads few kinds u (piece.Within line ∷ (piece.Rest (src.Scoped c ss) ∷ todo)) (inr q) = absurd (other (subst (λ l. GoesOn l s.run.raised) (sym q) tt))
+  others_stand t heads few kinds u (piece.DropNow ∷ (piece.Within line ∷ (piece.Rest (src.Scoped c ss) ∷ todo))) (inl none) = λ k i d. absurd (none_plain t c none (k, i, d))
+  others_stand t heads few kinds u (piece.DropNow ∷ (piece.Within line ∷ (piece.Rest (src.Scoped c ss) ∷ todo))) (inr q) = absurd (other (ends_calm s.run.control q))
+  others_stand t heads few kinds u l j = tt
+
+module _ (t : Table) (heads : ℕ → ℕ → Bool) (few : Few) (kinds : List Sig) (source : Source) (Z : ℕ → ℕ → Type 0) (s : State) (life : StackState Z s) (st : BuildsState t heads few kinds s) where
   -- what a clean-up is for is built, in the frame of who runs, with this to do behind it
   abbrev Claim : State → CleanUp → List Todo → Type 0
-  Claim u c todo = (k i : ℕ) → CleansAt t (Obj i) (src.Variable k) c → IsBuilt t heads few u.env.exec u.env.frames u.run.frame (variable u.env.exec u.run.frame k) i (Outwards t few u.env.exec u.run.frame u.run.this u.callers c todo)
+  Claim u c todo = (k i : ℕ) → CleansAt t (Obj i) (src.Variable k) c → IsBuilt t heads few kinds u.env.exec u.env.frames u.run.frame (variable u.env.exec u.run.frame k) i (AtScope t few kinds u.env.exec u.run.frame u.run.this u.callers c todo)
 
   abbrev pub StepStands : Step → Type 0
-  StepStands (Goes u) = Stands t heads few u
-  StepStands (Ticks u) = Stands t heads few u
-  StepStands (Asks r u) = StandsBehind t heads few r u
+  StepStands (Goes u) = Stands t heads few kinds u
+  StepStands (Ticks u) = Stands t heads few kinds u
+  StepStands (Asks r u) = StandsBehind t heads few kinds r u
 
   module _ (line : ℕ) (c : CleanUp) (ss : Stmts) (todo : List Todo) where
     abbrev rest : List Todo
@@ -110,14 +129,14 @@ module _ (t : Table) (heads : ℕ → ℕ → Bool) (few : Few) (source : Source
     drops e = ap (λ l. quiet.act_todo source l s) e
 
     left_stands : s.run.control ≡ within → Claim s c todo
-    left_stands e = subst (StandsOf t heads few s) e st.stands
+    left_stands e = subst (StandsOf t heads few kinds s) e st.stands
 
     dropped_stands : s.run.control ≡ drop → Claim s c todo
-    dropped_stands e = subst (StandsOf t heads few s) e st.stands
+    dropped_stands e = subst (StandsOf t heads few kinds s) e st.stands
 
     -- a constructor has come to its end, and nothing is left to be bound
-    module _ (nothing : suc s.run.frame ≡ length s.env.frames → (ps : List Ty) (d i : ℕ) (w : Value) (K : Ty → Value → Type 0) → of_run t s.run ps d i w K → ⊥) (b : Active) (cs : List Active) (l : length s.env.frames ≡ suc (length (b ∷ cs))) (h : Stack Z s.env.frames (b ∷ cs)) (control : b.control ≡ drop) (x : Builds t heads few s.env.exec (of_run t s.run) s.env.frames s.run.frame s.run.this (b ∷ cs)) where
-      made : (g : ℕ) (w : Value) (d : ℕ) (K : Value → Ty → Type 0) → IsBuilt t heads few s.env.exec s.env.frames g w d K ⊎ IsMaking t heads few s.env.exec (of_run t s.run) s.env.frames s.run.frame (suc (length cs)) s.run.this g w d K → IsBuilt t heads few s.env.exec s.env.frames g w d K
+    module _ (nothing : suc s.run.frame ≡ length s.env.frames → (ps : List Ty) (d i : ℕ) (w : Value) (K : Ty → Value → Type 0) → of_run t s.run ps d i w K → ⊥) (b : Active) (cs : List Active) (l : length s.env.frames ≡ suc (length (b ∷ cs))) (h : Stack Z s.env.frames (b ∷ cs)) (control : b.control ≡ drop) (x : Builds t heads few kinds s.env.exec (of_run t s.run) s.env.frames s.run.frame s.run.this (b ∷ cs)) where
+      made : (g : ℕ) (w : Value) (d : ℕ) (K : Value → Ty → Type 0) → IsBuilt t heads few kinds s.env.exec s.env.frames g w d K ⊎ IsMaking t heads few kinds s.env.exec (of_run t s.run) s.env.frames s.run.frame (suc (length cs)) s.run.this g w d K → IsBuilt t heads few kinds s.env.exec s.env.frames g w d K
       made g w d K (inl y) = y
       made g w d K (inr m) = λ i f told. by i (m.fields i f told)
         where
@@ -125,17 +144,17 @@ module _ (t : Table) (heads : ℕ → ℕ → Bool) (few : Few) (source : Source
           by i (inl y) = y
           by i (inr y) = let q = m.frame in absurd (nothing (omega (arith, q, l)) m.params d i w (Known t few s.env.exec K) y)
 
-      handed : (k i : ℕ) → CleansAt t (Obj i) (src.Variable k) c → IsBuilt t heads few s.env.exec (others s.env.frames) b.frame (variable s.env.exec b.frame k) i (Outwards t few s.env.exec b.frame b.this cs c todo)
+      handed : (k i : ℕ) → CleansAt t (Obj i) (src.Variable k) c → IsBuilt t heads few kinds s.env.exec (others s.env.frames) b.frame (variable s.env.exec b.frame k) i (AtScope t few kinds s.env.exec b.frame b.this cs c todo)
       handed k i d =
-          let y : Awaits (λ c todo. (k i : ℕ) → CleansAt t (Obj i) (src.Variable k) c → IsBuilt t heads few s.env.exec s.env.frames b.frame (variable s.env.exec b.frame k) i (Outwards t few s.env.exec b.frame b.this cs c todo) ⊎ IsMaking t heads few s.env.exec (of_run t s.run) s.env.frames s.run.frame (suc (length cs)) s.run.this b.frame (variable s.env.exec b.frame k) i (Outwards t few s.env.exec b.frame b.this cs c todo)) drop = subst (Awaits _) control x in
+          let y : Awaits (λ c todo. (k i : ℕ) → CleansAt t (Obj i) (src.Variable k) c → IsBuilt t heads few kinds s.env.exec s.env.frames b.frame (variable s.env.exec b.frame k) i (AtScope t few kinds s.env.exec b.frame b.this cs c todo) ⊎ IsMaking t heads few kinds s.env.exec (of_run t s.run) s.env.frames s.run.frame (suc (length cs)) s.run.this b.frame (variable s.env.exec b.frame k) i (AtScope t few kinds s.env.exec b.frame b.this cs c todo)) drop = subst (Awaits _) control x in
           let n : length (others s.env.frames) ≡ suc (length cs) = others_length s.env.frames (length cs) l in
           let le = h.0.frame in
-          built_kept t heads few s.env.exec s.env.frames (others s.env.frames) b.frame (variable s.env.exec b.frame k) i (Outwards t few s.env.exec b.frame b.this cs c todo) (frame_older s.env.frames b.frame (omega (arith, n, le))) (made b.frame (variable s.env.exec b.frame k) i (Outwards t few s.env.exec b.frame b.this cs c todo) (y k i d))
+          built_kept t heads few kinds s.env.exec s.env.frames (others s.env.frames) b.frame (variable s.env.exec b.frame k) i (AtScope t few kinds s.env.exec b.frame b.this cs c todo) (frame_older s.env.frames b.frame (omega (arith, n, le))) (made b.frame (variable s.env.exec b.frame k) i (AtScope t few kinds s.env.exec b.frame b.this cs c todo) (y k i d))
 
     returned_goes : (suc s.run.frame ≡ length s.env.frames → (ps : List Ty) (d i : ℕ) (w : Value) (K : Ty → Value → Type 0) → of_run t s.run ps d i w K → ⊥) → (given : Value) (u : State) → u.run.control ≡ drop → piece.return_step given s.callers s ≡ Goes u → Claim u c todo
     returned_goes nothing given u control q = by s.callers life.frames life.stack.1 st.builds.run q
       where
-        by : (cs : List Active) → length s.env.frames ≡ suc (length cs) → Stack Z s.env.frames cs → Builds t heads few s.env.exec (of_run t s.run) s.env.frames s.run.frame s.run.this cs → piece.return_step given cs s ≡ Goes u → Claim u c todo
+        by : (cs : List Active) → length s.env.frames ≡ suc (length cs) → Stack Z s.env.frames cs → Builds t heads few kinds s.env.exec (of_run t s.run) s.env.frames s.run.frame s.run.this cs → piece.return_step given cs s ≡ Goes u → Claim u c todo
         by [] l h x q = absurd (cc)
         by (b ∷ cs) l h x q =
             let same : returned (Some given) s.run.counts b cs s.env ≡ u = cc in
@@ -163,7 +182,7 @@ module _ (t : Table) (heads : ℕ → ℕ → Bool) (few : Few) (source : Source
   ended : (step : Step) → quiet.quiet source s ≡ step → Ends s s.run.control → EndsTo s s.callers step
   ended step e en = subst (EndsTo s s.callers) e (ends_to s source s.run.control en)
 
-  goes_at : (u : State) (l : List Todo) → u.run.control ≡ l → quiet.quiet source s ≡ Goes u → Joins s l → StandsOf t heads few u l
+  goes_at : (u : State) (l : List Todo) → u.run.control ≡ l → quiet.quiet source s ≡ Goes u → Joins s l → StandsOf t heads few kinds u l
   goes_at u (piece.Rest (src.Scoped c ss) ∷ todo) control e (inl none) = λ k i d. absurd (none_plain t c none (k, i, d))
   goes_at u (piece.Rest (src.Scoped c ss) ∷ todo) control e (inr q) =
       let a : Goes (at (piece.Rest (src.Scoped c ss) ∷ todo) s.run.operands s) ≡ Goes u = sym (leaves q.0 c ss todo q.1) ∙ e in
@@ -179,7 +198,7 @@ module _ (t : Table) (heads : ℕ → ℕ → Bool) (few : Few) (source : Source
       ended_goes line c ss todo u control s.run.control refl q (ended (Goes u) e q)
   goes_at u l control e j = tt
 
-  ticks_at : (u : State) (l : List Todo) → u.run.control ≡ l → quiet.quiet source s ≡ Ticks u → Joins s l → StandsOf t heads few u l
+  ticks_at : (u : State) (l : List Todo) → u.run.control ≡ l → quiet.quiet source s ≡ Ticks u → Joins s l → StandsOf t heads few kinds u l
   ticks_at u (piece.Rest (src.Scoped c ss) ∷ todo) control e (inl none) = λ k i d. absurd (none_plain t c none (k, i, d))
   ticks_at u (piece.Rest (src.Scoped c ss) ∷ todo) control e (inr q) =
       let a : Goes (at (piece.Rest (src.Scoped c ss) ∷ todo) s.run.operands s) ≡ Ticks u = sym (leaves q.0 c ss todo q.1) ∙ e in
@@ -192,7 +211,7 @@ module _ (t : Table) (heads : ℕ → ℕ → Bool) (few : Few) (source : Source
   ticks_at u (piece.DropNow ∷ (piece.Within line ∷ (piece.Rest (src.Scoped c ss) ∷ todo))) control e (inr q) = absurd (ended (Ticks u) e q)
   ticks_at u l control e j = tt
 
-  asks_at : (r : Request) → (r ≡ ask.End → ⊥) → ((n : ℕ) → r ≡ ask.Fault n → ⊥) → (u : State) (l : List Todo) → u.run.control ≡ l → quiet.quiet source s ≡ Asks r u → Joins s l → StandsOf t heads few u l
+  asks_at : (r : Request) → (r ≡ ask.End → ⊥) → ((n : ℕ) → r ≡ ask.Fault n → ⊥) → (u : State) (l : List Todo) → u.run.control ≡ l → quiet.quiet source s ≡ Asks r u → Joins s l → StandsOf t heads few kinds u l
   asks_at r no_end no_fault u (piece.Rest (src.Scoped c ss) ∷ todo) control e (inl none) = λ k i d. absurd (none_plain t c none (k, i, d))
   asks_at r no_end no_fault u (piece.Rest (src.Scoped c ss) ∷ todo) control e (inr q) =
       let a : Goes (at (piece.Rest (src.Scoped c ss) ∷ todo) s.run.operands s) ≡ Asks r u = sym (leaves q.0 c ss todo q.1) ∙ e in
@@ -209,7 +228,7 @@ module _ (t : Table) (heads : ℕ → ℕ → Bool) (few : Few) (source : Source
       by (inr x) = no_fault x.0 x.1
   asks_at r no_end no_fault u l control e j = tt
 
-  behind : (r : Request) (u : State) → quiet.quiet source s ≡ Asks r u → AskJoins s r u → StandsBehind t heads few r u
+  behind : (r : Request) (u : State) → quiet.quiet source s ≡ Asks r u → AskJoins s r u → StandsBehind t heads few kinds r u
   behind ask.End u e j = tt
   behind (ask.Fault n) u e j = tt
   behind r u e j = asks_at r (λ q. absurd (cc)) (λ n q. absurd (cc)) u u.run.control refl e j

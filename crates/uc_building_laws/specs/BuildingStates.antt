@@ -8,11 +8,14 @@ use Rattle.uc_machine.specs.declared.exec.UnwindReason.TheVariants as reason
 use Rattle.uc_machine.specs.declared.exec.Visited.{Visited}
 use Rattle.uc_machine.specs.declared.exec.Owner.TheVariants.{Frame}
 use Rattle.uc_machine.specs.Executions.{Execution}
+use Rattle.uc_machine.specs.Switches.{stopped}
 use Rattle.uc_machine.specs.Pieces as piece
-use Rattle.uc_machine.specs.Pieces.{Slot, FieldAt, Value, Number, Place, Running, Object, Nothing, Todo, Active, State, Env, Step, Goes, Ticks, Asks, further, nought}
-use Rattle.uc_typing.specs.Typing.{Ty, Obj, Table, IsParam, CleansAt}
-use Rattle.uc_life_laws.specs.Things.{Few, IsField, Known, Holds}
-use Rattle.uc_life_laws.specs.LifeStates.{EnvBy, frame_at, Outwards}
+use Rattle.uc_machine.specs.Pieces.{Slot, FieldAt, Value, Number, Place, Running, Object, Nothing, Todo, Active, State, Step, Goes, Ticks, Asks, further, nought}
+use Rattle.uc_typing.specs.Typing.{Ty, Obj, Raw, Sig, Table, IsParam, CleansAt}
+use Rattle.uc_life_laws.specs.Things.{Few, IsField, Within, AtField, IsFor, InTodo, Outer, Known, Holds}
+use Rattle.uc_life_laws.specs.LifeStates.{frame_at}
+use Rattle.uc_life_laws.specs.Knowing.{ClaimsState}
+use Rattle.uc_life_laws.specs.Lives.{MakingAt, MakingIn, Lives}
 use Rattle.uc_building_laws.specs.Building.{AllLeft, Behind, Now}
 
 -- nothing is bound there
@@ -51,8 +54,20 @@ module _ (t : Table) (a : Active) (ps : List Ty) (c i : ℕ) (w : Value) (K : Ty
 abbrev pub variable : Exec → ℕ → ℕ → Value
 variable n g k = Place (Frame n g) (Slot k ∷ [])
 
+-- an object that lies in what a scope is of, as one that is not whole
+abbrev pub IsInScope : Table → Exec → ℕ → Value → CleanUp → Value → Ty → Type 0
+IsInScope t n f this c w a = (d : ℕ) × (a ≡ Raw d) ×
+    ((v : Value) × (b : Ty) × IsFor t (Frame n f) this c v b × Within t v b w (Obj d))
+
+-- what is at hand outwards of a scope that is to open, in an activation with this frame and this object before older ones: what lies outwards of it,
+-- what lies in what it is of, as what is not whole, and what the activation and older ones build and destroy by these kinds
+abbrev pub AtScope : Table → Few → List Sig → Exec → ℕ → Value → List Active → CleanUp → List Todo → Value → Ty → Type 0
+AtScope t few kinds n f this older c todo w a =
+    ((IsInScope t n f this c w a ⊎ InTodo (IsFor t (Frame n f) this) (AtField t (Frame n f) this) todo w a) ⊎ Outer t few n older w a) ⊎
+    (MakingAt kinds f this w a ⊎ MakingIn kinds older w a)
+
 -- `heads`: of which fields of classes it is told, those that are bound in the heads of constructors
-module _ (t : Table) (heads : ℕ → ℕ → Bool) (few : Few) (n : Exec) where
+module _ (t : Table) (heads : ℕ → ℕ → Bool) (few : Few) (kinds : List Sig) (n : Exec) where
   -- these fields of the object of a class at a place in the frame of the depth g hold what is known
   abbrev pub IsBuilt : List (List Value) → ℕ → Value → ℕ → (Value → Ty → Type 0) → Type 0
   IsBuilt fs g w c K = (i : ℕ) → IsField t c i → heads c i ≡ true →
@@ -75,7 +90,7 @@ module _ (t : Table) (heads : ℕ → ℕ → Bool) (few : Few) (n : Exec) where
   abbrev pub Builds : (List Ty → ℕ → ℕ → Value → (Ty → Value → Type 0) → Type 0) → List (List Value) → ℕ → Value → List Active → Type 0
   Builds L fs f this [] = Unit {0}
   Builds L fs f this (b ∷ older) =
-      Awaits (λ c todo. (k i : ℕ) → CleansAt t (Obj i) (Variable k) c → IsBuilt fs b.frame (variable n b.frame k) i (Outwards t few n b.frame b.this older c todo) ⊎ IsMaking L fs f (suc (length older)) this b.frame (variable n b.frame k) i (Outwards t few n b.frame b.this older c todo)) b.control
+      Awaits (λ c todo. (k i : ℕ) → CleansAt t (Obj i) (Variable k) c → IsBuilt fs b.frame (variable n b.frame k) i (AtScope t few kinds n b.frame b.this older c todo) ⊎ IsMaking L fs f (suc (length older)) this b.frame (variable n b.frame k) i (AtScope t few kinds n b.frame b.this older c todo)) b.control
 
   abbrev pub AllBuild : List (List Value) → List Active → Type 0
   AllBuild fs [] = Unit {0}
@@ -102,25 +117,22 @@ AllApart [] = Unit {0}
 AllApart (a ∷ older) = IsOwn a older × AllApart older
 
 module _ (t : Table) (heads : ℕ → ℕ → Bool) (few : Few) where
-  -- an execution of this name that does not run
-  pub record BuildsEx (n : Exec) (x : Execution (List Todo) Value) : Type 0 where
+  -- an execution of this name that does not run, by the kinds of its frames
+  pub record BuildsEx (n : Exec) (kinds : List Sig) (x : Execution (List Todo) Value) : Type 0 where
     pub apart : AllApart (x.run ∷ x.callers)
-    pub run : Builds t heads few n (of_run t x.run) x.frames x.run.frame x.run.this x.callers
-    pub callers : AllBuild t heads few n x.frames x.callers
+    pub run : Builds t heads few kinds n (of_run t x.run) x.frames x.run.frame x.run.this x.callers
+    pub callers : AllBuild t heads few kinds n x.frames x.callers
 
-  abbrev pub BuildsEnv : Env → Type 0
-  BuildsEnv e = EnvBy BuildsEx e
-
+module _ (t : Table) (heads : ℕ → ℕ → Bool) (few : Few) (kinds : List Sig) where
   -- a task whose running activation has this still to do
   pub record BuildsBy (L : List Ty → ℕ → ℕ → Value → (Ty → Value → Type 0) → Type 0) (s : State) : Type 0 where
     pub apart : AllApart (s.run ∷ s.callers)
-    pub run : Builds t heads few s.env.exec L s.env.frames s.run.frame s.run.this s.callers
-    pub callers : AllBuild t heads few s.env.exec s.env.frames s.callers
-    pub env : BuildsEnv s.env
+    pub run : Builds t heads few kinds s.env.exec L s.env.frames s.run.frame s.run.this s.callers
+    pub callers : AllBuild t heads few kinds s.env.exec s.env.frames s.callers
 
   -- where a scope of an object that is a variable opens next, behind what has built it, that holds what is known
   abbrev pub Stands : State → Type 0
-  Stands s = Nears (λ c todo. (k i : ℕ) → CleansAt t (Obj i) (Variable k) c → IsBuilt t heads few s.env.exec s.env.frames s.run.frame (variable s.env.exec s.run.frame k) i (Outwards t few s.env.exec s.run.frame s.run.this s.callers c todo)) s.run.control
+  Stands s = Nears (λ c todo. (k i : ℕ) → CleansAt t (Obj i) (Variable k) c → IsBuilt t heads few kinds s.env.exec s.env.frames s.run.frame (variable s.env.exec s.run.frame k) i (AtScope t few kinds s.env.exec s.run.frame s.run.this s.callers c todo)) s.run.control
 
   pub record BuildsState (s : State) : Type 0 where
     pub builds : BuildsBy (of_run t s.run) s
@@ -146,3 +158,19 @@ module _ (t : Table) (heads : ℕ → ℕ → Bool) (few : Few) where
   BuildsStep (Goes s) = BuildsState s
   BuildsStep (Ticks s) = BuildsRest s
   BuildsStep (Asks r s) = BuildsAsk r s
+
+-- what is left to bind to an activation that is to be given these operands
+abbrev pub Left : Table → List Ty → Active → List Ty → ℕ → ℕ → Value → (Ty → Value → Type 0) → Type 0
+Left t [] a = of_run t a
+Left t (b ∷ given) a = of_wait t a
+
+module _ (t : Table) (heads : ℕ → ℕ → Bool) (few : Few) where
+  -- that is claimed of executions by their kinds, beside what variables in scope hold
+  abbrev pub Built : Exec → List Sig → Execution (List Todo) Value → Type 0
+  Built n kinds x = Lives t few n kinds x × BuildsEx t heads few n kinds x
+
+  -- a state in which all is known, that is to be given these operands, by kinds by which variables in scope hold what is known, and so do objects that
+  -- are built
+  abbrev pub BuiltState : List Ty → State → Type 0
+  BuiltState given s = (x : ClaimsState t few Built given s) ×
+      (Lives t few s.env.exec x.sigs (stopped s) × BuildsBy t heads few x.sigs (Left t given s.run) s × Stands t heads few x.sigs s)

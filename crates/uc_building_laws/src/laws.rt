@@ -1,16 +1,25 @@
 // The laws: each is a function whose contract is the law.
 
 ghost use Rattle.uc_building_laws.specs.Awaiting.{LawAwaited};
-ghost use Rattle.uc_building_laws.specs.BuildingLaws.{LawClears, LawSteps};
+ghost use Rattle.uc_building_laws.specs.BuildingLaws.{LawClears, LawKept, LawSteps};
 ghost use Rattle.uc_building_laws.specs.BuildingRuns.{LawBuilt, LawHeads};
+ghost use Rattle.uc_building_laws.specs.BuiltEndings.{LawBuiltEndings};
+ghost use Rattle.uc_building_laws.specs.BuiltLasting.{LawBuiltLasting};
 ghost use Rattle.uc_building_laws.specs.BuiltRuns.{LawBuiltRuns};
 
 /// Of an object whose scope opens behind its constructor, each field in which something is bound holds
 /// what is known once the statement that binds it is done; so the object does once the constructor has
-/// come to its end. A task begins so, each step keeps it that finds what it is to find, and so does
-/// each answer.
+/// come to its end. By any kinds of frames: a task begins so, each step keeps it that finds what it is to
+/// find and behind which the same execution goes on, and so does each answer.
 pub fn law_steps()
     ensures { LawSteps }
+{}
+
+/// By the kinds of frames, which go along steps: each step of a sound source keeps all that is known, with
+/// what constructors have bound, as far as it finds what it is to find; and where the scope of an object
+/// opens, the fields that its constructor bound in its first statements hold what is known there.
+pub fn law_kept()
+    ensures { LawKept }
 {}
 
 /// Cells that start anew lie behind what is being built in their frame, where things lie within their
@@ -20,8 +29,8 @@ pub fn law_clears()
 {}
 
 /// The constructor of a class of which variables are declared binds each field that it is told of in its
-/// first statements to what is of the type that stands there. What it is given is in scope, where what is
-/// being built or destroyed in frames of the execution is of classes in which nothing is bound. A field
+/// first statements to what is of the type that stands there. What it is given is at hand outwards of the
+/// scope that opens behind its call, whatever is being built or destroyed. A field
 /// that is known by its number holds what is known as soon as its cell holds an object.
 pub fn law_heads()
     ensures { LawHeads }
@@ -36,6 +45,18 @@ pub fn law_awaited()
 /// breaks no rule, as long as all that was asked before fits and each step found what it is to find.
 pub fn law_built()
     ensures { LawBuilt }
+{}
+
+/// So it is where of the states in which a clean-up comes to the variable that it ends, and reads it,
+/// nothing is asked.
+pub fn law_built_endings()
+    ensures { LawBuiltEndings }
+{}
+
+/// Where nobody has at hand what has gone, what constructors have bound is not gone: in each such run, as far
+/// as each step found what it was to find with the numbers of what is not gone.
+pub fn law_built_lasting()
+    ensures { LawBuiltLasting }
 {}
 
 /// So in each such run of a program within its limits, as long as all that was asked before fits: all is

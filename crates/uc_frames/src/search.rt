@@ -1,6 +1,6 @@
 // Searches among the handlers of an op, from the innermost one outwards.
 
-ghost use Rattle.std.specs.Prelude.{◌≡◌, ◌≤◌, ◌<◌, ◌-◌, ◌^◌, ◌++◌, [], Some, length, MatchOption};
+ghost use Rattle.std.specs.Prelude.{◌≡◌, ◌≤◌, ◌<◌, ◌-◌, ◌^◌, ◌++◌, [], Some, length, false, MatchOption};
 ghost use Rattle.uc_code.specs.Layout.{chain};
 ghost use Rattle.uc_frames.specs.Searches.{catches as catches_by, resumes as resumes_by, cleans as cleans_by, is_named as is_named_by, is_sought, row_takes, behind_row, first_in, own_row, named, last_of, chain_within, IsHandler, IsSoughtAt};
 
@@ -34,6 +34,18 @@ pub fn first_within(code: &Code, next: u32, rest: u32, sought: HandlerQuery) -> 
     let rows = code.rows();
     let number = last_from(rows, covering(code, next), rest as usize);
     first_from(rows, number, sought)
+}
+
+/// Whether a handler may cover the op before `next`. Where none does, the answer tells that.
+#[inline(always)]
+pub fn is_covered(code: &Code, next: u32) -> bool
+    ensures { result ≡ false → chain code.now.rows next ≡ [] }
+{
+    let number = covering(code, next);
+    if number == 0 {
+        return false;
+    }
+    true
 }
 
 // The newest row that covers the op before `next`, by its number plus 1; 0 where there is none.

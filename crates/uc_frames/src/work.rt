@@ -126,13 +126,13 @@ impl Work {
     {
         match &self.task.running.run.this {
             Cell::Place(Owner::Frame { exec, depth }, at) => {
-                let exec = *exec;
                 let depth = *depth;
                 let at = at.saturating_add(u64::from(cell));
-                if self.runs(exec) {
+                if self.runs(*exec) {
                     self.task.running.block.write_number(depth, at, number);
                 } else {
-                    self.write_parked(exec, depth, at, Cell::Number(number));
+                    let exec = *exec;
+                    self.put_parked(exec, depth, at, number);
                 }
             }
             _ => self.hold_number_apart(cell, number),
@@ -163,7 +163,7 @@ impl Work {
                 if self.runs(exec) {
                     self.task.running.block.write_number(depth, at, number);
                 } else {
-                    self.write_parked(exec, depth, at, Cell::Number(number));
+                    self.put_parked(exec, depth, at, number);
                 }
             }
             _ => self.put_number_apart(number),
@@ -344,6 +344,14 @@ impl Work {
                 }
             }
         }
+    }
+
+    // The same of a number. It stands apart, so that who writes numbers has no cell to make.
+    #[inline(never)]
+    fn put_parked(&mut self, exec: Exec, depth: u32, at: u64, number: i64)
+        ensures { self.new ≡ record self.old { env = change exec.home (frames_changed exec.serial (frame_changed depth (cell_written at (Cell.Number number)))) self.old.env } }
+    {
+        self.write_parked(exec, depth, at, Cell::Number(number));
     }
 
     #[inline(never)]

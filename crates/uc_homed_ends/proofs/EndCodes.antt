@@ -11,8 +11,8 @@ use Rattle.uc_typing.specs.States.{Routine_is, Sound}
 use Rattle.uc_sound.specs.SoundFormed.{IsFormed}
 use Rattle.uc_sound.specs.Tables.{table_of}
 use Rattle.uc_sound.proofs.SoundLemmas.{law_sound}
-use Rattle.uc_life_laws.specs.Ending.{OfVariable, OfField}
-use Rattle.uc_putting_laws.specs.CleanedSpots.{Site, NoSite, AnySite, IsAtVariable, OpensFor, IsSpotOf, Reach, reach_of, apart}
+use Rattle.uc_life_laws.specs.Ending.{Spot, OfVariable, OfField}
+use Rattle.uc_putting_laws.specs.CleanedSpots.{Site, Under, NoSite, AnyPlace, IsHollow, OpensFor, IsOver, Reach, reach_of, apart}
 use Rattle.uc_putting_laws.specs.Calling.{PlainExpr, PlainExprs, PlainMaybe, PlainItems, PlainTargets, PlainDeclared, PlainNew, Binds, PlaceAt, CallsAt, MakesAt, MakesEach, EndsAt, EndsEach, EndsNumber, Evaluates, FillsBy, SweepsBy, CleansBy, RaisesBy, CallingStmt, CallingStmts, CallingEvent, CallingHandlers, CallingTask, CallingClauses, Opening, CallingBody, CallingRoutine, CallingSource}
 use Rattle.uc_putting_laws.specs.PuttingLaws.{special_of}
 use Rattle.uc_putting_laws.proofs.Routines.{law_calling}
@@ -24,9 +24,9 @@ data Near : Type 0 where
   Nothing_near : Near
   Near_by : Stmts → Near
 
-abbrev site_of : Near → Site → Type 0
-site_of Nothing_near x = NoSite x
-site_of (Near_by ss) x = OpensFor ss x
+abbrev site_of : Table → Near → Site → Type 0
+site_of t Nothing_near x = NoSite x
+site_of t (Near_by ss) x = OpensFor t ss x
 
 module _ (t : Table) (source : Source) (special : ℕ → Bool) (plain : (r : ℕ) → special r ≡ false → (t.routine r).whole ≡ false) where
   -- expressions
@@ -106,30 +106,30 @@ module _ (t : Table) (source : Source) (special : ℕ → Bool) (plain : (r : �
   new_or e (inr h) = newly e h
 
   module _ (r : Reach) where
-    module _ (P : Site → Type 0) where
-      place : (e : Expr) → PlaceAt t source special r P e → FreeExpr t e
-      place (Variable k) h = tt
-      place (OfObject (OwnField s i)) h = tt
-      place (Element n s e i) h = (place e h.0, expr i h.1)
-      place e h = absurd h
+    place : (P : ℕ → Spot → Type 0) (e : Expr) → PlaceAt t source special r P e → FreeExpr t e
+    place P (Variable k) h = tt
+    place P (OfObject (OwnField s i)) h = tt
+    place P (Element n s e i) h = (place (λ m p. P n p) e h.0, expr i h.1)
+    place P e h = absurd h
 
+    module _ (P : Site → Type 0) where
       calls : (e : Expr) → CallsAt t source special r P e → FreeExpr t e
-      calls (OfObject (src.CallOn q p args)) h = (place p h.1, exprs args h.2)
-      calls (OfObject (src.CallUnwritten q p)) h = place p h.1
+      calls (OfObject (src.CallOn q p args)) h = (place (λ n x. P (Under (t.routine q).this n x)) p h.1, exprs args h.2)
+      calls (OfObject (src.CallUnwritten q p)) h = place (λ n x. P (Under (t.routine q).this n x)) p h.1
       calls e h = absurd h
 
-    binds : (e : Expr) → Binds t source special r e → FreeExpr t e
-    binds (OfObject (src.Bind p e)) h = (place AnySite p h.0, new_or e h.1)
-    binds e h = absurd h
+      number : (e : Expr) → EndsNumber t source special r P e → FreeExpr t e
+      number (OfObject (src.EndCluster (Load p))) h = place (λ n x. P (Under None n x)) p h
+      number (OfObject (src.EndProcessor (Load p))) h = place (λ n x. P (Under None n x)) p h
+      number e h = absurd h
 
-    number : (e : Expr) → EndsNumber t source special r e → FreeExpr t e
-    number (OfObject (src.EndCluster (Load p))) h = place AnySite p h
-    number (OfObject (src.EndProcessor (Load p))) h = place AnySite p h
-    number e h = absurd h
+    binds : (e : Expr) → Binds t source special r e → FreeExpr t e
+    binds (OfObject (src.Bind p e)) h = (place AnyPlace p h.0, new_or e h.1)
+    binds e h = absurd h
 
     raises : (x : Raised) → RaisesBy t source special r x → FreeRaised t x
     raises (src.Plainly n) h = tt
-    raises (src.BuiltAt n k e) h = calls (λ x. IsAtVariable k x) e h
+    raises (src.BuiltAt n k e) h = calls (IsHollow t k) e h
     raises (src.AgainFrom k) h = tt
 
     module _ (P : Site → Type 0) where
@@ -174,28 +174,28 @@ module _ (t : Table) (source : Source) (special : ℕ → Bool) (plain : (r : �
         element e h f = absurd h
 
         sweeps : (e : Expr) → SweepsBy t source special r P e → Fine t g sc e → FreeSweep t e
-        sweeps e (inl h) f = inl (number e h)
+        sweeps e (inl h) f = inl (number P e h)
         sweeps e (inr (inl h)) f = inl (calls P e h)
         sweeps e (inr (inr h)) f = inr (element e h f)
 
-        destroys : (e : Expr) → EndsNumber t source special r e ⊎ (CallsAt t source special r P e ⊎ EndsAt t source special r P e) → Fine t g sc e → FreeClean t (src.Destroys e)
-        destroys e (inl h) f = inl (number e h)
+        destroys : (e : Expr) → EndsNumber t source special r P e ⊎ (CallsAt t source special r P e ⊎ EndsAt t source special r P e) → Fine t g sc e → FreeClean t (src.Destroys e)
+        destroys e (inl h) f = inl (number P e h)
         destroys e (inr (inl h)) f = inl (calls P e h)
         destroys e (inr (inr h)) f = inr (spot e h f)
 
     cleans : (g : Sig) (sc : List Name) (c : CleanUp) → CleansBy t source special r c → FineClean t g sc c → FreeClean t c
-    cleans g sc (src.Destroys e) h f = destroys (λ x. IsSpotOf (src.Destroys e) x) g sc e h f
-    cleans g sc (src.DestroysAll n e) h f = sweeps (λ x. IsSpotOf (src.DestroysAll n e) x) g sc e h f
+    cleans g sc (src.Destroys e) h f = destroys (IsOver t (src.Destroys e)) g sc e h f
+    cleans g sc (src.DestroysAll n e) h f = sweeps (IsOver t (src.DestroysAll n e)) g sc e h f
     cleans g sc c h f = tt
 
   -- statements
 
   mutual
-    stmt : (n : Near) (r : Reach) (g : Sig) (sc : List Name) (a : Stmt) → CallingStmt t source special (site_of n) r a → FineStmt t g sc a → FreeStmt t a
+    stmt : (n : Near) (r : Reach) (g : Sig) (sc : List Name) (a : Stmt) → CallingStmt t source special (site_of t n) r a → FineStmt t g sc a → FreeStmt t a
     stmt n r g sc (src.Skip line) h f = tt
     stmt n r g sc (src.Block line code) h f = stmts (apart r) g sc code h f
     stmt n r g sc (src.Whole line code) h f = stmts (apart r) g sc code h f.0
-    stmt n r g sc (src.Evaluate line e) h f = evaluates r (site_of n) e h
+    stmt n r g sc (src.Evaluate line e) h f = evaluates r (site_of t n) e h
     stmt n r g sc (src.Declare line ds) h f = declared ds h
     stmt n r g sc (src.Print line is) h f = items is h
     stmt n r g sc (src.PrintTogether line is) h f = items is h
@@ -206,7 +206,7 @@ module _ (t : Table) (source : Source) (special : ℕ → Bool) (plain : (r : �
     stmt n r g sc (src.Continue line) h f = tt
     stmt n r g sc (src.Return line e) h f = maybe e h
     stmt n r g sc (src.Owes line) h f = tt
-    stmt n r g sc (src.Fill line m b d) h f = (fills r (site_of n) b h.0, sweeps r (site_of n) g sc d h.1 f.1)
+    stmt n r g sc (src.Fill line m b d) h f = (fills r (site_of t n) b h.0, sweeps r (site_of t n) g sc d h.1 f.1)
     stmt n r g sc (src.OfEvents a) h f = event r g sc a h f
     stmt n r g sc (src.OfTasks a) h f = task r g sc a h f
 
@@ -245,12 +245,12 @@ module _ (t : Table) (source : Source) (special : ℕ → Bool) (plain : (r : �
   opening r g (src.Scoped (src.Frees q) rest) h f = (tt, stmts r g (f.0 ∷ []) rest h.1 f.2)
   opening r g ss h f = absurd h
 
-  body : (b : Bool) (g : Sig) (ss : Stmts) → CallingBody t source special b ss → FineStmts t g [] ss → FreeStmts t ss
-  body true g ss (inl h) f = stmts (reach_of true) g [] ss h.0 f
-  body true g ss (inr h) f = opening (reach_of true) g ss h f
-  body false g ss h f = stmts (reach_of false) g [] ss h f
+  body : (b : Bool) (g : Sig) (ss : Stmts) → CallingBody t source special b g.this ss → FineStmts t g [] ss → FreeStmts t ss
+  body true g ss (inl h) f = stmts (reach_of true g.this) g [] ss h.0 f
+  body true g ss (inr h) f = opening (reach_of true g.this) g ss h f
+  body false g ss h f = stmts (reach_of false g.this) g [] ss h f
 
-  routine : (b : Bool) (g : Sig) (r : Option Routine) → CallingRoutine t source special b r → ((x : Routine) → r ≡ Some x → Routine_is t g x) → FreeRoutine t r
+  routine : (b : Bool) (g : Sig) (r : Option Routine) → CallingRoutine t source special b g.this r → ((x : Routine) → r ≡ Some x → Routine_is t g x) → FreeRoutine t r
   routine b g None h f = tt
   routine b g (Some r) h f = body b g r.body h (f r refl).body
 

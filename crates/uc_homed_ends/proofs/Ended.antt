@@ -60,7 +60,7 @@ use Rattle.uc_life_laws.proofs.Owned.{tasks_grow}
 use Rattle.uc_life_laws.proofs.Own.{law_own}
 use Rattle.uc_life_laws.specs.Ending.{Spot, OfVariable, OfField, ends_at}
 use Rattle.uc_putting_laws.specs.CleanedSpots.{Site, Under, site_spot, IsOf, IsIn}
-use Rattle.uc_putting_laws.specs.Putting.{Setting, Mark, Any, Homed, rest, rests, IsHome, IsEnding, Holds, FirstUnder, FirstHome, CallFits, LoneAt, Ok, PutState}
+use Rattle.uc_putting_laws.specs.Putting.{Setting, Mark, Any, Homed, rest, rests, IsHome, IsEnding, Holds, FirstUnder, FirstHome, OfObjects, SeatAt, CallFits, Ok, PutState}
 use Rattle.uc_putting_laws.specs.PuttingLaws.{special_of, setting_of, FairAt, Fair}
 use Rattle.uc_putting_laws.proofs.Marks.{at_of, stands_under, under_spot}
 use Rattle.uc_putting_laws.proofs.ObjectsWithin.{below_own}
@@ -139,8 +139,11 @@ module _ (p : Program) (sound : Sound (table_of p) (source_of p)) (few : Few) (s
     abbrev FitsAt : List Mark → List Todo → Type 0
     FitsAt ms todo = CallFits g (here s) k.run.made r ms todo
 
-    abbrev UnderFits : List Todo → Spot → Type 0
-    UnderFits todo x = IsOf k.run.made x × LoneAt (table_of p) few (here s) todo (Under x)
+    abbrev UnderFits : List Todo → ℕ → Spot → Type 0
+    UnderFits todo n x = IsOf k.run.made x × SeatAt g (here s) k.run.made todo (Under ((table_of p).routine r).this n x)
+
+    abbrev HomeFits : List Todo → Site → Type 0
+    HomeFits todo x = IsIn k.run.made x × SeatAt g (here s) k.run.made todo x × OfObjects x
 
     -- of an operand of which nothing is known it does not fit
     none_fits : (n : ℕ) → params (source_of p) r ≡ n → n ≡ 0 → (ms : List Mark) (todo : List Todo) → FitsAt (Any ∷ ms) todo → ⊥
@@ -149,7 +152,7 @@ module _ (p : Program) (sound : Sound (table_of p) (source_of p)) (few : Few) (s
     none_fits zero q z ms todo (inr (inl h)) =
         let f : FirstUnder (rests 0 (Any ∷ ms)) (UnderFits todo) = subst (λ n. FirstUnder (rests n (Any ∷ ms)) (UnderFits todo)) q h.1 in f
     none_fits zero q z ms todo (inr (inr h)) =
-        let f : FirstHome (rests 0 (Any ∷ ms)) (λ x. IsIn k.run.made x × LoneAt (table_of p) few (here s) todo x) = subst (λ n. FirstHome (rests n (Any ∷ ms)) (λ x. IsIn k.run.made x × LoneAt (table_of p) few (here s) todo x)) q h in f
+        let f : FirstHome (rests 0 (Any ∷ ms)) (HomeFits todo) = subst (λ n. FirstHome (rests n (Any ∷ ms)) (HomeFits todo)) q h in f
 
     -- of one that is at home at a site that is one of the execution's own
     homed_fits : (n : ℕ) → params (source_of p) r ≡ n → n ≡ 0 → (x : Site) (ms : List Mark) (todo : List Todo) → FitsAt (Homed x ∷ ms) todo → IsIn k.run.made x
@@ -158,7 +161,7 @@ module _ (p : Program) (sound : Sound (table_of p) (source_of p)) (few : Few) (s
     homed_fits zero q z x ms todo (inr (inl h)) =
         let f : FirstUnder (rests 0 (Homed x ∷ ms)) (UnderFits todo) = subst (λ n. FirstUnder (rests n (Homed x ∷ ms)) (UnderFits todo)) q h.1 in absurd f
     homed_fits zero q z x ms todo (inr (inr h)) =
-        let f : FirstHome (rests 0 (Homed x ∷ ms)) (λ x. IsIn k.run.made x × LoneAt (table_of p) few (here s) todo x) = subst (λ n. FirstHome (rests n (Homed x ∷ ms)) (λ x. IsIn k.run.made x × LoneAt (table_of p) few (here s) todo x)) q h in f.0
+        let f : FirstHome (rests 0 (Homed x ∷ ms)) (HomeFits todo) = subst (λ n. FirstHome (rests n (Homed x ∷ ms)) (HomeFits todo)) q h in f.0
 
     -- what is to do behind the load
     call : (b : Bool) (ms : List Mark) (todo : List Todo) → Ok g (here s) k.run.made ms (ways.entering r b todo) → FitsAt ms todo

@@ -101,6 +101,7 @@ impl<T: Drop, M: Drop> Kernel<T, M> {
 
     /// The act of what a task asks: any request but Make and Spawn. Where the run is over before, nothing changes, and what
     /// was brought is dropped.
+    #[inline(always)]
     pub fn act(&mut self, back: Back<T, M>, asked: &Asked) -> Next<T, M>
         requires fits { Journal.is_over self.old.journal ≡ false →
             MayBring (kept self.old) (with_asked back asked.now) }
@@ -237,6 +238,7 @@ fn is_over(book: &KernelCore) -> bool
 }
 
 // The task that acts.
+#[inline(always)]
 fn actor<T, M>(book: &KernelCore, back: &Back<T, M>, asked: &Asked) -> Actor
     requires going { Journal.is_over book.now.journal ≡ false }
     ensures processor { (t : ℕ) → running back.now.processor book.now.journal ≡ t ∷ [] →
@@ -259,6 +261,7 @@ fn actor<T, M>(book: &KernelCore, back: &Back<T, M>, asked: &Asked) -> Actor
 }
 
 // What the journal tells a task to go on with.
+#[inline(always)]
 fn answer_of(book: &KernelCore, task: u32) -> Answer
     requires going { Journal.is_over book.now.journal ≡ false }
     requires small { task < TASKS }
@@ -297,6 +300,7 @@ fn take_out<T: Drop, M: Drop>(
 }
 
 // The task goes on where it still runs, and is put to rest otherwise.
+#[inline(always)]
 fn hand_on<T: Drop, M: Drop>(
     book: &KernelCore,
     tasks: &mut Vec<Option<TaskAtRest<T, M>>>,
@@ -330,6 +334,7 @@ fn hand_on<T: Drop, M: Drop>(
 }
 
 // What follows the act of a task, once its entries stand.
+#[inline(always)]
 fn follow<T: Drop, M: Drop>(
     book: &KernelCore,
     tasks: &mut Vec<Option<TaskAtRest<T, M>>>,

@@ -32,6 +32,7 @@ impl KernelCore {
     }
 
     /// The ending, if the run ends here.
+    #[inline(always)]
     fn close(&mut self, who: Actor)
         requires task { who.task < TASKS }
         requires room { length self.old.journal < self.old.opts.entries + 40 }
@@ -65,6 +66,7 @@ impl KernelCore {
     }
 
     /// How the run ends, by the first that holds.
+    #[inline(always)]
     fn verdict(&self) -> Option<EntryKind>
         requires going { is_over self.now.journal ≡ false }
         ensures { result ≡ verdict self.now.opts self.now.journal }

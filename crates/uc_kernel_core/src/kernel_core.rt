@@ -126,6 +126,7 @@ impl KernelCore {
     }
 
     /// An entry that touches no queue.
+    #[inline(always)]
     pub(crate) fn put_quiet(&mut self, e: Entry)
         requires can { CanPut self.old e }
         requires quiet { is_quiet e.kind ≡ true }
@@ -147,6 +148,7 @@ impl KernelCore {
     }
 
     /// An entry by which its task goes to the back of the ready queue of its cluster.
+    #[inline(always)]
     pub(crate) fn put_back(&mut self, e: Entry)
         requires can { CanPut self.old e }
         requires back { is_back e.kind ≡ true }
@@ -159,6 +161,7 @@ impl KernelCore {
     }
 
     /// Whoever is inside goes out, and goes on to run.
+    #[inline(always)]
     pub(crate) fn put_out(&mut self, e: Entry)
         requires can { CanPut self.old e }
         requires exits { is_exit e.kind ≡ true }
@@ -171,6 +174,7 @@ impl KernelCore {
     }
 
     /// A task leaves an object: its call there is over, and has failed or not.
+    #[inline(always)]
     fn put_leave(&mut self, who: Actor, object: u32, failed: bool)
         requires can { CanPut self.old
             (Journal.asking kind.Leave who.processor who.task (cost who.ticks who.line) object
@@ -386,6 +390,7 @@ impl KernelCore {
     }
 
     /// A task prints: one entry for each item, of which the first alone carries the ticks.
+    #[inline(always)]
     pub(crate) fn print(&mut self, who: Actor, n: u8, items: &[Piece; 32])
         requires may { MayAct self.old who.processor who.task }
         requires items { (1 ≤ n) × (n ≤ 32) }
@@ -399,6 +404,7 @@ impl KernelCore {
     }
 
     /// One printed item, the first or a later one.
+    #[inline(always)]
     fn put_print(&mut self, who: Actor, first: bool, piece: Piece)
         requires going { is_over self.old.journal ≡ false }
         requires room { length self.old.journal < self.old.opts.entries + 40 }

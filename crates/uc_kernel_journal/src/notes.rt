@@ -55,6 +55,7 @@ fn clause_listing(clauses: &Vec<Members>, mask: u64, member: u8) -> Option<u8>
 }
 
 /// The clause by which an accept took the caller of a destructor, or 0.
+#[inline(never)]
 fn destroyer_clause(sites: &Vec<Site>, site: u64, mask: u64) -> u8
     requires short { AreShort sites.now.items }
     ensures { result ≡ or_0 (clause_for (offers sites.now.items site mask) DESTRUCTOR) }
@@ -90,6 +91,7 @@ fn accept_answer(sites: &Vec<Site>, e: &Entry) -> Option<Answer>
 }
 
 /// An acceptor goes on with its clause, and whether its accepted call has failed; anybody else just goes on.
+#[inline(always)]
 fn let_in_answer(clause: i64, failed: bool) -> Answer
     requires { number clause < 256 }
     ensures { result ≡ let_in_answer (number clause) failed }
@@ -121,6 +123,7 @@ fn poll_answer(event: i64, x: i64, y: i64) -> Answer
 }
 
 /// What an entry answers to the task that it names.
+#[inline(always)]
 fn answer_of(sites: &Vec<Site>, e: &Entry) -> Option<Answer>
     requires short { AreShort sites.now.items }
     requires sayable { (tasks : ℕ) × IsSayable tasks e.now.kind e.now }
@@ -168,6 +171,7 @@ fn answer_of(sites: &Vec<Site>, e: &Entry) -> Option<Answer>
 }
 
 /// Whether an entry takes up what its task was answered before.
+#[inline(always)]
 fn takes_up(kind: EntryKind) -> bool
     ensures { result ≡ takes_up kind }
 {
@@ -185,6 +189,7 @@ fn takes_up(kind: EntryKind) -> bool
 }
 
 /// Notes the answers of an entry.
+#[inline(always)]
 pub fn note_answers(answers: &mut Table<Option<Answer>>, sites: &Vec<Site>, e: &Entry)
     requires short { AreShort sites.now.items }
     requires task { e.now.task < length answers.old }

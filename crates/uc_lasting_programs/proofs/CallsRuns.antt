@@ -52,7 +52,7 @@ pub record IsKnownThere (p : Program) (few : Few) (s : State) : Type 0 where
   pub life : LivesState (table_of p) few s
 
 module _ (p : Program) (formed : IsFormed p) (accepted : breaks_of p ≡ []) (few : Few) (places : (n : Exec) (w : Value) (b : Ty) → Base few n w b → IsPlace w) where
-  code : (n : ℕ) → CodeRoutine (setting_of p few) (special_of p n) (slice_get (source_of p).routines n)
+  code : (n : ℕ) → CodeRoutine (setting_of p few) (special_of p n) ((table_of p).routine n).this (slice_get (source_of p).routines n)
   code = code_of p formed accepted few
 
   here : (s : State) → Stands p (setting_of p few) s → IsKnownThere p few s → Meets (table_of p) few s → FindsThis (table_of p) few (source_of p) s

@@ -35,7 +35,7 @@ use Rattle.uc_life_laws.specs.Ending.{Spot, calling}
 use Rattle.uc_putting_laws.specs.CleanedSpots.{Under, site_spot, IsOf, IsIn}
 use Rattle.uc_putting_laws.specs.ObjectsAtHand.{LiesUnder}
 use Rattle.uc_putting_laws.specs.Putting as putting
-use Rattle.uc_putting_laws.specs.Putting.{Setting, rests, FirstUnder, FirstHome, LoneAt, CallFits, PutState, spot_at}
+use Rattle.uc_putting_laws.specs.Putting.{Setting, rests, FirstUnder, FirstHome, OfObjects, SeatAt, CallFits, PutState, spot_at}
 use Rattle.uc_putting_laws.specs.PuttingLaws.{special_of, setting_of}
 use Rattle.uc_putting_laws.proofs.Marks.{holds_drop, home_of, under_of, stands_under, under_spot}
 use Rattle.uc_putting_laws.proofs.ObjectsWithin.{below_own}
@@ -133,10 +133,10 @@ module _ (p : Program) (formed : IsFormed p) (accepted : breaks_of p ≡ []) (fe
     called_own r todo x special (inl f) n = no_both (special_of p r) special f
     called_own r todo x special (inr (inl f)) n =
         let v = top (drop x.params s.run.operands) in
-        let h = under_of few (here s) (rests x.params put.run.marks) (drop x.params s.run.operands) (holds_drop few (here s) x.params put.run.marks s.run.operands put.run.holds) (λ y. IsOf put.run.made y × LoneAt (table_of p) few (here s) todo (Under y)) (subst (λ m. FirstUnder (rests m put.run.marks) (λ y. IsOf put.run.made y × LoneAt (table_of p) few (here s) todo (Under y))) n f.1) in
-        spot_own h.0 h.2.0 (top (drop x.params s.run.operands)) h.1
+        let h = under_of few (here s) (rests x.params put.run.marks) (drop x.params s.run.operands) (holds_drop few (here s) x.params put.run.marks s.run.operands put.run.holds) (λ n y. IsOf put.run.made y × SeatAt (setting_of p few) (here s) put.run.made todo (Under ((table_of p).routine r).this n y)) (subst (λ m. FirstUnder (rests m put.run.marks) (λ n y. IsOf put.run.made y × SeatAt (setting_of p few) (here s) put.run.made todo (Under ((table_of p).routine r).this n y))) n f.1) in
+        spot_own h.1 h.3.0 (top (drop x.params s.run.operands)) h.2.1
     called_own r todo x special (inr (inr f)) n =
-        let h = home_of few (here s) (rests x.params put.run.marks) (drop x.params s.run.operands) (holds_drop few (here s) x.params put.run.marks s.run.operands put.run.holds) (λ y. IsIn put.run.made y × LoneAt (table_of p) few (here s) todo y) (subst (λ m. FirstHome (rests m put.run.marks) (λ y. IsIn put.run.made y × LoneAt (table_of p) few (here s) todo y)) n f) in
+        let h = home_of few (here s) (rests x.params put.run.marks) (drop x.params s.run.operands) (holds_drop few (here s) x.params put.run.marks s.run.operands put.run.holds) (λ y. IsIn put.run.made y × SeatAt (setting_of p few) (here s) put.run.made todo y × OfObjects y) (subst (λ m. FirstHome (rests m put.run.marks) (λ y. IsIn put.run.made y × SeatAt (setting_of p few) (here s) put.run.made todo y × OfObjects y)) n f) in
         let z = h.1 in
         let place : Belongs few s.env.exec z.0 = spot_own (site_spot h.0) h.2.0 z.0 (stands_under few (here s) h.0 z.0 z.1) in
         subst (Belongs few s.env.exec) (sym z.2.object) (object (subst (Belongs few s.env.exec) (sym z.2.home) place))

@@ -36,7 +36,8 @@ use Rattle.uc_life_laws.specs.KnownAnswers.{MainPasses}
 use Rattle.uc_life_laws.specs.Marks.{Puts}
 use Rattle.uc_life_laws.specs.KnownRuns.{PassesBelow, Meets, NamesMade}
 use Rattle.uc_life_laws.specs.Belonging.{Belongs}
-use Rattle.uc_life_laws.specs.Endings.{RawsPass, MeetsOutside}
+use Rattle.uc_life_laws.specs.Endings.{RawsPass}
+use Rattle.uc_building_laws.specs.BuiltEndings.{BuiltOutside}
 use Rattle.uc_life_laws.specs.Rooted.{IsPlace}
 use Rattle.uc_life_laws.proofs.KnownWorlds.{law_known_runs}
 use Rattle.uc_life_laws.specs.Lasting.{lasting, RunForgets}
@@ -195,10 +196,10 @@ module _ (p : Program) (formed : IsFormed p) (ok : breaks_of p ≡ []) (within :
   raws_last : (i : Journal) → RawsPass (lasting few i)
   raws_last i = λ c o h. tells.raws c o (passes (table_of p) few.numbers few.home few.base i c o h)
 
-  met_so_far : RunHoldsAt (λ i. MeetsOutside (table_of p) (lasting few i)) source input opts j w r
+  met_so_far : RunHoldsAt (λ i. BuiltOutside p (lasting few i)) source input opts j w r
   met_so_far = run_remains p formed ok within input opts range few raws_last r f tells.below x.met
 
-  met_next : RideHolds (MeetsOutside (table_of p) (lasting few j)) source 0 start (left opts j t) s n asked d.rides
+  met_next : RideHolds (BuiltOutside p (lasting few j)) source 0 start (left opts j t) s n asked d.rides
   met_next = ride_remains p formed ok within input opts range (lasting few j) (raws_last j) j w r f on tells.below.clusters q t n s asked d x.met_now
 
   so : HasMet p formed ok few.numbers few.home few.base input opts j w r

@@ -33,12 +33,13 @@ use Rattle.uc_life_laws.specs.Rooted.{IsPlace}
 use Rattle.uc_life_laws.proofs.Rooted.{within_object, things_place, stands_things}
 use Rattle.uc_life_laws.specs.Ending.{calling}
 use Rattle.uc_depth_laws.specs.Owing.{owed_waiting}
-use Rattle.uc_putting_laws.specs.CleanedSpots.{Site, Reach, apart}
+use Rattle.uc_putting_laws.specs.CleanedSpots.{Site, Reach, from_variable, apart}
 use Rattle.uc_putting_laws.specs.Calling.{CleansBy, CallingStmt, CallingStmts, CallingHandlers, Opening}
 use Rattle.uc_putting_laws.specs.Putting as putting
 use Rattle.uc_putting_laws.specs.Putting.{Setting, CodeRest, PutState}
-use Rattle.uc_putting_laws.specs.PuttingLaws.{special_of, setting_of, FoundBehind, FairAt, Fair}
+use Rattle.uc_putting_laws.specs.PuttingLaws.{special_of, setting_of, FairAt, Fair}
 use Rattle.uc_putting_laws.proofs.Steps.{here}
+use Rattle.uc_putting_laws.proofs.Walk.{HandlerFound, handler_found}
 use Rattle.uc_making_laws.specs.LettingGo.{of_object, opens_object, is_letting, WaitsBy, RunsBy, IsClosed, AllClosed, FoundClosed, IsTold, Told, LetsStack, LetsState, OpensStmt, OpensStmts, LeavesAt, LettingAt}
 use Rattle.uc_making_laws.proofs.LettingLists as lists
 use Rattle.uc_making_laws.proofs.LettingSteps as steps
@@ -88,9 +89,9 @@ module _ (g : Setting) where
   left_closed A r (piece.Guard hs ∷ todo) h = all_closed (apart r) hs h.0.1
   left_closed A r (p ∷ todo) h = tt
 
-  found_closed : (y : Option Found) (todo : List Todo) (s : State) → FoundBehind g y todo s → FoundClosed y
-  found_closed None todo s h = tt
-  found_closed (Some y) todo s h = closed (record { builds = false; low = h.low }) y.handler.body h.code
+  found_closed : (y : Option Found) → HandlerFound g y → FoundClosed y
+  found_closed None h = tt
+  found_closed (Some y) h = closed (from_variable h.0) y.handler.body h.1
 
 module _ (t : Table) (few : Few) (places : (n : Exec) (w : Value) (b : Ty) → Base few n w b → IsPlace w) where
   -- what is built or destroyed is the object of an activation that is there
@@ -240,10 +241,10 @@ module _ (p : Program) (formed : IsFormed p) (accepted : breaks_of p ≡ []) (fe
       where
         spawned : (c : ℕ) → knowing.HasObject (table_of p) few (Some c) (object_in s.run.this) → IsTold (table_of p) few (main_of (this_object s)) [] (this_object s)
         spawned c z = based_told (table_of p) few places (main_of (this_object s)) (this_object s) c z
-    on (piece.Do a ∷ todo) e life m f o h = stmt_closed (setting_of p few) (putting.OpensRest todo) put.run.made a o.0.1
+    on (piece.Do a ∷ todo) e life m f o h = stmt_closed (setting_of p few) (putting.OpensRest (table_of p) todo) put.run.made a o.0.1
     on (piece.Rest ss ∷ todo) e life m f o h = code_closed (setting_of p few) (here s) put.run.made ss todo o.0
     on (piece.Unwind ∷ todo) e life m f o h = left_closed (setting_of p few) (here s) put.run.made todo o
-    on (piece.RaiseNow ∷ todo) e life m f o h = found_closed (setting_of p few) (seek None (event_in s.run.operands) (record s.run { control = todo } ∷ s.callers)) todo s f
+    on (piece.RaiseNow ∷ todo) e life m f o h = found_closed (setting_of p few) (seek None (event_in s.run.operands) (record s.run { control = todo } ∷ s.callers)) (handler_found (setting_of p few) s put (event_in s.run.operands) todo e)
     on l e life m f o h = tt
 
     pub tells : LivesState (table_of p) few s → Meets (table_of p) few s → Fair (setting_of p few) s → LettingAt (table_of p) few (source_of p) s.run.control s

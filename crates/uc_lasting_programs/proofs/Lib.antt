@@ -8,6 +8,8 @@ pub mod CallsRuns
 pub mod Sparing
 pub mod Forgetting
 pub mod Behind
+pub mod TaskMains
+pub mod TaskEnds
 pub mod Ways
 pub mod Telling
 pub mod Numbers

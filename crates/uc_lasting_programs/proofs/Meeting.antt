@@ -41,6 +41,13 @@ use Rattle.uc_life_laws.proofs.Endings.{goes_on, ticks_on, goes_met, ticks_met}
 use Rattle.uc_life_laws.proofs.Lasting.{law_lasting}
 use Rattle.uc_request_laws.specs.Lasting.{TellsMade}
 use Rattle.uc_homed_ends.specs.HomesLeft.{KnowsReads}
+use Rattle.uc_building_laws.specs.Building.{heads_of}
+use Rattle.uc_building_laws.specs.BuildingStates.{BuiltState}
+use Rattle.uc_building_laws.specs.BuiltEndings.{BuiltOutside}
+use Rattle.uc_building_laws.specs.BuiltLasting.{FindsBuilt}
+use Rattle.uc_building_laws.proofs.BuiltEndings.{built_met}
+use Rattle.uc_building_laws.proofs.BuiltLasting.{law_built_lasting}
+use Rattle.uc_building_laws.proofs.Worlds.{lives}
 use Rattle.uc_lasting_programs.specs.Meeting.{RunHoldsAt}
 use Rattle.uc_lasting_programs.specs.Telling.{few_of}
 use Rattle.uc_lasting_programs.proofs.Numbers.{passes, meets}
@@ -98,6 +105,8 @@ module _ (p : Program) (formed : IsFormed p) (ok : breaks_of p ≡ []) (numbers 
     pub lasts : RunMeetsAt (λ i s. Meets t (lasting few i) s) source input opts j w r
     -- and what is in scope holds what is not gone
     pub lives : RunMeetsAt (λ i s. LivesState t (lasting few i) s) source input opts j w r
+    -- so do objects that are built
+    pub built : RunMeetsAt (λ i s. FindsBuilt t (heads_of p) (lasting few i) source s) source input opts j w r
 
   module _ (raws : RawsPass few) (main : MainPasses t few (t.routine source.main).this 0) (input : List ℕ) (opts : Options) (range : InRange opts) where
     -- of a run in which nobody has at hand what has gone
@@ -105,17 +114,27 @@ module _ (p : Program) (formed : IsFormed p) (ok : breaks_of p ≡ []) (numbers 
       known : AllIsKnown t (lasting few j) source j w
       known = law_lasting p formed ok few input opts range j w r f on below main so.lasts forgets
 
-      module _ (q n k : ℕ) (s : State) (asked : Asked) (d : AsksIn source opts j w q n k s asked) (h : RideHolds (MeetsOutside t (lasting few j)) source 0 (answered source d.given (drawn j w n)) (left opts j n) s k asked d.rides) where
+      module _ (q n k : ℕ) (s : State) (asked : Asked) (d : AsksIn source opts j w q n k s asked) (h : RideHolds (BuiltOutside p (lasting few j)) source 0 (answered source d.given (drawn j w n)) (left opts j n) s k asked d.rides) where
         abbrev start : State
         start = answered source d.given (drawn j w n)
 
+        abbrev Finds_built : State → Type 0
+        Finds_built v = FindsBuilt t (heads_of p) (lasting few j) source v
+
+        built_at : (v : State) (l : Leads source start v) → LeadsMeet Finds_built source start v l → BuiltState t (heads_of p) (lasting few j) [] v
+        built_at v l m = law_built_lasting p formed ok few input opts range j w r f on below main so.built forgets n v (record { given = d.given; processor = q; runs = d.runs; told = d.told; leads = l }) m
+
+        pub ride_built : RideMeets Finds_built source start (left opts j n) s k asked d.rides
+        ride_built =
+            endings.ride_met t (lasting few j) source (λ c o h. raws c o (passes t numbers home base j c o h)) Finds_built (BuiltOutside p (lasting few j)) (built_met p formed ok (lasting few j)) start (λ v l m. lives p formed ok (lasting few j) v (built_at v l m)) rooms.stays tt 0 d.rides h tt
+
         pub ride_lasts : RideMeets (Meets t (lasting few j)) source start (left opts j n) s k asked d.rides
         ride_lasts =
-            endings.ride_met t (lasting few j) source (λ c o h. raws c o (passes t numbers home base j c o h)) (Meets t (lasting few j)) (MeetsOutside t (lasting few j)) (endings.met t (lasting few j)) start (λ v l. known.lives n v (record { given = d.given; processor = q; runs = d.runs; told = d.told; leads = l })) rooms.stays tt 0 d.rides h tt
+            ride_turned Finds_built (Meets t (lasting few j)) source start (λ v l m h. λ x. let y = h (built_at v l m) in (lives p formed ok (lasting few j) v y.0, (y.1, y.2))) rooms.stays tt d.rides ride_built
 
         pub ride_lives : RideMeets (LivesState t (lasting few j)) source start (left opts j n) s k asked d.rides
         ride_lives =
-            ride_turned (Meets t (lasting few j)) (LivesState t (lasting few j)) source start (λ v l m h. known.lives n v (record { given = d.given; processor = q; runs = d.runs; told = d.told; leads = l }) m) rooms.stays tt d.rides ride_lasts
+            ride_turned Finds_built (LivesState t (lasting few j)) source start (λ v l m h. lives p formed ok (lasting few j) v (built_at v l m)) rooms.stays tt d.rides ride_built
 
         pub ride_all : RideMeets (Meets t few) source start (left opts j n) s k asked d.rides
         ride_all =
@@ -123,14 +142,14 @@ module _ (p : Program) (formed : IsFormed p) (ok : breaks_of p ≡ []) (numbers 
 
     -- act by act, where what is left of runs shows of each that nobody has at hand what has gone
     module _ (Left : (j : Journal) (w : World) → Runs source input opts j w → Type 0) (shorter : (j : Journal) (w : World) (a : List Entry) (v : World) (r : Runs source input opts j w) (on : is_over j ≡ false) (m : May source opts input j w a v) → Left (j ++ a) v (more r on m) → Left j w r) (forgets : (j : Journal) (w : World) (r : Runs source input opts j w) → RunFits source input opts j w r → is_over j ≡ false → PassesBelow few opts j → HasMet input opts j w r → Left j w r → RunForgets t few source input opts j w r) where
-      pub run_met : {j : Journal} {w : World} (r : Runs source input opts j w) → RunFits source input opts j w r → PassesBelow few opts j → RunHoldsAt (λ i. MeetsOutside t (lasting few i)) source input opts j w r → Left j w r → HasMet input opts j w r
-      run_met begun f below h x = record { all = tt; lasts = tt; lives = tt }
+      pub run_met : {j : Journal} {w : World} (r : Runs source input opts j w) → RunFits source input opts j w r → PassesBelow few opts j → RunHoldsAt (λ i. BuiltOutside p (lasting few i)) source input opts j w r → Left j w r → HasMet input opts j w r
+      run_met begun f below h x = record { all = tt; lasts = tt; lives = tt; built = tt }
       run_met (more {j} {w} {a} {w' = v} r on (gives q n s le)) f below h x =
           let so = run_met r f.0 (earlier few opts j a below) h.0 (shorter j w a v r on (gives q n s le) x) in
-          record { all = (so.all, tt); lasts = (so.lasts, tt); lives = (so.lives, tt) }
+          record { all = (so.all, tt); lasts = (so.lasts, tt); lives = (so.lives, tt); built = (so.built, tt) }
       run_met (more {j} {w} {a} {w' = v} r on (no_room q n s le)) f below h x =
           let so = run_met r f.0 (earlier few opts j a below) h.0 (shorter j w a v r on (no_room q n s le) x) in
-          record { all = (so.all, tt); lasts = (so.lasts, tt); lives = (so.lives, tt) }
+          record { all = (so.all, tt); lasts = (so.lasts, tt); lives = (so.lives, tt); built = (so.built, tt) }
       run_met (more {j} {w} {a} {w' = v} r on (acts q n k s asked d)) f below h x =
           let l = shorter j w a v r on (acts q n k s asked d) x in
           let e = earlier few opts j a below in
@@ -140,6 +159,7 @@ module _ (p : Program) (formed : IsFormed p) (ok : breaks_of p ≡ []) (numbers 
             all = (so.all, ride_all j w r f.0 on e g so q n k s asked d h.1);
             lasts = (so.lasts, ride_lasts j w r f.0 on e g so q n k s asked d h.1);
             lives = (so.lives, ride_lives j w r f.0 on e g so q n k s asked d h.1);
+            built = (so.built, ride_built j w r f.0 on e g so q n k s asked d h.1);
           }
 
     -- all is known then in each state, so each step finds what it reads

@@ -66,9 +66,11 @@ use Rattle.uc_rooted_runs.specs.Makers.{Makers}
 use Rattle.uc_rooted_runs.specs.Binds.{BindsOwn}
 use Rattle.uc_rooted_runs.specs.Mains.{CallsNoMain, FindsAll}
 use Rattle.uc_rooted_runs.specs.OutlastRuns.{run_made}
-use Rattle.uc_rooted_runs.specs.Still.{way_still}
+use Rattle.uc_rooted_runs.specs.Still.{run_still, way_still}
+use Rattle.uc_rooted_runs.specs.TaskMains.{BeginsNone}
+use Rattle.uc_rooted_runs.proofs.TaskMainRuns.{law_task_mains}
 use Rattle.uc_parts_laws.proofs.PartsRuns.{law_kept_parts, law_parts_runs}
-use Rattle.uc_parts_laws.proofs.Naming.{law_naming}
+use Rattle.uc_parts_laws.proofs.Naming.{ride_before, law_naming}
 use Rattle.uc_making_laws.specs.RideWhile.{RideWhile}
 use Rattle.uc_making_laws.specs.BeforeRides.{RaisesUpwards}
 use Rattle.uc_making_laws.specs.ForgetsThis.{GoesBy, RunGoes, IsLeftNowhere}
@@ -83,6 +85,8 @@ use Rattle.uc_lasting_programs.proofs.CallsRuns.{IsKnownThere, ride_calls, law_c
 use Rattle.uc_lasting_programs.proofs.Asking.{law_asked_at}
 use Rattle.uc_lasting_programs.proofs.Behind.{behind}
 use Rattle.uc_lasting_programs.proofs.Finding.{ride_map, ride_found, law_finding}
+use Rattle.uc_lasting_programs.proofs.TaskEnds.{run_ends}
+use Rattle.uc_lasting_programs.proofs.TaskMains.{begins_none}
 use Rattle.uc_lasting_programs.proofs.Sparing.{run_spares, ride_spares}
 
 module _ (p : Program) (formed : IsFormed p) (ok : breaks_of p ≡ []) (few : Few) (own : Exec → Value → Ty → Bool) (yet : Exec → List Active → Value → Ty → Bool) (places : (n : Exec) (w : Value) (b : Ty) → Base few n w b → IsPlace w) (zero : (n : Exec) → Belongs few n (few.home 0) → ⊥) (mine : (z : Value) (b : Ty) → Base few (main_of 0) z b → own (main_of 0) z b ≡ true) where
@@ -95,7 +99,7 @@ module _ (p : Program) (formed : IsFormed p) (ok : breaks_of p ≡ []) (few : Fe
   abbrev g : Setting
   g = setting_of p few
 
-  code : (n : ℕ) → CodeRoutine (setting_of p few) (special_of p n) (slice_get (source_of p).routines n)
+  code : (n : ℕ) → CodeRoutine (setting_of p few) (special_of p n) ((table_of p).routine n).this (slice_get (source_of p).routines n)
   code = code_of p formed ok few
 
   -- along a ride: of operands it is known what is the execution's own, and all that the state can come by is known
@@ -110,6 +114,12 @@ module _ (p : Program) (formed : IsFormed p) (ok : breaks_of p ≡ []) (few : Fe
   ride_known (goes_on {s} e r) m f = (f s way.stays tt, ride_known r m.1 (λ x l y. f x (way.goes e l) (m.0, y)))
   ride_known (ticks {s} e r) m f = (f s way.stays tt, ride_known r m.1 (λ x l y. f x (way.ticks e l) (m.0, y)))
   ride_known (asks {s} e) m f = f s way.stays tt
+
+  ride_begins : {s u : State} {q k : ℕ} {a : Asked} (r : Rides (source_of p) s q u k a) → RideMeets (IsKnownThere p few) (source_of p) s q u k a r → RideMeets (CallsNoMain (source_of p)) (source_of p) s q u k a r → RideMeets (BeginsNone (source_of p)) (source_of p) s q u k a r
+  ride_begins slices h c = tt
+  ride_begins (goes_on {s} e r) h c = (begins_none p formed ok few s h.0.knows c.0, ride_begins r h.1 c.1)
+  ride_begins (ticks {s} e r) h c = (begins_none p formed ok few s h.0.knows c.0, ride_begins r h.1 c.1)
+  ride_begins (asks {s} e) h c = begins_none p formed ok few s h.knows c
 
   module _ (j : Journal) (w : World) (u : ℕ) where
     -- what is told of a state on the way, and what else holds there
@@ -132,6 +142,16 @@ module _ (p : Program) (formed : IsFormed p) (ok : breaks_of p ≡ []) (few : Fe
   Upwards j w u makers v = RaisesUpwards (table_of p) few own yet makers.rank j w u v
 
   module _ (input : List ℕ) (opts : Options) (range : InRange opts) (first : MainPasses (table_of p) few ((table_of p).routine (source_of p).main).this 0) where
+    -- no coroutine begins with the main of a task, and none is called
+    run_begins : (j : Journal) (w : World) (r : Runs (source_of p) input opts j w) → RunFits (source_of p) input opts j w r → is_over j ≡ false → PassesBelow few opts j → RunMeets (Meets (table_of p) few) (source_of p) input opts j w r → RunMeets (CallsNoMain (source_of p)) (source_of p) input opts j w r → RunMeets (BeginsNone (source_of p)) (source_of p) input opts j w r
+    run_begins _ _ begun fits on below met calls = tt
+    run_begins _ _ (more {j} {w} {a} r o (gives q u s le)) fits on below met calls = (run_begins j w r fits.0 o (earlier few opts j a below) met.0 calls.0, tt)
+    run_begins _ _ (more {j} {w} {a} r o (no_room q u s le)) fits on below met calls = (run_begins j w r fits.0 o (earlier few opts j a below) met.0 calls.0, tt)
+    run_begins _ _ (more {j} {w} {a} r o (acts q u n s asked d)) fits on below met calls =
+        let before = earlier few opts j a below in
+        let known : AllIsKnown (table_of p) few (source_of p) j w = law_known_runs p formed ok few input opts range j w r fits.0 o before first met.0 in
+        (run_begins j w r fits.0 o before met.0 calls.0, ride_begins d.rides (ride_known d.rides met.1 (λ v l y. let c : way.Comes (source_of p) j w u v = record { given = d.given; processor = q; runs = d.runs; told = d.told; leads = l } in record { knows = known.comes u v c y; life = known.lives u v c y })) calls.1)
+
     -- behind a run in which nobody else has at hand what is let go of
     told : (j : Journal) (w : World) (r : Runs (source_of p) input opts j w) → RunFits (source_of p) input opts j w r → is_over j ≡ false → PassesBelow few opts j → RunMeets (Meets (table_of p) few) (source_of p) input opts j w r → RunMeets (Fair (setting_of p few)) (source_of p) input opts j w r → RunMeets (ReadsOthers few) (source_of p) input opts j w r → RunMeets (StepApart (table_of p) few (source_of p)) (source_of p) input opts j w r → (q u n : ℕ) (s : State) (asked : Asked) (d : AsksIn (source_of p) opts j w q u n s asked) → RideMeets (Meets (table_of p) few) (source_of p) (answered (source_of p) d.given (drawn j w u)) (left opts j u) s n asked d.rides → RideMeets (Fair (setting_of p few)) (source_of p) (answered (source_of p) d.given (drawn j w u)) (left opts j u) s n asked d.rides → RideMeets (ReadsOthers few) (source_of p) (answered (source_of p) d.given (drawn j w u)) (left opts j u) s n asked d.rides → (k : IsKeptTo (table_of p) few own yet (source_of p) input opts j w r q u n s asked d) → RideMeets (Told j w u (Upwards j w u (way_makers (source_of p) input opts r d))) (source_of p) (answered (source_of p) d.given (drawn j w u)) (left opts j u) s n asked d.rides
     told j w r fits on below met fair reads apart q u n s asked d meets fairs names k =
@@ -157,7 +177,7 @@ module _ (p : Program) (formed : IsFormed p) (ok : breaks_of p ≡ []) (few : Fe
           spawned = subst (λ m. RunSpawnsLater m source input opts j w r) birth.1 birth.0.spawned;
           rides = subst (λ m. RideMeets (MakesLater source m) source (answered source d.given (drawn j w u)) (left opts j u) s n asked d.rides) birth.1 birth.0.rides;
         } in
-        let before = law_before_rides (table_of p) few own yet (source_of p) input opts j w r range fits on zero mine (run_leaves p formed ok input opts range r fits lone) (run_spares p formed ok few input opts range r fits lone fair reads) (law_finding.runs_bind p formed ok few input opts range j w r fits fair) found.calls found.finds (law_runs.runs p formed ok few input opts range j w r fits fair) (law_calls_runs.runs p formed ok few places input opts range j w r fits below first met fair).0 q u n s asked d (ride_map (put.Stands p (setting_of p few)) (BindsOwn (source_of p)) (λ v x. law_finding.binds few (source_of p) v (law_own_places.states (setting_of p few) v x.put)) d.rides stands) (ride_map (λ v. FindsAll (source_of p) v × CallsNoMain (source_of p) v) (CallsNoMain (source_of p)) (λ v x. x.1) d.rides finds) (ride_map (λ v. FindsAll (source_of p) v × CallsNoMain (source_of p) v) (FindsAll (source_of p)) (λ v x. x.0) d.rides finds) (ride_map (put.Stands p (setting_of p few)) (Puts (table_of p) few) (λ v x. law_puts (setting_of p few) v x.put) d.rides stands) (ride_calls p formed ok few places d.rides meets fairs there begins) births homes (law_kept_parts.runs (source_of p) (special_of p) births.makers homes (way_still (source_of p) input opts r d) input opts j w r (law_parts_runs.runs p formed ok homes input opts range j w r fits (λ o. refl)) births.made births.spawned (law_naming.runs (source_of p) births.makers homes input opts j w r q u n s asked d k.kept)) (law_kept_parts.ride (source_of p) (special_of p) births.makers homes (way_still (source_of p) input opts r d) (run_made (source_of p) input opts r) d.rides (law_parts_runs.rides p formed ok homes input opts range j w r fits (λ o. refl) on q u n s asked d) births.rides (law_naming.ride (source_of p) births.makers homes input opts j w r q u n s asked d k.keeps)) k.rooted in
+        let before = law_before_rides (table_of p) few own yet (source_of p) input opts j w r range fits on zero mine (run_leaves p formed ok input opts range r fits lone) (run_spares p formed ok few input opts range r fits lone fair reads) (law_finding.runs_bind p formed ok few input opts range j w r fits fair) found.calls found.finds (law_runs.runs p formed ok few input opts range j w r fits fair) (law_calls_runs.runs p formed ok few places input opts range j w r fits below first met fair).0 q u n s asked d (ride_map (put.Stands p (setting_of p few)) (BindsOwn (source_of p)) (λ v x. law_finding.binds few (source_of p) v (law_own_places.states (setting_of p few) v x.put)) d.rides stands) (ride_map (λ v. FindsAll (source_of p) v × CallsNoMain (source_of p) v) (CallsNoMain (source_of p)) (λ v x. x.1) d.rides finds) (ride_map (λ v. FindsAll (source_of p) v × CallsNoMain (source_of p) v) (FindsAll (source_of p)) (λ v x. x.0) d.rides finds) (ride_map (put.Stands p (setting_of p few)) (Puts (table_of p) few) (λ v x. law_puts (setting_of p few) v x.put) d.rides stands) (ride_calls p formed ok few places d.rides meets fairs there begins) births homes (law_kept_parts.runs (source_of p) (special_of p) births.makers homes (way_still (source_of p) input opts r d) input opts j w r (law_parts_runs.runs p formed ok homes input opts range j w r fits (λ o. refl)) births.made births.spawned (law_naming.runs (source_of p) births.makers homes input opts j w r q u n s asked d k.kept)) (run_ends p formed ok input opts range births.makers homes (way_still (source_of p) input opts r d) r fits lone (law_task_mains.runs (source_of p) input opts j w r (run_begins j w r fits on below met found.calls)) found.finds on births.made births.spawned (λ x e. ride_before (source_of p) (run_still (source_of p) input opts r) d.rides x e)) (law_kept_parts.ride (source_of p) (special_of p) births.makers homes (way_still (source_of p) input opts r d) (run_made (source_of p) input opts r) d.rides (law_parts_runs.rides p formed ok homes input opts range j w r fits (λ o. refl) on q u n s asked d) births.rides (law_naming.ride (source_of p) births.makers homes input opts j w r q u n s asked d k.keeps)) k.rooted in
         ride_told j w u (Upwards j w u (way_makers (source_of p) input opts r d)) d.rides before (ride_spares p formed ok few input opts range r fits lone fair reads on q u n s asked d fairs names) (ride_known d.rides meets there)
 
     along : (j : Journal) (w : World) (r : Runs (source_of p) input opts j w) → RunFits (source_of p) input opts j w r → is_over j ≡ false → PassesBelow few opts j → RunMeets (Meets (table_of p) few) (source_of p) input opts j w r → RunMeets (Fair (setting_of p few)) (source_of p) input opts j w r → RunMeets (ReadsOthers few) (source_of p) input opts j w r → RunMeets (StepApart (table_of p) few (source_of p)) (source_of p) input opts j w r → (q u n : ℕ) (s : State) (asked : Asked) (d : AsksIn (source_of p) opts j w q u n s asked) → RideMeets (Meets (table_of p) few) (source_of p) (answered (source_of p) d.given (drawn j w u)) (left opts j u) s n asked d.rides → RideMeets (Fair (setting_of p few)) (source_of p) (answered (source_of p) d.given (drawn j w u)) (left opts j u) s n asked d.rides → RideMeets (ReadsOthers few) (source_of p) (answered (source_of p) d.given (drawn j w u)) (left opts j u) s n asked d.rides → (k : IsKeptTo (table_of p) few own yet (source_of p) input opts j w r q u n s asked d) → RideMeets (StepApart (table_of p) few (source_of p)) (source_of p) (answered (source_of p) d.given (drawn j w u)) (left opts j u) s n asked d.rides × RideMeets (Upwards j w u (way_makers (source_of p) input opts r d)) (source_of p) (answered (source_of p) d.given (drawn j w u)) (left opts j u) s n asked d.rides

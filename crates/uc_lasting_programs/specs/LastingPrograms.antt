@@ -35,6 +35,7 @@ use Rattle.uc_homed_ends.specs.HomesLeft.{Homes}
 use Rattle.uc_owner_laws.specs.Owners.{OutOfScope}
 use Rattle.uc_making_laws.specs.NoOthers.{NoThis}
 use Rattle.uc_homed_ends.specs.Ended.{Loads}
+use Rattle.uc_building_laws.specs.Building.{heads_of}
 use Rattle.uc_lasting_programs.specs.Meeting.{RunHoldsAt}
 use Rattle.uc_lasting_programs.specs.Remaining.{LeftOutside}
 use Rattle.uc_lasting_programs.specs.Telling.{few_of}
@@ -58,8 +59,8 @@ pub record IsLeftFor (p : Program) (input : List ℕ) (opts : Options) (j : Jour
   pub own : Exec → Value → Ty → Bool
   pub yet : Exec → List Active → Value → Ty → Bool
   -- each step finds what it is to find where what is gone has no number any more, but where a clean-up finds and reads the variable that it ends
-  pub met : RunHoldsAt (λ i. LeftOutside (table_of p) (lasting (few_of p input opts j w r base) i)) (source_of p) input opts j w r
-  pub met_now : RideHolds (LeftOutside (table_of p) (lasting (few_of p input opts j w r base) j)) (source_of p) 0 (answered (source_of p) d.given (drawn j w t)) (left opts j t) s n asked d.rides
+  pub met : RunHoldsAt (λ i. LeftOutside (table_of p) (heads_of p) (lasting (few_of p input opts j w r base) i)) (source_of p) input opts j w r
+  pub met_now : RideHolds (LeftOutside (table_of p) (heads_of p) (lasting (few_of p input opts j w r base) j)) (source_of p) 0 (answered (source_of p) d.given (drawn j w t)) (left opts j t) s n asked d.rides
   -- what is left so that on the way to what is asked nobody else has at hand what is let go of, and what executions have of others stands upwards where
   -- an event is raised
   pub ways : RunKeepsTo (table_of p) (few_of p input opts j w r base) (with_first own) yet (source_of p) input opts r
@@ -67,8 +68,7 @@ pub record IsLeftFor (p : Program) (input : List ℕ) (opts : Options) (j : Jour
   pub reads_now : RideMeets (ReadsOthers (few_of p input opts j w r base)) (source_of p) (answered (source_of p) d.given (drawn j w t)) (left opts j t) s n asked d.rides
   -- what is left so that nobody has at hand what has gone: no step reads the name of the running execution in what is not its own
   pub reads : RunMeets (ReadsOthers (few_of p input opts j w r base)) (source_of p) input opts j w r
-  -- objects that fields and elements hold as they end are at home there, and handlers of resumptions have their variables behind those in which fields stand
-  -- that are still to be cleaned up
+  -- objects that fields and elements hold as they end are at home there
   pub rest : RunMeets (Homes (setting_of p (few_of p input opts j w r base))) (source_of p) input opts j w r
   pub rest_now : RideMeets (Homes (setting_of p (few_of p input opts j w r base))) (source_of p) (answered (source_of p) d.given (drawn j w t)) (left opts j t) s n asked d.rides
   -- what is loaded from fields and elements to be destroyed is not gone

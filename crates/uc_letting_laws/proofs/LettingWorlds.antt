@@ -160,13 +160,13 @@ module _ (part : ℕ → Part) (source : Source) (entered : EnteredSource source
 
 -- tasks at rest, behind what they asked last
 
-abbrev Rests : (source : Source) (news : Tests) → Request → State → Type 0
+abbrev pub Rests : (source : Source) (news : Tests) → Request → State → Type 0
 Rests source news ask.End s = ⊥
 Rests source news (ask.Fault n) s = ⊥
 Rests source news r s = DeepAsk source news r s
 
 -- an object that was called is not where the execution is at home that called it, and one that was asked for is of no task yet
-abbrev Brings : ℕ → Journal → Request → Home → Type 0
+abbrev pub Brings : ℕ → Journal → Request → Home → Type 0
 Brings u j (ask.Call o m) h = h ≡ home.Object o → ⊥
 Brings u j (ask.Make c) h = (o : ℕ) → just_made u j ≡ o ∷ [] → is_fresh u j o ≡ true
 Brings u j r h = Unit {0}

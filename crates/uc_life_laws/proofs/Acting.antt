@@ -525,4 +525,4 @@ law_claims Q kept = record {
 }
 
 pub law_kinds : LawKinds
-law_kinds told = law_claims (IsTold told) (record { written = λ n gs x d k v h. h; linked = λ n gs x l h. h; unwound = λ n gs x why h. h })
+law_kinds told = law_claims (IsTold told) (record { written = λ n gs x d k v h. h; linked = λ n gs x l h. h; unwound = λ n gs x why other h. h })

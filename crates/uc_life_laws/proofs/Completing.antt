@@ -90,7 +90,7 @@ module _ (source : Source) (w : Seat) (ps : List Placed) (n : Exec) where
   parts a (b ∷ older) p h = left a b older (taken b older b.control h) a.control p
 
   begun : (a : Active) (cs : List Active) (l : List Todo) → IsSetUp source w ps n a cs l → SoonIn source w ps n 1 (record a { control = l }) cs
-  begun a cs (piece.Rest (src.Built src.Forgets rest) ∷ todo) h = (tt, more_placed ps a.frame a.this todo (stacked cs) (outermost_ends ps cs h.1), λ e q. (q, inl h))
+  begun a cs (piece.Rest (src.Built src.Forgets rest) ∷ todo) h = (tt, more_placed ps a.frame a.this todo (stacked cs) (outermost_ends ps cs h.2), λ e q. (q, inl ((h.0, h.1), h.2)))
   begun a cs l h = absurd h
 
 pub law_completing : LawCompleting

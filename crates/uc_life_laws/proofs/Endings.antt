@@ -199,7 +199,7 @@ module _ (t : Table) (few : Few) where
   opens K (suc (suc (suc zero))) s h = subst (λ l. OpensAtBy t few K l s) (sym h.3) tt
   opens K (suc (suc (suc (suc n)))) s h = absurd h
 
-  finds : (n : ℕ) (s : State) (x : LivesState t few s) → Ending (suc n) s → Finds t few x.0.sigs x.0.run.sig x.0.run.scope s s.run.control x.0.run.own
+  pub finds : (n : ℕ) (s : State) (x : LivesState t few s) → Ending (suc n) s → Finds t few x.0.sigs x.0.run.sig x.0.run.scope s s.run.control x.0.run.own
   finds zero s x h =
       subst (λ l. Finds t few x.0.sigs x.0.run.sig x.0.run.scope s l x.0.run.own) (sym h.3) (place x.0.sigs x.0.run.sig x.0.run.base x.0.run.scope s h.0 h.1 h.2 x.0.run.own (subst (λ l. Ok t x.0.run.sig x.0.run.base x.0.run.scope l x.0.run.own) h.3 x.0.run.ok) h.4 h.5)
   finds (suc zero) s x h = subst (λ l. Finds t few x.0.sigs x.0.run.sig x.0.run.scope s l x.0.run.own) (sym h.3) (λ a y. tt)
@@ -306,14 +306,14 @@ made_endings p formed accepted input opts range j w r fits on outside =
 
 -- where numbers are not tested
 
-there_opens : (t : Table) (few : Few) (code : Source) (n : ℕ) (s : State) → Ending t few (suc n) s → there.Opens code s
+pub there_opens : (t : Table) (few : Few) (code : Source) (n : ℕ) (s : State) → Ending t few (suc n) s → there.Opens code s
 there_opens t few code zero s h = subst (λ l. there.OpensAt code l s) (sym h.3) tt
 there_opens t few code (suc zero) s h = subst (λ l. there.OpensAt code l s) (sym h.3) tt
 there_opens t few code (suc (suc zero)) s h = subst (λ l. there.OpensAt code l s) (sym h.3) tt
 there_opens t few code (suc (suc (suc zero))) s h = subst (λ l. there.OpensAt code l s) (sym h.3) tt
 there_opens t few code (suc (suc (suc (suc n)))) s h = absurd h
 
-no_scope : {A : Type 0} (t : Table) (few : Few) (n : ℕ) (s : State) → Ending t few (suc n) s → (c : CleanUp) (rest : Stmts) (todo : List Todo) → s.run.control ≡ Rest (Scoped c rest) ∷ todo → A
+pub no_scope : {A : Type 0} (t : Table) (few : Few) (n : ℕ) (s : State) → Ending t few (suc n) s → (c : CleanUp) (rest : Stmts) (todo : List Todo) → s.run.control ≡ Rest (Scoped c rest) ∷ todo → A
 no_scope t few zero s h c rest todo e = let q : LoadNow ∷ behind_end h.0 h.2 ≡ Rest (Scoped c rest) ∷ todo = sym h.3 ∙ e in absurd (cc)
 no_scope t few (suc zero) s h c rest todo e = let q : Eval (Variable h.1) ∷ (LoadNow ∷ behind_end h.0 h.2) ≡ Rest (Scoped c rest) ∷ todo = sym h.3 ∙ e in absurd (cc)
 no_scope t few (suc (suc zero)) s h c rest todo e = let q : Eval (Load (Variable h.1)) ∷ behind_end h.0 h.2 ≡ Rest (Scoped c rest) ∷ todo = sym h.3 ∙ e in absurd (cc)
@@ -324,8 +324,7 @@ objects_met : (t : Table) (code : Source) (n : ℕ) (s : State) → ObjectsOutsi
 objects_met t code zero s m h = m
 objects_met t code (suc n) s m h = record {
   opens = there_opens t any code n s h;
-  objects = λ c rest todo e. no_scope t any n s h c rest todo e;
-  finds = λ x. (x, finds t any n s x h);
+  finds = λ x. (x, (finds t any n s x h, λ c rest todo e. no_scope t any n s h c rest todo e));
 }
 
 module _ (p : Program) (formed : IsFormed p) (accepted : breaks_of p ≡ []) (input : List ℕ) (opts : Options) (range : InRange opts) where

@@ -194,7 +194,7 @@ module _ (t : Table) (few : Few) (numbers : Ty → ℕ → Bool) where
     frames_fewer (g ∷ gs) [] cs l h = absurd h
     frames_fewer (g ∷ gs) (f ∷ fs) [] l h = absurd h
 
-    top_frames : (gs : List Sig) (fs : List (List Value)) (c : Active) (cs : List Active) → Lasts t few numbers (AtHand t few n (others gs) cs) → KnownFrames t few n gs fs (c ∷ cs) → KnownFrames t less n gs fs (c ∷ cs)
+    pub top_frames : (gs : List Sig) (fs : List (List Value)) (c : Active) (cs : List Active) → Lasts t few numbers (AtHand t few n (others gs) cs) → KnownFrames t few n gs fs (c ∷ cs) → KnownFrames t less n gs fs (c ∷ cs)
     top_frames (g ∷ gs) (f ∷ fs) c cs l h = (params_fewer (AtHand t few n gs cs) l g.params f h.0, frames_fewer gs fs cs l h.1)
     top_frames [] [] c cs l h = absurd h
     top_frames [] (f ∷ fs) c cs l h = absurd h
@@ -224,7 +224,7 @@ module _ (t : Table) (few : Few) (numbers : Ty → ℕ → Bool) where
       ends = k.ends;
     }
 
-    waits_fewer : (gs : List Sig) (cs : List Active) → Lasts t few numbers (AtHand t few n gs cs) → KnowsWaits t few n gs cs → KnowsWaits t less n gs cs
+    pub waits_fewer : (gs : List Sig) (cs : List Active) → Lasts t few numbers (AtHand t few n gs cs) → KnowsWaits t few n gs cs → KnowsWaits t less n gs cs
     waits_fewer gs [] l h = tt
     waits_fewer gs (c ∷ cs) l h =
         (active_fewer gs (Num ∷ []) cs c h.0 (older gs c cs l) (inl l), waits_fewer (others gs) cs (older gs c cs l) h.1)
@@ -318,10 +318,10 @@ module _ (t : Table) (few : Few) (numbers : Ty → ℕ → Bool) where
     by_fewer Q R turns Ended x k l = tt
 
   module _ (keeps : KeepsOthers t few numbers) where
-    slot_claims : (Q R : Exec → List Sig → Ex → Type 0) → Turns Q R → (n : Exec) (x : Ex) → ClaimsSlot t few Q n x → ExLasts t few numbers n x → ClaimsSlot t less R n x
+    pub slot_claims : (Q R : Exec → List Sig → Ex → Type 0) → Turns Q R → (n : Exec) (x : Ex) → ClaimsSlot t few Q n x → ExLasts t few numbers n x → ClaimsSlot t less R n x
     slot_claims Q R turns n x k l = by_fewer keeps n Q R turns x.links.stage x k l
 
-    env_claims : (Q R : Exec → List Sig → Ex → Type 0) → Turns Q R → (e : Env) → ClaimsEnv t few Q e → EnvBy (ExLasts t few numbers) e → ClaimsEnv t less R e
+    pub env_claims : (Q R : Exec → List Sig → Ex → Type 0) → Turns Q R → (e : Env) → ClaimsEnv t few Q e → EnvBy (ExLasts t few numbers) e → ClaimsEnv t less R e
     env_claims Q R turns e k l = both_env (ClaimsSlot t few Q) (ExLasts t few numbers) (ClaimsSlot t less R) (λ n x h i. slot_claims Q R turns n x h i) e k l
 
     pub env_fewer : (e : Env) → EnvBy (KnowsSlot t few) e → EnvBy (ExLasts t few numbers) e → EnvBy (KnowsSlot t less) e
@@ -436,7 +436,7 @@ module _ (t : Table) (few : Few) (numbers : Ty → ℕ → Bool) where
     }
     lives_fewer n gs x same h (inr l) = record { frames = h.frames; stack = stack_blank keeps (OutwardsOrMade gs) n x.frames (x.run ∷ x.callers) l.frames h.stack }
 
-    running_lives : (n : Exec) (gs : List Sig) (x : Ex) → length x.frames ≡ length gs → Lives t few n gs x → Lasts t few numbers (AtHand t few n (others gs) x.callers) → Lasts t few numbers (AtHand t few n gs (x.run ∷ x.callers)) ⊎ AllSilent x.run.control → Lives t less n gs x
+    pub running_lives : (n : Exec) (gs : List Sig) (x : Ex) → length x.frames ≡ length gs → Lives t few n gs x → Lasts t few numbers (AtHand t few n (others gs) x.callers) → Lasts t few numbers (AtHand t few n gs (x.run ∷ x.callers)) ⊎ AllSilent x.run.control → Lives t less n gs x
     running_lives n gs x same h w (inl l) = lives_fewer n gs x same h (inl l)
     running_lives n gs x same h w (inr s) = record {
       frames = h.frames;

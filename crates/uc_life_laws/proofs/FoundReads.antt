@@ -22,9 +22,9 @@ use Rattle.uc_state_laws.specs.RoomRuns.{Comes}
 use Rattle.uc_name_laws.specs.Below.{IsNamed}
 use Rattle.uc_life_laws.specs.NamedRuns.{ComesNamed}
 use Rattle.uc_life_laws.specs.Things.{Few, numbered, is_outside, Within, itself, field, element, AtVariable, AtField, IsFor, Marks, InTodo, InStack, NoBase, Base, Things, OwnFields, LiesIn, IsFew, Known, Holds, Held, lies}
-use Rattle.uc_life_laws.specs.LifeStates.{frame_at, Outwards, OpensAt}
+use Rattle.uc_life_laws.specs.LifeStates.{frame_at, Outwards, OpensAtBy}
 use Rattle.uc_life_laws.specs.Opened.{ObjectsHold}
-use Rattle.uc_life_laws.specs.Lives.{LivesState}
+use Rattle.uc_life_laws.specs.Lives.{OutwardsOrMade, LivesState}
 use Rattle.uc_life_laws.specs.Knowing.{IsOwn, Here, ReadsKnown, IsStill, FindsObject, FindsExpr, Finds, HasObject}
 use Rattle.uc_life_laws.proofs.Reading.{exec_is}
 use Rattle.uc_life_laws.proofs.LifeSteps.{exec_same}
@@ -158,7 +158,7 @@ module _ (t : Table) (numbers : Ty → ℕ → Bool) where
   has_object (Some c) o = inl (lies refl itself)
 
   -- what lies outside is a thing
-  outside_thing : (n : Exec) (cs : List Active) (w : Value) (a : Ty) → is_outside n w ≡ true → Things t few n cs w a
+  pub outside_thing : (n : Exec) (cs : List Active) (w : Value) (a : Ty) → is_outside n w ≡ true → Things t few n cs w a
   outside_thing n [] w a h = h
   outside_thing n (c ∷ older) w a h = inr (outside_thing n older w a h)
 
@@ -201,20 +201,21 @@ module _ (t : Table) (numbers : Ty → ℕ → Bool) where
     right_known Clu v r = record { is = r.is; passes = r.passes; rooted = λ k. absurd k; held = λ m. absurd m; seated = λ k. absurd k }
     right_known Pro v r = record { is = r.is; passes = r.passes; rooted = λ k. absurd k; held = λ m. absurd m; seated = λ k. absurd k }
 
-    right_holds : (o : Owner) (vs : List Value) (w : Value) (a : Ty) → HoldsRight t few n K o vs w a → Holds t few n K o vs w a
+    pub right_holds : (o : Owner) (vs : List Value) (w : Value) (a : Ty) → HoldsRight t few n K o vs w a → Holds t few n K o vs w a
     right_holds o vs w a h p b y i = right_known b (slice_index_or vs (address p) nought) (h p b y i)
 
   -- so a scope opens where what it is of holds what is known
   module _ (s : State) where
-    outwards : (c : CleanUp) (todo : List Todo) (w : Value) (a : Ty) → is_outside s.env.exec w ≡ true → Outwards t few s.env.exec s.run.frame s.run.this s.callers c todo w a
-    outwards c todo w a h = inr (inl (outside_thing s.env.exec s.callers w a h))
+    module _ (gs : List Sig) where
+      abbrev Behind : CleanUp → List Todo → Value → Ty → Type 0
+      Behind c todo = OutwardsOrMade gs (Outwards t few s.env.exec s.run.frame s.run.this s.callers c todo) s.env.exec s.run.frame s.run.this s.callers
 
-    variable_holds : (c : CleanUp) (todo : List Todo) (k : ℕ) (a : Ty) → VariableRight t few c todo s k a → Holds t few s.env.exec (Outwards t few s.env.exec s.run.frame s.run.this s.callers c todo) (Frame s.env.exec s.run.frame) (frame_at s.run.frame s.env.frames) (Place (Frame s.env.exec s.run.frame) (Slot k ∷ [])) a
-    variable_holds c todo k a h = right_holds s.env.exec (Outwards t few s.env.exec s.run.frame s.run.this s.callers c todo) (outwards c todo) (Frame s.env.exec s.run.frame) (frame_at s.run.frame s.env.frames) (Place (Frame s.env.exec s.run.frame) (Slot k ∷ [])) a h
+      variable_holds : (c : CleanUp) (todo : List Todo) (k : ℕ) (a : Ty) → VariableRight t few gs c todo s k a → Holds t few s.env.exec (Behind c todo) (Frame s.env.exec s.run.frame) (frame_at s.run.frame s.env.frames) (Place (Frame s.env.exec s.run.frame) (Slot k ∷ [])) a
+      variable_holds c todo k a h = right_holds s.env.exec (Behind c todo) (λ w b o. inl (inr (inl (outside_thing s.env.exec s.callers w b o)))) (Frame s.env.exec s.run.frame) (frame_at s.run.frame s.env.frames) (Place (Frame s.env.exec s.run.frame) (Slot k ∷ [])) a h
 
-    pub opens_at : (l : List Todo) → OpensRightAt t few l s → OpensAt t few l s
-    opens_at (Rest (Scoped c rest) ∷ todo) h = λ k a y. variable_holds c todo k a (h k a y)
-    opens_at l h = tt
+      pub opens_at : (l : List Todo) → OpensRightAt t few gs l s → OpensAtBy t few (OutwardsOrMade gs) l s
+      opens_at (Rest (Scoped c rest) ∷ todo) h = λ k a y. variable_holds c todo k a (h k a y)
+      opens_at l h = tt
 
   module _ (gs : List Sig) (s : State) where
     reads_known : (a : Ty) (v : Value) → ReadsFound t few gs s a v → ReadsKnown t few gs s a v
@@ -253,15 +254,13 @@ module _ (t : Table) (numbers : Ty → ℕ → Bool) where
       finds (SpawnNow r ∷ todo) own e o h = has_object (t.routine r).this (object_in s.run.this)
       finds control own e o h = tt
 
-  -- by some typing, then, a step finds what it is to find
-  pub found : (source : Source) (sound : Sound t source) (s : State) → SetsUpNew source s → Reads t few s → (x : LivesState t few s) × Finds t few x.0.sigs x.0.run.sig x.0.run.scope s s.run.control x.0.run.own
-  found source sound s new h =
-      let x = h.0 in
-      (x, finds x.0.sigs s source sound new x.0.run.sig x.0.run.base x.0.run.scope s.run.control x.0.run.own refl x.0.run.ok h.1)
+  -- by these kinds, then, a step finds what it is to find
+  pub found : (source : Source) (sound : Sound t source) (s : State) → SetsUpNew source s → (x : LivesState t few s) → Reads t few s x → Finds t few x.0.sigs x.0.run.sig x.0.run.scope s s.run.control x.0.run.own
+  found source sound s new x h = finds x.0.sigs s source sound new x.0.run.sig x.0.run.base x.0.run.scope s.run.control x.0.run.own refl x.0.run.ok h
 
 -- where numbers are not tested, objects hold what is known
-pub objects_hold : (t : Table) (c : CleanUp) (todo : List Todo) (s : State) → ObjectsRight t c todo s → ObjectsHold t c todo s
-objects_hold t c todo s h = record {
-  object = λ k i y. variable_holds t (λ a o. true) s c todo k (Obj i) (h.object k i y);
-  array = λ k m i y. variable_holds t (λ a o. true) s c todo k (Row m (Obj i)) (h.array k m i y);
+pub objects_hold : (t : Table) (gs : List Sig) (c : CleanUp) (todo : List Todo) (s : State) → ObjectsRight t gs c todo s → ObjectsHold t gs c todo s
+objects_hold t gs c todo s h = record {
+  object = λ k i y. variable_holds t (λ a o. true) s gs c todo k (Obj i) (h.object k i y);
+  array = λ k m i y. variable_holds t (λ a o. true) s gs c todo k (Row m (Obj i)) (h.array k m i y);
 }

@@ -19,19 +19,22 @@ use Rattle.uc_life_laws.proofs.NamedAsks.{asked_by}
 use Rattle.uc_life_laws.specs.FoundReads.{FoundOutside, ObjectsFoundOutside}
 use Rattle.uc_life_laws.specs.FoundRuns.{AllIsFound, LawFound, LawFoundObjects, LawNamesMade}
 use Rattle.uc_life_laws.proofs.FoundReads.{SetsUpNew, opens_at, objects_hold, found}
-use Rattle.uc_life_laws.proofs.LivesLemmas.{opens_lives}
 use Rattle.uc_life_laws.proofs.Walking.{all_found}
 
 module _ (t : Table) (source : Source) (sound : Sound t source) where
   meets : (numbers : Ty → ℕ → Bool) (n : ℕ) (s : State) → SetsUpNew source s → FoundOutside t numbers n s → MeetsOutside t (numbered numbers) n s
   meets numbers zero s new h = λ x.
-      let f = h x in
-      let y = found t numbers source sound s new f.1 in
-      (y.0, (y.1, opens_lives t (numbered numbers) y.0.0.sigs s s.run.control (opens_at t numbers s s.run.control f.0)))
+      let y = h x in
+      (y.0, (found t numbers source sound s new y.0 y.1.0, opens_at t numbers s y.0.0.sigs s.run.control y.1.1))
   meets numbers (suc n) s new h = tt
 
   objects : (n : ℕ) (s : State) → SetsUpNew source s → ObjectsFoundOutside t source n s → ObjectsOutside t source n s
-  objects zero s new h = record { opens = h.opens; objects = λ c rest todo e. objects_hold t c todo s (h.objects c rest todo e); finds = λ x. found t (λ a o. true) source sound s new (h.reads x) }
+  objects zero s new h = record {
+    opens = h.opens;
+    finds = λ x.
+        let y = h.reads x in
+        (y.0, (found t (λ a o. true) source sound s new y.0 y.1.0, λ c rest todo e. objects_hold t y.0.0.sigs c todo s (y.1.1 c rest todo e)));
+  }
   objects (suc n) s new h = tt
 
 pub law_found : LawFound

@@ -7,7 +7,7 @@ use Rattle.uc_machine.specs.Pieces.{Value, Todo, Sort, Active}
 use Rattle.uc_life_laws.specs.Destroying.{Seat}
 use Rattle.uc_life_laws.specs.Placed.{Placed, placed, stacked, Ends}
 use Rattle.uc_life_laws.specs.Outermost.{outermost}
-use Rattle.uc_life_laws.specs.Held.{IsOuter, HeldBy, HeldIn, Held, Soon}
+use Rattle.uc_life_laws.specs.Held.{IsOuter, HeldBy, HeldIn, Held, Soon, GoesNext}
 use Rattle.uc_life_laws.specs.HeldLaws.{LawHeld}
 use Rattle.uc_life_laws.proofs.Outermost.{more_put, more_placed, elements_ends, outermost_ends}
 use Rattle.uc_life_laws.proofs.HeldWalk as walking
@@ -49,6 +49,11 @@ module _ (source : Source) (w : Seat) (ps : List Placed) (n : Exec) where
   pub soon_ends : (a : Active) (cs : List Active) → Soon source w ps n a cs → Ends ps (stacked (a ∷ cs))
   soon_ends a cs (zero, h) = held_ends (a ∷ cs) h
   soon_ends a cs (suc k, h) = h.1
+
+  pub next_ends : (l : List Todo) (a : Active) (cs : List Active) → GoesNext source w ps n l a cs → Ends ps (stacked (a ∷ cs))
+  next_ends [] a cs h = absurd h
+  next_ends (piece.GoneNow ∷ todo) a cs h = h.2
+  next_ends (p ∷ todo) a cs h = absurd h
 
 pub law_held : LawHeld
 law_held = record {

@@ -19,7 +19,7 @@ use Rattle.uc_machine.specs.Pieces as piece
 use Rattle.uc_machine.specs.Pieces.{Value, Todo, Sort, State, Members, Step, Goes, Ticks, Asks, at, top, number}
 use Rattle.uc_machine.specs.Answering.{answered, entered, new_members, with_operand}
 use Rattle.uc_life_laws.specs.LifeStates.{MembersBy}
-use Rattle.uc_life_laws.specs.Held.{Seating, NoMain, Stays, HeldBy, HeldIn, Held, Onwards, SoonIn, Soon, SoonFrom, SoonHere, SoonAsked, HeldEx, HeldState, HeldAsked, HeldAsk, HeldStep, IsOwn, LeadsSoon, HoldsNow, OfCounted, HoldsCounted, TakesAt, TakesNow}
+use Rattle.uc_life_laws.specs.Held.{Seating, NoMain, Stays, HeldBy, HeldIn, Held, Onwards, SoonIn, Soon, SoonFrom, GoesNext, SoonHere, SoonAsked, HeldEx, HeldState, HeldAsked, HeldAsk, HeldStep, IsOwn, LeadsSoon, HoldsNow, OfCounted, HoldsCounted, TakesAt, TakesNow}
 use Rattle.uc_life_laws.proofs.Cells.{either}
 use Rattle.uc_life_laws.proofs.HeldKeeping as kept
 use Rattle.uc_life_laws.proofs.HeldKeeping.{FullState}
@@ -153,11 +153,23 @@ module _ (source : Source) (seats : Seating) (up : Exec → Bool) (s : State) wh
     abbrev Keeping : List Todo → Type 0
     Keeping todo = (x : Exec) → up x ≡ true → seats.parent x ≡ s.env.exec → H x → KeptIn x todo
 
+    -- where the object of a task goes next no other execution comes to run, and its main is not up
+    goes_stays : (x : Exec) (l : List Todo) → GoesNext source (seats.seat x) (seats.before x) s.env.exec l s.run s.callers → Stays l
+    goes_stays x [] h = absurd h
+    goes_stays x (piece.GoneNow ∷ todo) h = tt
+    goes_stays x (p ∷ todo) h = absurd h
+
+    gone_by : (x : Exec) → IsOwn source seats up s x → (l : List Todo) → TakesAt source seats up l s → GoesNext source (seats.seat x) (seats.before x) s.env.exec l s.run s.callers → ⊥
+    gone_by x w [] o h = h
+    gone_by x w (piece.GoneNow ∷ todo) o h = o x w h.0 h.1
+    gone_by x w (p ∷ todo) o h = h
+
     -- all are held where another execution may run
     by_soon : (x : Exec) → (Stays s.run.control → ⊥) → SoonHere source (seats.seat x) (seats.before x) s.env.exec s → Held source (seats.seat x) (seats.before x) s.env.exec (s.run ∷ s.callers)
-    by_soon x f (zero, (zero, h)) = h
-    by_soon x f (zero, (suc k, h)) = absurd (f h.0)
-    by_soon x f (suc k, h) = absurd (f h.0)
+    by_soon x f (inl (zero, (zero, h))) = h
+    by_soon x f (inl (zero, (suc k, h))) = absurd (f h.0)
+    by_soon x f (inl (suc k, h)) = absurd (f h.0)
+    by_soon x f (inr h) = absurd (f (goes_stays x s.run.control h))
 
     full : (l : List Todo) → s.run.control ≡ l → (Stays l → ⊥) → (x : Exec) → up x ≡ true → seats.parent x ≡ s.env.exec → Behind x l
     full l e f x u p = subst (Behind x) e (by_soon x (λ y. f (subst Stays e y)) (st.soon x u p))
@@ -271,7 +283,7 @@ module _ (source : Source) (seats : Seating) (up : Exec → Bool) (s : State) wh
     Next x step = Onwards source (seats.seat x) (seats.before x) s.env.exec (SoonHere source (seats.seat x) (seats.before x) s.env.exec) (Soon source (seats.seat x) (seats.before x) s.env.exec) step
 
     in_any : (x : Exec) (k : ℕ) (step : Step) → Onwards source (seats.seat x) (seats.before x) s.env.exec (λ u. SoonIn source (seats.seat x) (seats.before x) s.env.exec k u.run u.callers) (SoonIn source (seats.seat x) (seats.before x) s.env.exec k) step → Next x step
-    in_any x k (Goes u) h = (h.0, (zero, (k, h.1)))
+    in_any x k (Goes u) h = (h.0, inl (zero, (k, h.1)))
     in_any x k (Ticks u) h = (h.0, (k, h.1))
     in_any x k (Asks r u) h = asked r h
       where
@@ -280,7 +292,7 @@ module _ (source : Source) (seats : Seating) (up : Exec → Bool) (s : State) wh
         asked r h = (h.0, h.1, (k, h.2))
 
     from_here : (x : Exec) (k : ℕ) (step : Step) → Onwards source (seats.seat x) (seats.before x) s.env.exec (SoonFrom source (seats.seat x) (seats.before x) s.env.exec k) (Soon source (seats.seat x) (seats.before x) s.env.exec) step → Next x step
-    from_here x k (Goes u) h = (h.0, (k, h.1))
+    from_here x k (Goes u) h = (h.0, inl (k, h.1))
     from_here x k (Ticks u) h = h
     from_here x k (Asks r u) h = h
 
@@ -288,15 +300,16 @@ module _ (source : Source) (seats : Seating) (up : Exec → Bool) (s : State) wh
     told o x u p = by (st.soon x u p)
       where
         by : SoonHere source (seats.seat x) (seats.before x) s.env.exec s → Next x (quiet.quiet source s) ⊎ H x
-        by (zero, (zero, h)) = ⊎_elim (λ l. inl l) (λ k. inr (h, k)) (parted s.run.control o x (u, p) h)
-        by (zero, (suc k, h)) = inl (in_any x k (quiet.quiet source s) (h.2 s.env refl))
-        by (suc k, h) = inl (from_here x k (quiet.quiet source s) h.2)
+        by (inl (zero, (zero, h))) = ⊎_elim (λ l. inl l) (λ k. inr (h, k)) (parted s.run.control o x (u, p) h)
+        by (inl (zero, (suc k, h))) = inl (in_any x k (quiet.quiet source s) (h.2 s.env refl))
+        by (inl (suc k, h)) = inl (from_here x k (quiet.quiet source s) h.2)
+        by (inr h) = absurd (gone_by x (u, p) s.run.control o h)
 
     module _ (o : TakesNow source seats up s) where
       goes_on : (u : State) → steps.Done source seats up H s st.env old u → ((x : Exec) → Next x (quiet.quiet source s) → Next x (Goes u)) → HeldState source seats up u
-      goes_on u (inr f) g = record { soon = λ x v p. (zero, (zero, f.stack x v p)); env = f.env }
+      goes_on u (inr f) g = record { soon = λ x v p. inl (zero, (zero, f.stack x v p)); env = f.env }
       goes_on u (inl w) g = record {
-        soon = λ x v p. subst (λ n. SoonHere source (seats.seat x) (seats.before x) n u) (sym w.exec) (⊎_elim (λ l. (g x l).1) (λ h. (zero, (zero, w.stack x v (p ∙ w.exec) h))) (told o x v (p ∙ w.exec)));
+        soon = λ x v p. subst (λ n. SoonHere source (seats.seat x) (seats.before x) n u) (sym w.exec) (⊎_elim (λ l. (g x l).1) (λ h. inl (zero, (zero, w.stack x v (p ∙ w.exec) h))) (told o x v (p ∙ w.exec)));
         env = w.env;
       }
 
@@ -361,7 +374,7 @@ module _ (source : Source) (seats : Seating) (up : Exec → Bool) where
 
   -- who rests so goes on
   pub rested : (s : State) → HeldAsked source seats up JustGo s → HeldState source seats up s
-  rested s h = record { soon = λ x u p. (zero, by x (h.soon x u p)); env = h.env }
+  rested s h = record { soon = λ x u p. inl (zero, by x (h.soon x u p)); env = h.env }
     where
       by : (x : Exec) → SoonAsked source (seats.seat x) (seats.before x) s.env.exec JustGo s.run s.callers → Soon source (seats.seat x) (seats.before x) s.env.exec s.run s.callers
       by x (inl k) = (zero, k)

@@ -50,19 +50,19 @@ use Rattle.uc_life_laws.specs.LifeRuns.{IsLaidOut}
 use Rattle.uc_life_laws.specs.Knowing.{KnowsState, AskedBy, StepBy, Names, HasObject}
 use Rattle.uc_life_laws.specs.KnownAnswers.{Passes, MainPasses}
 use Rattle.uc_life_laws.specs.KnownRuns.{PassesBelow, Meets}
-use Rattle.uc_life_laws.proofs.Parked.{each_members}
+use Rattle.uc_life_laws.proofs.Parked.{Ex, each_members}
 pub use Rattle.uc_life_laws.proofs.Parked.{each_env}
 use Rattle.uc_life_laws.proofs.Laying.{laid_out}
 use Rattle.uc_life_laws.proofs.LifeWorlds.{stack_told, stack_led}
 use Rattle.uc_life_laws.proofs.NewNumbers.{objects_grow, clusters_grow, processors_grow}
 use Rattle.uc_life_laws.proofs.WorldsBy as by
-use Rattle.uc_life_laws.proofs.WorldsBy.{PassesNow}
+use Rattle.uc_life_laws.proofs.WorldsBy.{KeepsBy, PassesNow}
 use Rattle.uc_life_laws.proofs.KnownWorlds.{S, P, nothing_beside, rest_plain, keeps_known}
 use Rattle.uc_life_laws.specs.Lives.{Lives}
 use Rattle.uc_life_laws.proofs.KindsLemmas.{members_plain, plain}
-use Rattle.uc_life_laws.specs.Fewer.{KeepsOthers, Lasts, HandLasts, ExLasts, RunLasts, TaskLasts}
+use Rattle.uc_life_laws.specs.Fewer.{with_numbers, KeepsOthers, Lasts, HandLasts, ExLasts, RunLasts, TaskLasts}
 use Rattle.uc_life_laws.specs.Lasting.{lasting_numbers, lasting, WorldLasts, ForgetsAt, MayForget, RunForgets, RunMeetsAt, LawLasting, LawRaised}
-use Rattle.uc_life_laws.proofs.Fewer.{held_same, both_members, env_lives, state_lives, slot_lives}
+use Rattle.uc_life_laws.proofs.Fewer.{held_same, both_members, both_env, state_lives, slot_lives}
 
 -- what is gone as entries stand
 
@@ -125,21 +125,23 @@ module _ (t : Table) (few : Few) (j : Journal) (a : List Entry) where
     object_same None o h = tt
     object_same (Some c) o h = held_same t (lasting few j) left _ (Obj c) _ h
 
-    asked_fewer : (q : Request) (s : State) → TaskLasts t (lasting few j) left s → ((given : List Ty) (k : KnowsState t (lasting few j) given s) → RunLasts t (lasting few j) left given s k) → AskedBy t (lasting few j) (S t (lasting few j)) (EnvBy (P t (lasting few j))) source q s → AskedBy t (lasting few (j ++ a)) (S t (lasting few (j ++ a))) (EnvBy (P t (lasting few (j ++ a)))) source q s
-    asked_fewer (ask.Make m) s e l x = (x.0, x.1, x.2, state_lives t (lasting few j) left keeps (Raw x.0 ∷ []) s e (l (Raw x.0 ∷ [])) x.3)
-    asked_fewer (ask.Spawn o) s e l x =
-        (x.0, object_same (t.routine (child_main source s.run.control)).this o x.1, state_lives t (lasting few j) left keeps [] s e (l []) x.2)
-    asked_fewer (ask.Accept o site mask) s e l x = state_lives t (lasting few j) left keeps (Num ∷ (Num ∷ [])) s e (l (Num ∷ (Num ∷ []))) x
-    asked_fewer (ask.Empty o m) s e l x = state_lives t (lasting few j) left keeps (Num ∷ []) s e (l (Num ∷ [])) x
-    asked_fewer (ask.Front o m) s e l x = state_lives t (lasting few j) left keeps (Num ∷ []) s e (l (Num ∷ [])) x
-    asked_fewer (ask.Poll mask) s e l x = state_lives t (lasting few j) left keeps (Num ∷ (Num ∷ (Num ∷ []))) s e (l (Num ∷ (Num ∷ (Num ∷ [])))) x
-    asked_fewer (ask.Read form) s e l x = state_lives t (lasting few j) left keeps (Num ∷ []) s e (l (Num ∷ [])) x
-    asked_fewer ask.Fail s e l x = state_lives t (lasting few j) left keeps (Num ∷ []) s e (l (Num ∷ [])) x
-    asked_fewer ask.Cluster s e l x = state_lives t (lasting few j) left keeps (Clu ∷ []) s e (l (Clu ∷ [])) x
-    asked_fewer (ask.Processor c) s e l x = state_lives t (lasting few j) left keeps (Pro ∷ []) s e (l (Pro ∷ [])) x
-    asked_fewer ask.End s e l x = env_lives t (lasting few j) left keeps s.env x e
-    asked_fewer (ask.Fault m) s e l x = tt
-    asked_fewer q s e l x = state_lives t (lasting few j) left keeps [] s e (l []) x
+    -- whatever is told of states (S) and of executions that do not run (P), where it stays so with the numbers that are left (T, R)
+    module _ (S T : List Ty → State → Type 0) (P R : Exec → Ex → Type 0) (state : (given : List Ty) (s : State) → TaskLasts t (lasting few j) left s → ((k : KnowsState t (lasting few j) given s) → RunLasts t (lasting few j) left given s k) → S given s → T given s) (slot : (n : Exec) (x : Ex) → P n x → ExLasts t (lasting few j) left n x → R n x) where
+      asked_fewer : (q : Request) (s : State) → TaskLasts t (lasting few j) left s → ((given : List Ty) (k : KnowsState t (lasting few j) given s) → RunLasts t (lasting few j) left given s k) → AskedBy t (lasting few j) S (EnvBy P) source q s → AskedBy t (lasting few (j ++ a)) T (EnvBy R) source q s
+      asked_fewer (ask.Make m) s e l x = (x.0, x.1, x.2, state (Raw x.0 ∷ []) s e (l (Raw x.0 ∷ [])) x.3)
+      asked_fewer (ask.Spawn o) s e l x =
+          (x.0, object_same (t.routine (child_main source s.run.control)).this o x.1, state [] s e (l []) x.2)
+      asked_fewer (ask.Accept o site mask) s e l x = state (Num ∷ (Num ∷ [])) s e (l (Num ∷ (Num ∷ []))) x
+      asked_fewer (ask.Empty o m) s e l x = state (Num ∷ []) s e (l (Num ∷ [])) x
+      asked_fewer (ask.Front o m) s e l x = state (Num ∷ []) s e (l (Num ∷ [])) x
+      asked_fewer (ask.Poll mask) s e l x = state (Num ∷ (Num ∷ (Num ∷ []))) s e (l (Num ∷ (Num ∷ (Num ∷ [])))) x
+      asked_fewer (ask.Read form) s e l x = state (Num ∷ []) s e (l (Num ∷ [])) x
+      asked_fewer ask.Fail s e l x = state (Num ∷ []) s e (l (Num ∷ [])) x
+      asked_fewer ask.Cluster s e l x = state (Clu ∷ []) s e (l (Clu ∷ [])) x
+      asked_fewer (ask.Processor c) s e l x = state (Pro ∷ []) s e (l (Pro ∷ [])) x
+      asked_fewer ask.End s e l x = both_env P (ExLasts t (lasting few j) left) R slot s.env x e
+      asked_fewer (ask.Fault m) s e l x = tt
+      asked_fewer q s e l x = state [] s e (l []) x
 
     told_fewer : (q : Request) (o : ℕ) → Passes t (lasting few j) q (answer.Object o) → Passes t (lasting few (j ++ a)) q (answer.Object o)
     told_fewer (ask.Make m) o h = h
@@ -147,20 +149,20 @@ module _ (t : Table) (few : Few) (j : Journal) (a : List Entry) where
     told_fewer (ask.Processor c) o h = h
     told_fewer q o h = tt
 
-    module _ (sound : Sound t source) (main : IsTask t source.main) (Z : ℕ → ℕ → Type 0) (laid : IsLaidOut Z t) (in_rooms : SourceIn Z source) where
-      world_fewer : (x : World) → WorldLasts t few j a x → by.KnownWorld t (lasting few j) source Z laid in_rooms (λ s. Unit {0}) (λ w. Unit {0}) (S t (lasting few j)) (P t (lasting few j)) (Meets t (lasting few j)) (nothing_beside t source (S t (lasting few j)) (Meets t (lasting few j))) (keeps_known t (lasting few j) source sound main) (j ++ a) x → by.KnownWorld t (lasting few (j ++ a)) source Z laid in_rooms (λ s. Unit {0}) (λ w. Unit {0}) (S t (lasting few (j ++ a))) (P t (lasting few (j ++ a))) (Meets t (lasting few (j ++ a))) (nothing_beside t source (S t (lasting few (j ++ a))) (Meets t (lasting few (j ++ a)))) (keeps_known t (lasting few (j ++ a)) source sound main) (j ++ a) x
+    module _ (Z : ℕ → ℕ → Type 0) (laid : IsLaidOut Z t) (in_rooms : SourceIn Z source) (S T : List Ty → State → Type 0) (P R : Exec → Ex → Type 0) (M N : State → Type 0) (keeps_more : KeepsBy t (lasting few j) source (λ s. Unit {0}) S P M) (keeps_less : KeepsBy t (lasting few (j ++ a)) source (λ s. Unit {0}) T R N) (state : (given : List Ty) (s : State) → TaskLasts t (lasting few j) left s → ((k : KnowsState t (lasting few j) given s) → RunLasts t (lasting few j) left given s k) → S given s → T given s) (slot : (n : Exec) (x : Ex) → P n x → ExLasts t (lasting few j) left n x → R n x) where
+      world_fewer : (x : World) → WorldLasts t few j a x → by.KnownWorld t (lasting few j) source Z laid in_rooms (λ s. Unit {0}) (λ w. Unit {0}) S P M (nothing_beside t source S M) keeps_more (j ++ a) x → by.KnownWorld t (lasting few (j ++ a)) source Z laid in_rooms (λ s. Unit {0}) (λ w. Unit {0}) T R N (nothing_beside t source T N) keeps_less (j ++ a) x
       world_fewer x l h = record {
         tasks = λ n ended.
             let k = h.tasks n ended in
             record {
               request = k.request;
-              asked = asked_fewer k.request (x.tasks n) (l.tasks n) (l.alive n ended) k.asked;
+              asked = asked_fewer S T P R state slot k.request (x.tasks n) (l.tasks n) (l.alive n ended) k.asked;
               asks_for = k.asks_for;
               no_end = k.no_end;
               no_fault = k.no_fault;
               told = λ o f. told_fewer k.request o (k.told o f);
             };
-        homes = λ o. both_members (P t (lasting few j)) (ExLasts t (lasting few j) left) (P t (lasting few (j ++ a))) (λ n y k i. slot_lives t (lasting few j) left keeps n y k i) (home.Object o) (x.homes o) (h.homes o) (l.homes o);
+        homes = λ o. both_members P (ExLasts t (lasting few j) left) R (λ n y k i. slot n y k i) (home.Object o) (x.homes o) (h.homes o) (l.homes o);
         life = tt;
       }
 
@@ -197,7 +199,7 @@ first_lasting t few opts None h = tt
 first_lasting t few opts (Some c) h =
     (h.0, alive_number few.numbers (begin opts ∷ []) c 0 (gone_still 0 [] (begin opts) refl ∙ nothing_gone 0) h.1, held_same t few (lasting_numbers few.numbers (begin opts ∷ [])) _ (Obj c) _ h.2)
 
-module _ (t : Table) (few : Few) (source : Source) (sound : Sound t source) (main : IsTask t source.main) (Z : ℕ → ℕ → Type 0) (laid : IsLaidOut Z t) (in_rooms : SourceIn Z source) (input : List ℕ) (opts : Options) (range : InRange opts) where
+module _ (t : Table) (few : Few) (source : Source) (input : List ℕ) (opts : Options) (range : InRange opts) where
   -- of an act that takes nothing out
   none_taken : (j : Journal) (p n k : ℕ) (asked : Asked) → is_over (j ++ act opts source.sites input j p n k asked) ≡ false → destroys asked.request ≡ false → (o : ℕ) → is_gone o (j ++ act opts source.sites input j p n k asked) ≡ is_gone o j
   none_taken j p n k asked still d o =
@@ -218,11 +220,16 @@ module _ (t : Table) (few : Few) (source : Source) (sound : Sound t source) (mai
   may_forget {j} {w} (acts p n k s asked d) still h =
       forgets asked.request j (act opts source.sites input j p n k asked) _ (λ e o. none_taken j p n k asked still e o) h
 
-  pub run_lasting : {j : Journal} {w : World} (r : Runs source input opts j w) → RunFits source input opts j w r → RunMeetsAt (λ i s. Meets t (lasting few i) s) source input opts j w r → RunForgets t few source input opts j w r → is_over j ≡ false → PassesBelow few opts j → MainPasses t few (t.routine source.main).this 0 → by.KnownWorld t (lasting few j) source Z laid in_rooms (λ s. Unit {0}) (λ w. Unit {0}) (S t (lasting few j)) (P t (lasting few j)) (Meets t (lasting few j)) (nothing_beside t source (S t (lasting few j)) (Meets t (lasting few j))) (keeps_known t (lasting few j) source sound main) j w
+-- whatever runs keep of states by numbers, if it stays so with fewer of them
+module _ (t : Table) (few : Few) (source : Source) (Z : ℕ → ℕ → Type 0) (laid : IsLaidOut Z t) (in_rooms : SourceIn Z source) (S : Few → List Ty → State → Type 0) (P : Few → Exec → Ex → Type 0) (M : Few → State → Type 0) (keeps_by : (f : Few) → KeepsBy t f source (λ s. Unit {0}) (S f) (P f) (M f)) (state : (f : Few) (numbers : Ty → ℕ → Bool) → KeepsOthers t f numbers → (given : List Ty) (s : State) → TaskLasts t f numbers s → ((k : KnowsState t f given s) → RunLasts t f numbers given s k) → S f given s → S (with_numbers numbers f) given s) (slot : (f : Few) (numbers : Ty → ℕ → Bool) → KeepsOthers t f numbers → (n : Exec) (x : Ex) → P f n x → ExLasts t f numbers n x → P (with_numbers numbers f) n x) (input : List ℕ) (opts : Options) (range : InRange opts) where
+  abbrev pub LastingWorld : Journal → World → Type 0
+  LastingWorld j w = by.KnownWorld t (lasting few j) source Z laid in_rooms (λ s. Unit {0}) (λ w. Unit {0}) (S (lasting few j)) (P (lasting few j)) (M (lasting few j)) (nothing_beside t source (S (lasting few j)) (M (lasting few j))) (keeps_by (lasting few j)) j w
+
+  pub run_lasting : {j : Journal} {w : World} (r : Runs source input opts j w) → RunFits source input opts j w r → RunMeetsAt (λ i s. M (lasting few i) s) source input opts j w r → RunForgets t few source input opts j w r → is_over j ≡ false → PassesBelow few opts j → MainPasses t few (t.routine source.main).this 0 → LastingWorld j w
   run_lasting begun f g l still below first =
-      by.begin_known t (lasting few (begin opts ∷ [])) source Z laid in_rooms (λ s. Unit {0}) (λ w. Unit {0}) (S t (lasting few (begin opts ∷ []))) (P t (lasting few (begin opts ∷ []))) (Meets t (lasting few (begin opts ∷ []))) (nothing_beside t source (S t (lasting few (begin opts ∷ []))) (Meets t (lasting few (begin opts ∷ [])))) (keeps_known t (lasting few (begin opts ∷ [])) source sound main) opts (first_lasting t few opts (t.routine source.main).this first)
+      by.begin_known t (lasting few (begin opts ∷ [])) source Z laid in_rooms (λ s. Unit {0}) (λ w. Unit {0}) (S (lasting few (begin opts ∷ []))) (P (lasting few (begin opts ∷ []))) (M (lasting few (begin opts ∷ []))) (nothing_beside t source (S (lasting few (begin opts ∷ []))) (M (lasting few (begin opts ∷ [])))) (keeps_by (lasting few (begin opts ∷ []))) opts (first_lasting t few opts (t.routine source.main).this first)
   run_lasting (more {j} {w} {a} {w' = x} r on m) f g l still below first =
-      world_fewer t few j a source sound main Z laid in_rooms x (may_forget m still l.1) (by.may_known t (lasting few j) source Z laid in_rooms (λ s. Unit {0}) (λ w. Unit {0}) (S t (lasting few j)) (P t (lasting few j)) (Meets t (lasting few j)) (nothing_beside t source (S t (lasting few j)) (Meets t (lasting few j))) (keeps_known t (lasting few j) source sound main) input opts range (run_rests source input opts range r f.0 on).kernel on (stacked.world_rests Z source in_rooms input opts r) (run_lasting r f.0 g.0 l.0 on (earlier few opts j a below) first) m f.1 g.1 still (now few opts j a below))
+      world_fewer t few j a source Z laid in_rooms (S (lasting few j)) (S (lasting few (j ++ a))) (P (lasting few j)) (P (lasting few (j ++ a))) (M (lasting few j)) (M (lasting few (j ++ a))) (keeps_by (lasting few j)) (keeps_by (lasting few (j ++ a))) (λ given s e l y. state (lasting few j) (lasting_numbers few.numbers (j ++ a)) (keeps t few j a) given s e l y) (λ n y k l. slot (lasting few j) (lasting_numbers few.numbers (j ++ a)) (keeps t few j a) n y k l) x (may_forget t few source input opts range m still l.1) (by.may_known t (lasting few j) source Z laid in_rooms (λ s. Unit {0}) (λ w. Unit {0}) (S (lasting few j)) (P (lasting few j)) (M (lasting few j)) (nothing_beside t source (S (lasting few j)) (M (lasting few j))) (keeps_by (lasting few j)) input opts range (run_rests source input opts range r f.0 on).kernel on (stacked.world_rests Z source in_rooms input opts r) (run_lasting r f.0 g.0 l.0 on (earlier few opts j a below) first) m f.1 g.1 still (now few opts j a below))
 
 pub law_lasting : LawLasting
 law_lasting p formed accepted few input opts range j w r fits on below first meets forgets = record {
@@ -255,7 +262,8 @@ law_lasting p formed accepted few input opts range j w r fits on below first mee
     known = law_accepted p accepted
 
     h : by.KnownWorld t (lasting few j) source Z laid known (λ s. Unit {0}) (λ w. Unit {0}) (S t (lasting few j)) (P t (lasting few j)) (Meets t (lasting few j)) (nothing_beside t source (S t (lasting few j)) (Meets t (lasting few j))) (keeps_known t (lasting few j) source sound main) j w
-    h = run_lasting t few source sound main Z laid known input opts range r fits meets forgets on below first
+    h =
+        run_lasting t few source Z laid known (λ f. S t f) (λ f. P t f) (λ f. Meets t f) (λ f. keeps_known t f source sound main) (λ f numbers keeps given s e l y. state_lives t f numbers keeps given s e l y) (λ f numbers keeps n y k l. slot_lives t f numbers keeps n y k l) input opts range r fits meets forgets on below first
 
     there : (n : ℕ) (s : State) (c : Comes source j w n s) → LeadsMeet (Meets t (lasting few j)) source (answered source c.given (drawn j w n)) s c.leads → by.There t (lasting few j) source Z laid known (λ s. Unit {0}) (λ w. Unit {0}) (S t (lasting few j)) (P t (lasting few j)) (Meets t (lasting few j)) (nothing_beside t source (S t (lasting few j)) (Meets t (lasting few j))) (keeps_known t (lasting few j) source sound main) s
     there n s c l =

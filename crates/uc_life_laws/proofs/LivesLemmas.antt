@@ -2,7 +2,6 @@
 use Rattle.std.proofs.Common.{◌≡◌, ℕ, suc, ◌≤◌, ◌<◌, ◌⊎◌, inl, inr, ⊎_elim, Bool, true, false, List, [], ◌∷◌, length, Some, refl, sym, ap, ◌∙◌, subst, arith}
 use Rattle.std.specs.Prelude.{nat_eq, if◌then◌else◌, slice_get}
 use Rattle.std.proofs.lemmas.Bool.{eqb-true}
-use Rattle.uc_tree.specs.Source as src
 use Rattle.uc_tree.specs.Source.{Source, Routine, CleanUp}
 use Rattle.uc_machine.specs.declared.exec.Exec.{Exec}
 use Rattle.uc_machine.specs.declared.exec.Owner.{Owner}
@@ -15,8 +14,8 @@ use Rattle.uc_machine.specs.Quiet.{quiet}
 use Rattle.uc_typing.specs.Typing.{Ty, Sig, Table}
 use Rattle.uc_typing.specs.States.{Sound}
 use Rattle.uc_typing.proofs.Unwinds as un
-use Rattle.uc_life_laws.specs.Things.{Few, Holds}
-use Rattle.uc_life_laws.specs.LifeStates.{frame_at, BehindMark, Outwards, MarkHoldsBy, AllHoldBy, LifeStackBy, LifeExBy, LifeStateBy, StepIs, OpensAt, OpensAtBy, OpensBy, Clears}
+use Rattle.uc_life_laws.specs.Things.{Few}
+use Rattle.uc_life_laws.specs.LifeStates.{frame_at, BehindMark, Outwards, MarkHoldsBy, AllHoldBy, LifeStackBy, LifeExBy, LifeStateBy, StepIs, OpensBy, Clears}
 use Rattle.uc_life_laws.specs.Knowing.{InMaking, ClaimsEnv, ClaimsState, StepBy, VariablesKnown, Finds}
 use Rattle.uc_life_laws.specs.Kinds.{IsKept, Turned, stays, begins, goes_back, GoesOn, Parks, FollowsOn, Claimed}
 use Rattle.uc_life_laws.specs.Lives.{MakingAt, MakingIn, OutwardsOrMade, Lives, LivesState, FindsLiving, LawLives}
@@ -93,10 +92,10 @@ module _ (t : Table) (few : Few) where
   below K n fs [] h = tt
   below K n fs (c ∷ older) h = (h.0, below K n fs older h.2)
 
-  at_newer : (g : Sig) (gs : List Sig) (f : ℕ) (this w : Value) (a : Ty) → MakingAt gs f this w a → MakingAt (g ∷ gs) f this w a
+  pub at_newer : (g : Sig) (gs : List Sig) (f : ℕ) (this w : Value) (a : Ty) → MakingAt gs f this w a → MakingAt (g ∷ gs) f this w a
   at_newer g gs f this w a h = (h.0, un.deeper t g gs f h.0 h.1, h.2)
 
-  in_newer : (g : Sig) (gs : List Sig) (cs : List Active) (w : Value) (a : Ty) → MakingIn gs cs w a → MakingIn (g ∷ gs) cs w a
+  pub in_newer : (g : Sig) (gs : List Sig) (cs : List Active) (w : Value) (a : Ty) → MakingIn gs cs w a → MakingIn (g ∷ gs) cs w a
   in_newer g gs [] w a h = absurd h
   in_newer g gs (c ∷ older) w a (inl h) = inl (at_newer g gs c.frame c.this w a h)
   in_newer g gs (c ∷ older) w a (inr h) = inr (in_newer g gs older w a h)
@@ -106,7 +105,7 @@ module _ (t : Table) (few : Few) where
   all_newer n g gs (c ∷ older) =
       ((λ x todo w a h. ⊎_elim (λ h. inl h) (λ h. inr (⊎_elim (λ h. inl (at_newer g gs c.frame c.this w a h)) (λ h. inr (in_newer g gs older w a h)) h)) h), all_newer n g gs older)
 
-  at_older : (gs : List Sig) (f : ℕ) (this w : Value) (a : Ty) → f < length (others gs) → MakingAt gs f this w a → MakingAt (others gs) f this w a
+  pub at_older : (gs : List Sig) (f : ℕ) (this w : Value) (a : Ty) → f < length (others gs) → MakingAt gs f this w a → MakingAt (others gs) f this w a
   at_older gs f this w a l h = (h.0, older_sig gs f h.0 l h.1, h.2)
 
   pub in_older : (gs : List Sig) (cs : List Active) (w : Value) (a : Ty) → Below cs → length cs ≤ length (others gs) → MakingIn gs cs w a → MakingIn (others gs) cs w a
@@ -157,7 +156,7 @@ module _ (t : Table) (few : Few) where
         by (p ∷ todo) h = tt
 
     -- behind a step by which the execution goes on, by the kinds that it then has
-    lives_turned : (source : Source) (u : State) (hs : List Sig) → LifeStateBy t few (OutwardsOrMade gs) (λ n x. Unit {0}) u → Turned t source s gs u hs → Lives t few u.env.exec hs (stopped u)
+    pub lives_turned : (source : Source) (u : State) (hs : List Sig) → LifeStateBy t few (OutwardsOrMade gs) (λ n x. Unit {0}) u → Turned t source s gs u hs → Lives t few u.env.exec hs (stopped u)
     lives_turned source u hs h (stays e n f v cs) = record { frames = h.frames; stack = subst (λ gs. LifeStackBy t few (OutwardsOrMade gs) u.env.exec u.env.frames (u.run ∷ u.callers)) (sym e) h.stack }
     lives_turned source u hs h (begins g a b e n cs f v) = record {
       frames = h.frames;
@@ -170,25 +169,19 @@ module _ (t : Table) (few : Few) where
           stack = subst (λ gs. LifeStackBy t few (OutwardsOrMade gs) u.env.exec u.env.frames (u.run ∷ u.callers)) (sym e) (stack_more t few (OutwardsOrMade gs) (OutwardsOrMade (others gs)) u.env.exec u.env.frames (u.run ∷ u.callers) (all_older u.env.exec gs (u.run ∷ u.callers) (below (OutwardsOrMade gs) u.env.exec u.env.frames (u.run ∷ u.callers) h.stack) (omega (arith, l))) h.stack);
         }
 
-  -- a scope that opens where what it is of holds what lies outwards of it
-  pub opens_lives : (gs : List Sig) (s : State) (l : List Todo) → OpensAt t few l s → OpensAtBy t few (OutwardsOrMade gs) l s
-  opens_lives gs s (pc.Rest (src.Scoped c rest) ∷ todo) h = λ k a x p b i binds.
-      known_more t few s.env.exec (Outwards t few s.env.exec s.run.frame s.run.this s.callers c todo) (OutwardsOrMade gs (Outwards t few s.env.exec s.run.frame s.run.this s.callers c todo) s.env.exec s.run.frame s.run.this s.callers) (λ v e y. inl y) b _ (h k a x p b i binds)
-  opens_lives gs s l h = tt
-
   pub lives_kept : IsKept (Lives t few)
   lives_kept = record {
     written = λ n gs x d k v h. (life_kept t few (OutwardsOrMade gs)).written n x d k v h;
     linked = λ n gs x l h. (life_kept t few (OutwardsOrMade gs)).linked n x l h;
-    unwound = λ n gs x why h. record { frames = h.frames; stack = h.stack };
+    unwound = λ n gs x why other h. record { frames = h.frames; stack = h.stack };
   }
 
-  nothing_kept : IsParkedKept (λ n x. Unit {0})
+  pub nothing_kept : IsParkedKept (λ n x. Unit {0})
   nothing_kept = record { written = λ n x d k v h. h; linked = λ n x l h. h; begins = λ n r this. tt }
 
   -- whatever else is claimed (J), and holds of the state behind the step (W)
   module _ (J : Exec → List Sig → Ex → Type 0) (kept : IsKept J) (source : Source) (sound : Sound t source) (s : State) (x : ClaimsState t few J [] s) (claim : Lives t few s.env.exec x.sigs (stopped s)) where
-    same_length : length s.env.frames ≡ length x.sigs
+    pub same_length : length s.env.frames ≡ length x.sigs
     same_length = frames_length t few s.env.exec x.sigs s.env.frames (s.run ∷ s.callers) x.frames
 
     pub lives_step : Finds t few x.sigs x.run.sig x.run.scope s s.run.control x.run.own → OpensBy t few (OutwardsOrMade x.sigs) s → Clears t s → Parks J t source x.sigs s s.run.control → (W : State → Type 0) → StepIs W (quiet source s) → ((u : State) (hs : List Sig) → W u → Lives t few u.env.exec hs (stopped u) → Turned t source s x.sigs u hs → J u.env.exec hs (stopped u)) → StepBy t few (Claimed J t few) (ClaimsEnv t few J) source (quiet source s)

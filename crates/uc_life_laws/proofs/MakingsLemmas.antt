@@ -139,7 +139,7 @@ module _ (t : Table) (ends : ℕ → Bool) where
     parks (p ∷ todo) m = tt
 
   pub making_kept : IsKept (Makings t ends)
-  making_kept = record { written = λ n gs x d k v h. h; linked = λ n gs x l h. h; unwound = λ n gs x why h. h }
+  making_kept = record { written = λ n gs x d k v h. h; linked = λ n gs x l h. h; unwound = λ n gs x why other h. h }
 
   steps : (few : Few) (source : Source) → Sound t source → (s : State) → LifeState t few s → (x : ClaimsState t few (Makings t ends) [] s) → Makings t ends s.env.exec x.sigs (stopped s) → Finds t few x.sigs x.run.sig x.run.scope s s.run.control x.run.own → BuildsAt t ends source s s.run.control → StepBy t few (Claimed (Makings t ends) t few) (ClaimsEnv t few (Makings t ends)) source (quiet source s)
   steps few source sound s st x claim l m = by (goes_or s.run.control s.run.raised)

@@ -12,7 +12,8 @@ use Rattle.uc_typing.specs.Pieces.{Ok}
 use Rattle.uc_typing.specs.States.{IsNumbered, IsObjectBy, Typed}
 use Rattle.uc_state_laws.specs.There.{IsThere, EndsAt, OfVariable, OfElements, HoldsObject}
 use Rattle.uc_life_laws.specs.Things.{Within, itself, field, element, Known, Holds, Few, Base, Things, lies}
-use Rattle.uc_life_laws.specs.LifeStates.{frame_at, Outwards, CleanHolds, OpensAt}
+use Rattle.uc_life_laws.specs.LifeStates.{frame_at, Outwards, CleanHoldsBy, OpensAtBy, OpensBy}
+use Rattle.uc_life_laws.specs.Lives.{OutwardsOrMade}
 use Rattle.uc_life_laws.specs.Opened.{any, ObjectsHold, LawOpens}
 
 -- a binding has no parts
@@ -80,12 +81,12 @@ module _ (t : Table) (n : Exec) (K : Value → Ty → Type 0) (objects : (c o : 
   ended g sc place P v Pro (src.OfObject (src.EndProcessor (src.Load x))) h f p q = processor v (q (subst P (sym h) p))
   ended g sc place P v a e h f p q = absurd h
 
-module _ (t : Table) (s : State) (g : Sig) (sc : List Name) (c : CleanUp) (todo : List Todo) (hold : ObjectsHold t c todo s) where
+module _ (t : Table) (s : State) (g : Sig) (sc : List Name) (c : CleanUp) (todo : List Todo) (gs : List Sig) (hold : ObjectsHold t gs c todo s) where
   abbrev K : Value → Ty → Type 0
-  K w a = Outwards t any s.env.exec s.run.frame s.run.this s.callers c todo w a
+  K w a = OutwardsOrMade gs (Outwards t any s.env.exec s.run.frame s.run.this s.callers c todo) s.env.exec s.run.frame s.run.this s.callers w a
 
   objects : (i o : ℕ) → K (Object o) (Obj i)
-  objects i o = inr (inl (outside t any s.env.exec s.callers (Object o) (Obj i) refl))
+  objects i o = inl (inr (inl (outside t any s.env.exec s.callers (Object o) (Obj i) refl)))
 
   abbrev vs : List Value
   vs = frame_at s.run.frame s.env.frames
@@ -150,17 +151,17 @@ module _ (t : Table) (s : State) (g : Sig) (sc : List Name) (c : CleanUp) (todo 
   at_variable k a (src.Frees r) h f p object array = absurd h
   at_variable k a (src.Restores m) h f p object array = absurd h
 
-  clean : FineClean t g sc c → IsThere vs c → CleanHolds t any s.env.exec vs s.run.frame s.run.this s.callers c todo
+  clean : FineClean t g sc c → IsThere vs c → CleanHoldsBy t any (OutwardsOrMade gs) s.env.exec vs s.run.frame s.run.this s.callers c todo
   clean f p k a h =
       at_variable k a c h f p (λ i e. subst (λ a. Holds t any s.env.exec K (Frame s.env.exec s.run.frame) vs (here k) a) (sym e) (hold.object k i (subst (λ a. CleansAt t a (src.Variable k) c) e h))) (λ m i e. subst (λ a. Holds t any s.env.exec K (Frame s.env.exec s.run.frame) vs (here k) a) (sym e) (hold.array k m i (subst (λ a. CleansAt t a (src.Variable k) c) e h)))
 
-opened : (t : Table) (s : State) (x : Typed t [] s) (c : CleanUp) (rest : Stmts) (todo : List Todo) → s.run.control ≡ piece.Rest (src.Scoped c rest) ∷ todo → IsThere (frame_at s.run.frame s.env.frames) c → ObjectsHold t c todo s → OpensAt t any s.run.control s
-opened t s x c rest todo e p hold =
+opened : (t : Table) (s : State) (x : Typed t [] s) (gs : List Sig) (c : CleanUp) (rest : Stmts) (todo : List Todo) → s.run.control ≡ piece.Rest (src.Scoped c rest) ∷ todo → IsThere (frame_at s.run.frame s.env.frames) c → ObjectsHold t gs c todo s → OpensBy t any (OutwardsOrMade gs) s
+opened t s x gs c rest todo e p hold =
     let o : Ok t x.run.sig x.run.base x.run.scope (piece.Rest (src.Scoped c rest) ∷ todo) x.run.own = subst (λ l. Ok t x.run.sig x.run.base x.run.scope l x.run.own) e x.run.ok in
-    subst (λ l. OpensAt t any l s) (sym e) (clean t s x.run.sig x.run.scope c todo hold o.1.3 p)
+    subst (λ l. OpensAtBy t any (OutwardsOrMade gs) l s) (sym e) (clean t s x.run.sig x.run.scope c todo gs hold o.1.3 p)
 
 pub law_opens : LawOpens
 law_opens = record {
-  opens = λ t s x c rest todo e p hold. opened t s x c rest todo e p hold;
+  opens = λ t s x gs c rest todo e p hold. opened t s x gs c rest todo e p hold;
   unbound = λ t few s c todo w a none p b h i. absurd (none w (Place (Frame s.env.exec s.run.frame) p) b h i);
 }

@@ -38,15 +38,15 @@ use Rattle.uc_state_laws.specs.Opens.{RideMeets, RunMeets, LeadsMeet}
 use Rattle.uc_state_laws.proofs.Cells.{held_left}
 use Rattle.uc_state_laws.proofs.ValueWalk as values
 use Rattle.uc_state_laws.proofs.ValueWorlds as value_runs
-use Rattle.uc_typing.specs.Typing.{Table}
+use Rattle.uc_typing.specs.Typing.{Sig, Table}
 use Rattle.uc_sound.specs.Tables.{table_of}
 use Rattle.uc_sound.proofs.SoundLemmas.{law_sound}
-use Rattle.uc_life_laws.specs.LifeStates.{OpensAt}
-use Rattle.uc_life_laws.specs.Opened.{any}
+use Rattle.uc_life_laws.specs.LifeStates.{OpensAtBy}
+use Rattle.uc_life_laws.specs.Opened.{any, ObjectsOpen}
 use Rattle.uc_life_laws.specs.KnownRuns.{PassesBelow, Meets, AllIsKnown}
-use Rattle.uc_life_laws.specs.Lives.{Lives}
+use Rattle.uc_life_laws.specs.Lives.{OutwardsOrMade, Lives}
 use Rattle.uc_life_laws.proofs.KindsLemmas.{plain}
-use Rattle.uc_life_laws.proofs.LivesLemmas.{opens_lives, law_lives}
+use Rattle.uc_life_laws.proofs.LivesLemmas.{law_lives}
 use Rattle.uc_life_laws.specs.OpenedRuns.{MeetsObjects, LawOpenedRuns}
 use Rattle.uc_life_laws.proofs.Opened.{law_opens}
 use Rattle.uc_life_laws.proofs.Following.{law_following}
@@ -160,18 +160,18 @@ module _ (p : Program) (accepted : breaks_of p ≡ []) where
   stack_to : (s : State) → StackState Z s → StackStep Z (quiet.quiet source s)
   stack_to s st = stacking.walk Z source known s st
 
-  scope_there : (s : State) → StackState Z s → there.Opens source s → GoodBy Any s → (c : CleanUp) (rest : Stmts) (todo : List Todo) → s.run.control ≡ piece.Rest (src.Scoped c rest) ∷ todo → IsThere (frame_at s.run.frame s.env.frames) c
+  pub scope_there : (s : State) → StackState Z s → there.Opens source s → GoodBy Any s → (c : CleanUp) (rest : Stmts) (todo : List Todo) → s.run.control ≡ piece.Rest (src.Scoped c rest) ∷ todo → IsThere (frame_at s.run.frame s.env.frames) c
   scope_there s st o h c rest todo e =
       (good_counted rest c todo Any s.run.operands s (subst (λ (l : List Todo). GoodStepBy Any (quiet.act_todo source l s)) e (steps_to s st o h))).0
 
   -- so a scope opens as it is to
   meets_at : (s : State) → StackState Z s → GoodBy Any s → MeetsObjects t source s → Meets t any s
-  meets_at s st h m x = let y = m.finds x in (y.0, (y.1, opens_lives t any y.0.0.sigs s s.run.control (by s.run.control refl)))
+  meets_at s st h m x = let y = m.finds x in (y.0, (y.1.0, by y.0.0.sigs y.1.1 s.run.control refl))
     where
-      by : (l : List Todo) → s.run.control ≡ l → OpensAt t any l s
-      by (piece.Rest (src.Scoped c rest) ∷ todo) e =
-          subst (λ l. OpensAt t any l s) e (law_opens.opens t s (law_following.typed t any [] s (plain t any (Lives t any) [] s x.0)) c rest todo e (scope_there s st m.opens h c rest todo e) (m.objects c rest todo e))
-      by l e = tt
+      by : (gs : List Sig) → ObjectsOpen t gs s → (l : List Todo) → s.run.control ≡ l → OpensAtBy t any (OutwardsOrMade gs) l s
+      by gs o (piece.Rest (src.Scoped c rest) ∷ todo) e =
+          subst (λ l. OpensAtBy t any (OutwardsOrMade gs) l s) e (law_opens.opens t s (law_following.typed t any [] s (plain t any (Lives t any) [] s x.0)) gs c rest todo e (scope_there s st m.opens h c rest todo e) (o c rest todo e))
+      by gs o l e = tt
 
   ride_meets : {s u : State} {q k : ℕ} {a : Asked} (r : Rides source s q u k a) → RideMeets (MeetsObjects t source) source s q u k a r → StackState Z s → GoodBy Any s → RideMeets (Meets t any) source s q u k a r
   ride_meets rides.slices m st h = tt

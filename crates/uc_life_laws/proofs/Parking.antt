@@ -1,5 +1,7 @@
 -- All that an execution can come by stays known where members, executions and who runs change.
 use Rattle.std.proofs.Common.{◌≡◌, ℕ, ◌∙◌, Bool, true, false, List, [], ◌∷◌, ◌++◌, replicate, Option, Some, None, refl, sym, subst}
+use Rattle.std.specs.Prelude.{pos}
+use Rattle.uc_tree.specs.declared.limits.TheConstants.{UNHANDLED}
 use Rattle.uc_tree.specs.Source.{Stmts, Routine, Purpose, TaskMain, CoroutineMain, Procedure, Function, Builder}
 use Rattle.uc_entry.specs.declared.fault.RunFault.TheVariants.{ResumeInUse, SwitchInUnwind}
 use Rattle.uc_entry.specs.Keyed.{find}
@@ -12,6 +14,7 @@ use Rattle.uc_machine.specs.declared.exec.Pending.{Pending}
 use Rattle.uc_machine.specs.declared.exec.Stage.{Stage}
 use Rattle.uc_machine.specs.declared.exec.Stage.TheVariants.{Fresh, Started, Ended}
 use Rattle.uc_machine.specs.declared.exec.UnwindReason.{UnwindReason}
+use Rattle.uc_machine.specs.declared.exec.UnwindReason.TheVariants as reason
 use Rattle.uc_machine.specs.Executions.{Links, exec_eq, others, joined, members_at, change, change_in, parked_at, frames_by, frames_changed, frame_changed, value_changed, with_owned, with_frames}
 use Rattle.uc_machine.specs.Insides as inside
 use Rattle.uc_machine.specs.Switches as sw
@@ -62,7 +65,7 @@ main_ok t g Function line body e f = (tt, f, (tt, refl))
 main_ok t g Builder line body e f = (tt, f, refl)
 
 pub anything_kept : IsKept Anything
-anything_kept = record { written = λ n gs x d k v h. tt; linked = λ n gs x l h. tt; unwound = λ n gs x why h. tt }
+anything_kept = record { written = λ n gs x d k v h. tt; linked = λ n gs x l h. tt; unwound = λ n gs x why other h. tt }
 
 module _ (t : Table) (few : Few) (Q : Exec → List Sig → Ex → Type 0) (kept : IsKept Q) where
   pub like : {e f : Env} → ClaimsEnv t few Q e → f.hand ≡ e.hand → f.house ≡ e.house → f.own ≡ e.own → ClaimsEnv t few Q f
@@ -219,19 +222,19 @@ module _ (t : Table) (few : Few) (Q : Exec → List Sig → Ex → Type 0) (kept
   go_on_in None s r o h = tt
   go_on_in (Some p) s r o h = switched_in p.0 p.1 s r o h
 
-  -- why it is unwound is no matter
-  thrown : (why : UnwindReason) (n : Exec) (x : Ex) → ClaimsEx t few Q n x → ClaimsEx t few Q n (sw.unwound_there why x)
-  thrown why n x r = record {
+  -- why it is unwound is no matter, if that is no return
+  thrown : (why : UnwindReason) (n : Exec) (x : Ex) → ((home : ℕ) → why ≡ reason.ReturnTo home → ⊥) → ClaimsEx t few Q n x → ClaimsEx t few Q n (sw.unwound_there why x)
+  thrown why n x other r = record {
     sigs = r.sigs;
     frames = frames_run t few n r.sigs x.frames x.run _ x.callers r.frames;
     run = record { sig = r.run.sig; own = r.run.own; scope = r.run.scope; base = r.run.base; frame = r.run.frame; values = r.run.values; this = r.run.this; ok = r.run.ok; ends = r.run.ends };
     callers = r.callers;
-    claim = kept.unwound n r.sigs x why r.claim;
+    claim = kept.unwound n r.sigs x why other r.claim;
   }
 
   throw_in : (o : Option (Exec × Ex)) (s : State) → KnowsNext o → ClaimsSlot t few Q s.env.exec (sw.stopped s) → ClaimsEnv t few Q s.env → KnowsMoved (sw.throw_at o s)
   throw_in None s r o h = tt
-  throw_in (Some p) s r o h = switched_in p.0 _ s (thrown _ p.0 p.1 r) o h
+  throw_in (Some p) s r o h = switched_in p.0 _ s (thrown (reason.Event UNHANDLED (pos 0) (pos 0)) p.0 p.1 (λ home e. absurd (cc)) r) o h
 
   pub finish_in : (s : State) → ClaimsEnv t few Q s.env → KnowsMoved (sw.finish s)
   finish_in s h =
@@ -291,7 +294,7 @@ module _ (t : Table) (few : Few) (Q : Exec → List Sig → Ex → Type 0) (kept
 
   take_down_stage : (g : Stage) (n : Exec) (y : Ex) (s : State) → ClaimsBy t few Q n g y → Now s → KnowsMoved (sw.take_down_at g n y s)
   take_down_stage Fresh n y s r x = over_in n s x
-  take_down_stage Started n y s r x = switched_in n _ s (thrown _ n _ (record { sigs = r.sigs; frames = r.frames; run = r.run; callers = r.callers; claim = kept.linked n r.sigs y (record y.links { live = false; destroyer = Some s.env.exec }) r.claim })) (stopped_by s.env.links.stage s x) x.0.env
+  take_down_stage Started n y s r x = switched_in n _ s (thrown reason.Destroyed n _ (λ home e. absurd (cc)) (record { sigs = r.sigs; frames = r.frames; run = r.run; callers = r.callers; claim = kept.linked n r.sigs y (record y.links { live = false; destroyer = Some s.env.exec }) r.claim })) (stopped_by s.env.links.stage s x) x.0.env
   take_down_stage Ended n y s r x = over_in n s x
 
   take_down_slot : (n : Exec) (o : Option Ex) (s : State) → SlotBy (ClaimsSlot t few Q) n o → Now s → KnowsMoved (sw.take_down_by n o s)

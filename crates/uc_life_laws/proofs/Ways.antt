@@ -35,9 +35,9 @@ module _ (source : Source) (seats : Seating) (up : Exec → Bool) (s : State) wh
     -- what is done at a clean-up, with these operands, before the rest
     cleaned : IsOwn source seats up s x → (c : CleanUp) (rest : List Todo) (vs : List Value) → quiet.quiet source s ≡ piece.Goes (at (piece.clean_todo c rest) vs s) → CleansUp source (seats.seat x) s.env.exec s.run.frame s.run.this c → Outer rest → ForgetsBy source seats up c s → LeadsSoon source seats up s x
     cleaned own (src.Destroys e) rest vs q h o g = subst Leads (sym q) (refl, ends.ends_at source seats up x s (piece.DropNow ∷ rest) o e vs h (g x own))
-    cleaned own (src.DestroysAll m e) rest vs q h o g = subst Leads (sym q) (refl, (0, (1, (tt, o, λ v p. (p, inl (h, o))))))
-    cleaned own src.Forgets rest vs q h o g = absurd (g x own h)
-    cleaned own src.Ends rest vs q h o g = absurd (g x own h)
+    cleaned own (src.DestroysAll m e) rest vs q h o g = subst Leads (sym q) (refl, inl (0, (1, (tt, o, λ v p. (p, inl (h, o))))))
+    cleaned own src.Forgets rest vs q h o g = absurd (g x own h.0 h.1)
+    cleaned own src.Ends rest vs q h o g = subst Leads (sym q) (refl, inr (h.0, h.1, o))
     cleaned own c rest vs q h o g = absurd h
 
     -- behind an event
@@ -54,15 +54,15 @@ module _ (source : Source) (seats : Seating) (up : Exec → Bool) (s : State) wh
     unwound own p todo e (piece.IsPart c) i g h =
         cleaned own c (piece.Unwind ∷ todo) [] (ap (λ l. quiet.act_todo source l s) e ∙ ap (λ k. raising.unwind_past k todo s) i) h.0 (outside (piece.IsPart c) todo h.1) g
     unwound own p todo e (piece.IsFill m b d) i g h =
-        subst Leads (sym (ap (λ l. quiet.act_todo source l s) e ∙ ap (λ k. raising.unwind_past k todo s) i)) (refl, (0, (0, inl (h.0, outside (piece.IsFill m b d) todo h.1))))
+        subst Leads (sym (ap (λ l. quiet.act_todo source l s) e ∙ ap (λ k. raising.unwind_past k todo s) i)) (refl, inl (0, (0, inl (h.0, outside (piece.IsFill m b d) todo h.1))))
     unwound own p todo e (piece.IsSweep d) i g h =
-        subst Leads (sym (ap (λ l. quiet.act_todo source l s) e ∙ ap (λ k. raising.unwind_past k todo s) i)) (refl, (0, (0, inl h)))
+        subst Leads (sym (ap (λ l. quiet.act_todo source l s) e ∙ ap (λ k. raising.unwind_past k todo s) i)) (refl, inl (0, (0, inl h)))
     unwound own p todo e k i g h = absurd h
 
     -- an exit
     exited : (way : Way) (p : Todo) (todo : List Todo) → s.run.control ≡ piece.Exit way ∷ (p ∷ todo) → IsOwn source seats up s x → (k : Sort) → piece.sort p ≡ k → ExitsBy source seats up k todo s → HoldsNow source seats up s x k todo → LeadsSoon source seats up s x
     exited way p todo e own (piece.IsClean c) i g h =
-        subst (λ l. Leads (quiet.act_todo source l s)) (sym e) (subst (λ k. Leads (quiet.turns (quiet.left_behind way k todo) s)) (sym i) (refl, (0, (0, inl h))))
+        subst (λ l. Leads (quiet.act_todo source l s)) (sym e) (subst (λ k. Leads (quiet.turns (quiet.left_behind way k todo) s)) (sym i) (refl, inl (0, (0, inl h))))
     exited way p todo e own (piece.IsPart c) i g h = g x own h
     exited way p todo e own (piece.IsFill m b d) i g h = g x own h
     exited way p todo e own (piece.IsSweep d) i g h = g x own h
@@ -73,7 +73,7 @@ module _ (source : Source) (seats : Seating) (up : Exec → Bool) (s : State) wh
     filled m b d todo e own g h = by (nat_lt s.run.elements m) refl
       where
         by : (c : Bool) → nat_lt s.run.elements m ≡ c → LeadsSoon source seats up s x
-        by true i = subst (λ l. Leads (quiet.act_todo source l s)) (sym e) (subst (λ c. Leads (quiet.turns (quiet.fill_todo c m b d todo) s)) (sym i) (refl, (0, (0, inl h))))
+        by true i = subst (λ l. Leads (quiet.act_todo source l s)) (sym e) (subst (λ c. Leads (quiet.turns (quiet.fill_todo c m b d todo) s)) (sym i) (refl, inl (0, (0, inl h))))
         by false i = g i x own h
 
     -- the last one that stands is destroyed
@@ -89,7 +89,7 @@ module _ (source : Source) (seats : Seating) (up : Exec → Bool) (s : State) wh
         by zero i k = let l : k.0 < s.run.elements = k.1 in absurd (omega (arith, l, i))
         by (suc m) i k =
             let l : k.0 < suc m = subst (λ c. k.0 < c) i k.1 in
-            (refl, ⊎_elim (λ j. (0, (0, inl ((k.0, j, k.2), h.1)))) (λ j. last m k.0 i l j k.2) (cases_lt k.0 m))
+            (refl, ⊎_elim (λ j. inl (0, (0, inl ((k.0, j, k.2), h.1)))) (λ j. last m k.0 i l j k.2) (cases_lt k.0 m))
 
     -- one more stands
     more_by : (e : ℕ) → ((j : ℕ) → j < s.run.elements → j < e) → (k : Sort) (todo : List Todo) (R T : Type 0) → (R → T) → OfCounted source seats up s x k todo R → HeldBy source (seats.seat x) (seats.before x) s.env.exec s.run.frame s.run.this e k todo s.callers T
@@ -118,7 +118,7 @@ module _ (source : Source) (seats : Seating) (up : Exec → Bool) (s : State) wh
   taken (piece.Clean c ∷ todo) e g = λ x own h. cleaned x own c todo s.run.operands (ap (λ l. quiet.act_todo source l s) e) h.0 h.1 g
   taken (piece.FillNow m b d ∷ todo) e g = λ x own h. filled x m b d todo e own g h
   taken (piece.Sweep d ∷ todo) e g = (λ x own h. swept x d todo e (g.0 x own) h, g.1)
-  taken (piece.MoreNow ∷ todo) e g = λ x own h. subst (λ l. Leads x (quiet.act_todo source l s)) (sym e) (refl, (0, (0, more_in x (min (s.run.elements + 1) MOST_ELEMENTS) (still_less s.run.elements g) todo h)))
+  taken (piece.MoreNow ∷ todo) e g = λ x own h. subst (λ l. Leads x (quiet.act_todo source l s)) (sym e) (refl, inl (0, (0, more_in x (min (s.run.elements + 1) MOST_ELEMENTS) (still_less s.run.elements g) todo h)))
   taken (piece.Unwind ∷ (p ∷ todo)) e g = λ x own h. unwound x own p todo e (piece.sort p) refl g h
   taken (piece.Exit way ∷ (p ∷ todo)) e g = λ x own h. exited x way p todo e own (piece.sort p) refl g h
   taken l e g = g

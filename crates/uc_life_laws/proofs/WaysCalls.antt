@@ -46,9 +46,9 @@ module _ (source : Source) (w : Seat) (ps : List Placed) (n : Exec) where
   each_written true d f v h i m j s l k = (l, k)
   each_written false d f v h i m j s l k = (l, k)
 
-  last_cleans : (c : CleanUp) → IsLast c → (f : ℕ) → CleansUp source w n f w.place c
-  last_cleans src.Forgets l f = refl
-  last_cleans src.Ends l f = refl
+  last_cleans : (c : CleanUp) → IsLast w.task c → (f : ℕ) → CleansUp source w n f w.place c
+  last_cleans src.Forgets l f = (l, refl)
+  last_cleans src.Ends l f = (l, refl)
   last_cleans c l f = absurd l
 
   pub starts : {r : ℕ} {v : Value} → Destroying source w r v → Start r v

@@ -1,5 +1,5 @@
 -- Clean-ups come by quiet steps to where the scope opens in which an execution is ended, where the object is read that is destroyed.
-use Rattle.std.proofs.Common.{◌≡◌, ℕ, suc, ◌<◌, Bool, true, false, pos, List, [], ◌∷◌, drop, Option, Some, None, refl, sym, subst}
+use Rattle.std.proofs.Common.{◌≡◌, ℕ, suc, ◌<◌, inl, Bool, true, false, pos, List, [], ◌∷◌, drop, Option, Some, None, refl, sym, subst}
 use Rattle.std.specs.Prelude.{nat_lt, if◌then◌else◌}
 use Rattle.uc_tree.specs.declared.limits.TheConstants.{DESTRUCTOR}
 use Rattle.uc_entry.specs.Keyed.{find}
@@ -102,25 +102,25 @@ module _ (source : Source) (seats : Seating) (up : Exec → Bool) (x : Exec) whe
     begins false d p vs k g = (tt, out, (refl, (tt, out, (refl, g))))
 
     pub ends_at : (e : Expr) (vs : List Value) → EndsAt source W s.env.exec s.run.frame s.run.this e → ReadsEnded source seats up x e s → SoonHere source W (seats.before x) s.env.exec (at (piece.Eval e ∷ todo) vs s)
-    ends_at (src.OfObject (src.CallOn d p src.NoExprs)) vs h g = (0, calls.ends_call source W (seats.before x) s.env.exec s.run s.callers todo out d p vs h)
-    ends_at (src.OfObject (src.CallUnwritten d p)) vs h g = (0, calls.ends_unwritten source W (seats.before x) s.env.exec s.run s.callers todo out d p vs h)
+    ends_at (src.OfObject (src.CallOn d p src.NoExprs)) vs h g = inl (0, calls.ends_call source W (seats.before x) s.env.exec s.run s.callers todo out d p vs h)
+    ends_at (src.OfObject (src.CallUnwritten d p)) vs h g = inl (0, calls.ends_unwritten source W (seats.before x) s.env.exec s.run s.callers todo out d p vs h)
     ends_at (src.OfObject (src.EndOn d b (src.Load (src.Variable c)))) vs h g =
-        (4, begins b d (src.Variable c) vs 2 (at_variable b d h.0 h.2 vs c (g h.0 h.1 h.2)))
+        inl (4, begins b d (src.Variable c) vs 2 (at_variable b d h.0 h.2 vs c (g h.0 h.1 h.2)))
     ends_at (src.OfObject (src.EndOn d b (src.Load (src.OfObject (src.OwnField z i))))) vs h g =
-        (4, begins b d (src.OfObject (src.OwnField z i)) vs 2 (at_field b d h.0 h.2 vs z i (g h.0 h.1 h.2)))
+        inl (4, begins b d (src.OfObject (src.OwnField z i)) vs 2 (at_field b d h.0 h.2 vs z i (g h.0 h.1 h.2)))
     ends_at e vs h g = absurd h
 
     end_element : (b : Bool) (d : ℕ) (p : Expr) (vs : List Value) → AtElement source W s.env.exec s.run.frame s.run.this (DestroyingAt source W d) s.run.elements p → ((o : ℕ) → AtElement source W s.env.exec s.run.frame s.run.this (λ v. W.home o ≡ v) s.run.elements p → Destroying source W d (Object o) → AtElement source W s.env.exec s.run.frame s.run.this (λ v. loaded v s.env ≡ Object o) s.run.elements p) → SoonHere source W (seats.before x) s.env.exec (at (piece.Eval (src.OfObject (src.EndOn d b (src.Load p))) ∷ todo) vs s)
     end_element b d (src.Element m z (src.Variable c) (src.OfObject src.Counted)) vs h g =
-        (7, begins b d (src.Element m z (src.Variable c) (src.OfObject src.Counted)) vs 5 (of_variable b d h.1.0 h.1.2 vs m z c (g h.1.0 (h.0, h.1.1) h.1.2).1))
+        inl (7, begins b d (src.Element m z (src.Variable c) (src.OfObject src.Counted)) vs 5 (of_variable b d h.1.0 h.1.2 vs m z c (g h.1.0 (h.0, h.1.1) h.1.2).1))
     end_element b d (src.Element m z (src.OfObject (src.OwnField y i)) (src.OfObject src.Counted)) vs h g =
-        (7, begins b d (src.Element m z (src.OfObject (src.OwnField y i)) (src.OfObject src.Counted)) vs 5 (of_field b d h.1.0 h.1.2 vs m z y i (g h.1.0 (h.0, h.1.1) h.1.2).1))
+        inl (7, begins b d (src.Element m z (src.OfObject (src.OwnField y i)) (src.OfObject src.Counted)) vs 5 (of_field b d h.1.0 h.1.2 vs m z y i (g h.1.0 (h.0, h.1.1) h.1.2).1))
     end_element b d (src.Element m z p (src.OfObject src.Counted)) vs h g = absurd h.1
     end_element b d p vs h g = absurd h
 
   -- the last element that stands is destroyed, and stands no more as that begins
   pub ends_element : (s : State) (todo : List Todo) (out : Ends (seats.before x) (placed s.run.frame s.run.this todo (stacked s.callers))) (e : Expr) (m : ℕ) → s.run.elements ≡ suc m → EndsElement source W s.env.exec s.run.frame s.run.this m e → ReadsLast source seats up x e s → SoonHere source W (seats.before x) s.env.exec (at (piece.Eval e ∷ todo) s.run.operands (quiet.with_elements m s))
-  ends_element s todo out (src.OfObject (src.CallOn d p src.NoExprs)) m i h g = (0, calls.element_call source W (seats.before x) s.env.exec (record s.run { elements = m }) s.callers todo out d p s.run.operands h)
-  ends_element s todo out (src.OfObject (src.CallUnwritten d p)) m i h g = (0, calls.element_unwritten source W (seats.before x) s.env.exec (record s.run { elements = m }) s.callers todo out d p s.run.operands h)
+  ends_element s todo out (src.OfObject (src.CallOn d p src.NoExprs)) m i h g = inl (0, calls.element_call source W (seats.before x) s.env.exec (record s.run { elements = m }) s.callers todo out d p s.run.operands h)
+  ends_element s todo out (src.OfObject (src.CallUnwritten d p)) m i h g = inl (0, calls.element_unwritten source W (seats.before x) s.env.exec (record s.run { elements = m }) s.callers todo out d p s.run.operands h)
   ends_element s todo out (src.OfObject (src.EndOn d b (src.Load p))) m i h g = end_element (quiet.with_elements m s) todo out b d p s.run.operands h (g m i)
   ends_element s todo out e m i h g = absurd h

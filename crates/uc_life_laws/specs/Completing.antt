@@ -1,6 +1,6 @@
 -- Where a constructor ends, who waits for it takes over what it held: its scope opens next, it becomes a part of the object that is being built, or it is
 -- one more element of an array that is.
-use Rattle.std.specs.Prelude.{◌≡◌, ◌<◌, List, [], ◌∷◌}
+use Rattle.std.specs.Prelude.{◌≡◌, ◌<◌, false, List, [], ◌∷◌}
 use Rattle.uc_tree.specs.Source.{Source, Forgets, Frees, Stmts, Scoped, Built}
 use Rattle.uc_machine.specs.declared.exec.Exec.{Exec}
 use Rattle.uc_machine.specs.Pieces as piece
@@ -39,7 +39,7 @@ module _ (source : Source) (w : Seat) (ps : List Placed) (n : Exec) where
 
   -- an execution has just been made for the object at hand, which is a part of that from now on
   abbrev pub IsSetUp : Active → List Active → List Todo → Type 0
-  IsSetUp a cs (piece.Rest (Built Forgets rest) ∷ todo) = (a.this ≡ w.place) × Ends ps (outermost cs)
+  IsSetUp a cs (piece.Rest (Built Forgets rest) ∷ todo) = (w.task ≡ false) × (a.this ≡ w.place) × Ends ps (outermost cs)
   IsSetUp a cs todo = ⊥
 
 -- then what a part held is held soon behind it, and so is an execution that has been made

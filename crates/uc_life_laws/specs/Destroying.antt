@@ -15,15 +15,16 @@ abbrev pub calling_at : Bool → ℕ → Expr → Expr
 calling_at true d p = OfObject (CallOn d p NoExprs)
 calling_at false d p = OfObject (CallUnwritten d p)
 
--- what ends a coroutine or a task at hand at last
-abbrev pub IsLast : CleanUp → Type 0
-IsLast Forgets = Unit {0}
-IsLast Ends = Unit {0}
-IsLast c = ⊥
+-- what ends it at last: where it is a task's the object at hand goes, else its coroutine is forgotten
+abbrev pub IsLast : Bool → CleanUp → Type 0
+IsLast task Forgets = task ≡ false
+IsLast task Ends = task ≡ true
+IsLast task c = ⊥
 
--- where a coroutine or the object of a task is, and where mutex objects are at home
+-- where the coroutine of an execution is, or the object of the task whose main it is; which of these it is; and where mutex objects are at home
 pub record Seat : Type 0 where
   pub place : Value
+  pub task : Bool
   pub home : ℕ → Value
 
 module _ (source : Source) (w : Seat) where
@@ -31,7 +32,7 @@ module _ (source : Source) (w : Seat) where
   -- out, or one in which such a destructor is called at a field, at an element of one, or at the mutex object that is at home at one of these
   pub data Destroying : ℕ → Value → Type 0 where
     itself : {r : ℕ} (x : Routine) → slice_get source.routines r ≡ Some x → x.params ≡ 0 →
-        (c : CleanUp) → IsLast c → IsScoped c x.body → Destroying r w.place
+        (c : CleanUp) → IsLast w.task c → IsScoped c x.body → Destroying r w.place
     field : {r d : ℕ} {v : Value} (x : Routine) → slice_get source.routines r ≡ Some x → x.params ≡ 0 →
         (h : Shape) (i : ℕ) (written : Bool) → IsScoped (Destroys (calling_at written d (OfObject (OwnField h i)))) x.body →
         Destroying d (further (FieldAt h i) v) → Destroying r v
@@ -83,8 +84,8 @@ module _ (source : Source) (w : Seat) where
 
     -- a clean-up comes to the end of the execution
     abbrev pub CleansUp : CleanUp → Type 0
-    CleansUp Forgets = this ≡ w.place
-    CleansUp Ends = this ≡ w.place
+    CleansUp Forgets = (w.task ≡ false) × (this ≡ w.place)
+    CleansUp Ends = (w.task ≡ true) × (this ≡ w.place)
     CleansUp (Destroys e) = EndsAt e
     CleansUp (DestroysAll m e) = EndsBelow m e
     CleansUp c = ⊥

@@ -10,7 +10,7 @@ use Rattle.uc_typing.specs.States.{Is}
 use Rattle.uc_typing.specs.Typing.{Ty, Num, Cell, Obj, Raw, Row, Clu, Pro, Name, Sig, Table, ObjectGives, CleansAt}
 use Rattle.uc_life_laws.specs.Things.{Few, numbered, IsBinding, IsReference, IsResource, IsTracked, IsSited, IsLoosePlace, AtField, InStack, NoBase, Within, Held, IsFew}
 use Rattle.uc_life_laws.specs.LifeStates.{Outwards, frame_at}
-use Rattle.uc_life_laws.specs.Lives.{LivesState}
+use Rattle.uc_life_laws.specs.Lives.{OutwardsOrMade, LivesState}
 use Rattle.uc_life_laws.specs.Knowing.{NotWhole, IsOwn, Here}
 use Rattle.uc_life_laws.specs.Opened.{any}
 
@@ -41,22 +41,26 @@ module _ (t : Table) (few : Few) (n : Exec) (K : Value → Ty → Type 0) where
   HoldsRight o vs w a = (p : List Link) (b : Ty) → Within t w a (Place o p) (Cell b) → IsBinding b →
       IsRightAs b (slice_index_or vs (address p) nought)
 
--- so it is of what is at a variable of the running activation
-module _ (t : Table) (few : Few) (c : CleanUp) (todo : List Todo) (s : State) where
+-- so it is of what is at a variable of the running activation, by these kinds of frames
+module _ (t : Table) (few : Few) (gs : List Sig) (c : CleanUp) (todo : List Todo) (s : State) where
   abbrev pub VariableRight : ℕ → Ty → Type 0
-  VariableRight k a = HoldsRight t few s.env.exec (Outwards t few s.env.exec s.run.frame s.run.this s.callers c todo) (Frame s.env.exec s.run.frame) (frame_at s.run.frame s.env.frames) (Place (Frame s.env.exec s.run.frame) (Slot k ∷ [])) a
+  VariableRight k a = HoldsRight t few s.env.exec (OutwardsOrMade gs (Outwards t few s.env.exec s.run.frame s.run.this s.callers c todo) s.env.exec s.run.frame s.run.this s.callers) (Frame s.env.exec s.run.frame) (frame_at s.run.frame s.env.frames) (Place (Frame s.env.exec s.run.frame) (Slot k ∷ [])) a
 
 -- where a scope opens, it is so of what that is of
-abbrev pub OpensRightAt : Table → Few → List Todo → State → Type 0
-OpensRightAt t few (Rest (Scoped c rest) ∷ todo) s = (k : ℕ) (a : Ty) → CleansAt t a (Variable k) c →
-    VariableRight t few c todo s k a
-OpensRightAt t few todo s = Unit {0}
+abbrev pub OpensRightAt : Table → Few → List Sig → List Todo → State → Type 0
+OpensRightAt t few gs (Rest (Scoped c rest) ∷ todo) s = (k : ℕ) (a : Ty) → CleansAt t a (Variable k) c →
+    VariableRight t few gs c todo s k a
+OpensRightAt t few gs todo s = Unit {0}
 
 -- an object that is a variable, and those of an array that is one
-pub record ObjectsRight (t : Table) (c : CleanUp) (todo : List Todo) (s : State) : Type 0 where
-  pub object : (k i : ℕ) → CleansAt t (Obj i) (Variable k) c → VariableRight t any c todo s k (Obj i)
+pub record ObjectsRight (t : Table) (gs : List Sig) (c : CleanUp) (todo : List Todo) (s : State) : Type 0 where
+  pub object : (k i : ℕ) → CleansAt t (Obj i) (Variable k) c → VariableRight t any gs c todo s k (Obj i)
   pub array : (k m i : ℕ) → CleansAt t (Row m (Obj i)) (Variable k) c →
-      VariableRight t any c todo s k (Row m (Obj i))
+      VariableRight t any gs c todo s k (Row m (Obj i))
+
+abbrev pub ObjectsOpenRight : Table → List Sig → State → Type 0
+ObjectsOpenRight t gs s = (c : CleanUp) (rest : Stmts) (todo : List Todo) →
+    s.run.control ≡ Rest (Scoped c rest) ∷ todo → ObjectsRight t gs c todo s
 
 module _ (t : Table) (few : Few) (gs : List Sig) (s : State) where
   abbrev pub IsFound : Ty → Value → Type 0
@@ -81,14 +85,14 @@ module _ (t : Table) (few : Few) (gs : List Sig) (s : State) where
   ReadsAt g sc (LoadNow ∷ todo) (Cell a ∷ more) = ReadsFound a (top s.run.operands)
   ReadsAt g sc todo own = Unit {0}
 
--- by some kinds by which variables in scope hold what is known, what the next step reads is right
-abbrev pub Reads : Table → Few → State → Type 0
-Reads t few s = (x : LivesState t few s) × ReadsAt t few x.0.sigs s x.0.run.sig x.0.run.scope s.run.control x.0.run.own
+-- by kinds by which variables in scope hold what is known, what the next step reads is right
+abbrev pub Reads : (t : Table) (few : Few) (s : State) → LivesState t few s → Type 0
+Reads t few s x = ReadsAt t few x.0.sigs s x.0.run.sig x.0.run.scope s.run.control x.0.run.own
 
--- where a scope opens, what that is of is right too
+-- so it is by some such kinds, and where a scope opens, what that is of is right too
 abbrev pub Found : Table → Few → State → Type 0
-Found t few s = LivesState t few s →
-    OpensRightAt t few s.run.control s × Reads t few s
+Found t few s = LivesState t few s → (x : LivesState t few s) ×
+    (Reads t few s x × OpensRightAt t few x.0.sigs s.run.control s)
 
 -- but in the four states from which a clean-up comes to the variable that it ends, and reads it
 abbrev pub FoundOutside : Table → (Ty → ℕ → Bool) → ℕ → State → Type 0
@@ -98,9 +102,7 @@ FoundOutside t numbers (suc n) s = Unit {0}
 -- so it is where numbers are not tested: what is bound is there behind the step that binds it, and of scopes those of plain objects are asked
 pub record ObjectsFound (t : Table) (source : Source) (s : State) : Type 0 where
   pub opens : there.Opens source s
-  pub objects : (c : CleanUp) (rest : Stmts) (todo : List Todo) →
-      s.run.control ≡ Rest (Scoped c rest) ∷ todo → ObjectsRight t c todo s
-  pub reads : LivesState t any s → Reads t any s
+  pub reads : LivesState t any s → (x : LivesState t any s) × (Reads t any s x × ObjectsOpenRight t x.0.sigs s)
 
 abbrev pub ObjectsFoundOutside : Table → Source → ℕ → State → Type 0
 ObjectsFoundOutside t source zero s = ObjectsFound t source s

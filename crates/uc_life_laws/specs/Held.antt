@@ -100,8 +100,13 @@ module _ (source : Source) (w : Seat) (ps : List Placed) (n : Exec) where
   SoonFrom zero s = Soon s.run s.callers
   SoonFrom (suc k) s = Stays s.run.control × Ends ps (stacked (s.run ∷ s.callers)) × Onwards (SoonFrom k) Soon (quiet source s)
 
+  -- the object of the task at hand goes next, before these marks
+  abbrev pub GoesNext : List Todo → Active → List Active → Type 0
+  GoesNext (piece.GoneNow ∷ todo) a cs = (w.task ≡ true) × (a.this ≡ w.place) × Ends ps (stacked (a ∷ cs))
+  GoesNext todo a cs = ⊥
+
   abbrev pub SoonHere : State → Type 0
-  SoonHere s = (k : ℕ) × SoonFrom k s
+  SoonHere s = ((k : ℕ) × SoonFrom k s) ⊎ GoesNext s.run.control s.run s.callers
 
   -- behind a request others may run first: such a mark stands, or bare answers are enough
   abbrev pub SoonAsked : Form → Active → List Active → Type 0
@@ -166,8 +171,13 @@ module _ (source : Source) (seats : Seating) (up : Exec → Bool) where
     abbrev pub Recounts : List Todo → Type 0
     Recounts todo = (x : Exec) → IsOwn x → HoldsCounted x todo → LeadsSoon x
 
+  -- the object at hand is of no task whose main is up
+  abbrev pub IsNoTask : State → Type 0
+  IsNoTask s = (x : Exec) → IsOwn s x → (seats.seat x).task ≡ true → s.run.this ≡ (seats.seat x).place → ⊥
+
   -- what is to hold of such a step: where a mark is reached, passed by an unwinding or by an exit, or elements are counted anew, each execution that it was to
-  -- end is held soon; where a main ends, nothing is left behind it; and one that is made next has made none
+  -- end is held soon; where an object goes, it is of no task whose main is up; where a main ends, nothing is left behind it; and one that is made next has
+  -- made none
   abbrev pub TakesAt : List Todo → State → Type 0
   TakesAt (piece.Clean c ∷ todo) s = Takes s (piece.IsClean c) todo
   TakesAt (piece.Part c ∷ todo) s = Takes s (piece.IsPart c) todo
@@ -178,6 +188,7 @@ module _ (source : Source) (seats : Seating) (up : Exec → Bool) where
   TakesAt (piece.MoreNow ∷ todo) s = Recounts s todo
   TakesAt (piece.Unwind ∷ (p ∷ todo)) s = Takes s (sort p) todo
   TakesAt (piece.Exit way ∷ (p ∷ todo)) s = Takes s (sort p) todo
+  TakesAt (piece.GoneNow ∷ todo) s = IsNoTask s
   TakesAt (piece.Finish ∷ todo) s = AreLines todo
   TakesAt (piece.SetUpNow r ∷ todo) s = (m : Members) → members_at (home_at s.run.this s.env) s.env ≡ Some m →
       (x : Exec) → up x ≡ true → seats.parent x ≡ new_exec (home_at s.run.this s.env) s.env → ⊥

@@ -71,12 +71,13 @@ GoesOn todo why = Unit {0}
 
 module _ (Q : Exec → List Sig → Execution (List Todo) Value → Type 0) where
   -- an execution that does not run keeps what is claimed of it: as somebody writes to a place in its frames, as its links change, and as it is to be
-  -- unwound
+  -- unwound, by no return
   pub record IsKept : Type 0 where
     pub written : (n : Exec) (gs : List Sig) (x : Execution (List Todo) Value) (d k : ℕ) (v : Value) → Q n gs x →
         Q n gs (record x { frames = frame_changed d (value_changed k (stored v) nought) x.frames })
     pub linked : (n : Exec) (gs : List Sig) (x : Execution (List Todo) Value) (l : Links) → Q n gs x → Q n gs (record x { links = l })
-    pub unwound : (n : Exec) (gs : List Sig) (x : Execution (List Todo) Value) (why : UnwindReason) → Q n gs x → Q n gs (unwound_there why x)
+    pub unwound : (n : Exec) (gs : List Sig) (x : Execution (List Todo) Value) (why : UnwindReason) →
+        ((home : ℕ) → why ≡ reason.ReturnTo home → ⊥) → Q n gs x → Q n gs (unwound_there why x)
 
   -- what is claimed of an execution that stops with the next step, as it stands then, and of one that is made
   module _ (t : Table) (source : Source) (gs : List Sig) (s : State) where

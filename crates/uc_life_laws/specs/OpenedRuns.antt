@@ -1,11 +1,10 @@
 -- Runs of programs in which of scopes only those of plain objects are asked: what is known by its number is there once its variable is bound.
-use Rattle.std.specs.Prelude.{◌≡◌, ℕ, false, List, [], ◌∷◌}
+use Rattle.std.specs.Prelude.{◌≡◌, ℕ, false, List, []}
 use Rattle.uc_tree.specs.Programs.{Program}
-use Rattle.uc_tree.specs.Source.{Source, CleanUp, Stmts, Scoped}
+use Rattle.uc_tree.specs.Source.{Source}
 use Rattle.uc_entry.specs.declared.entry.Options.{Options}
 use Rattle.uc_acts.specs.Journal.{Journal, is_over}
 use Rattle.uc_acts.specs.KernelRuns.{InRange}
-use Rattle.uc_machine.specs.Pieces.{Todo, Rest}
 use Rattle.uc_machine.specs.Quiet.{State}
 use Rattle.uc_machine.specs.Answering.{answered}
 use Rattle.uc_meaning.specs.Runs.{World, Runs, drawn}
@@ -21,17 +20,14 @@ use Rattle.uc_sound.specs.SoundFormed.{IsFormed}
 use Rattle.uc_sound.specs.Tables.{table_of}
 use Rattle.uc_life_laws.specs.Lives.{LivesState}
 use Rattle.uc_life_laws.specs.Knowing.{KnowsState, Finds}
-use Rattle.uc_life_laws.specs.Opened.{any, ObjectsHold}
+use Rattle.uc_life_laws.specs.Opened.{any, ObjectsOpen}
 
--- a step finds what it is to find: what is bound is there behind the step, and scopes open in frames of which all cells have addresses; where a
--- scope of plain objects opens, they hold what is known; and by some typing the step finds the rest
+-- a step finds what it is to find: what is bound is there behind the step, and scopes open in frames of which all cells have addresses; and by some
+-- typing the step finds the rest, and where a scope of plain objects opens, they hold what is known
 pub record MeetsObjects (t : Table) (source : Source) (s : State) : Type 0 where
   pub opens : there.Opens source s
-  pub objects : (c : CleanUp) (rest : Stmts) (todo : List Todo) →
-      s.run.control ≡ Rest (Scoped c rest) ∷ todo →
-      ObjectsHold t c todo s
-  pub finds : LivesState t any s →
-      (x : LivesState t any s) × Finds t any x.0.sigs x.0.run.sig x.0.run.scope s s.run.control x.0.run.own
+  pub finds : LivesState t any s → (x : LivesState t any s) ×
+      (Finds t any x.0.sigs x.0.run.sig x.0.run.scope s s.run.control x.0.run.own × ObjectsOpen t x.0.sigs s)
 
 -- all is known then of whoever runs in each state to which it comes before it asks, what is in scope holds what is, and what its next step reads
 -- is of its type

@@ -1,6 +1,6 @@
 -- What is left to find of steps that take marks away, where destructors are called as clean-ups tell.
 use Rattle.std.specs.Prelude.{◌≡◌, ℕ, suc, ◌<◌, Bool, false, List, ◌∷◌, nat_lt}
-use Rattle.uc_tree.specs.Source.{Source, Expr, Load, OfObject, EndOn, CleanUp, Destroys, Forgets, Ends}
+use Rattle.uc_tree.specs.Source.{Source, Expr, Load, OfObject, EndOn, CleanUp, Destroys, Forgets}
 use Rattle.uc_machine.specs.declared.exec.Exec.{Exec}
 use Rattle.uc_machine.specs.Pieces as piece
 use Rattle.uc_machine.specs.Pieces.{Object, Todo, Sort, sort, State, loaded}
@@ -9,9 +9,9 @@ use Rattle.uc_life_laws.specs.Destroying.{Destroying, AtPlace, AtElement}
 use Rattle.uc_life_laws.specs.Held.{Seating, IsOwn, Takes, Recounts, TakesAt, TakesNow}
 
 module _ (source : Source) (seats : Seating) (up : Exec → Bool) where
-  -- the execution of the coroutine or task at hand is not up any more
+  -- the execution of the coroutine at hand is not up any more
   abbrev pub IsForgotten : State → Type 0
-  IsForgotten s = (x : Exec) → IsOwn source seats up s x → s.run.this ≡ (seats.seat x).place → ⊥
+  IsForgotten s = (x : Exec) → IsOwn source seats up s x → (seats.seat x).task ≡ false → s.run.this ≡ (seats.seat x).place → ⊥
 
   -- a destructor that comes to the end of this execution, of a mutex object that is at home at the place at which that is called: that object is read there
   abbrev pub ReadsEnded : Exec → Expr → State → Type 0
@@ -32,7 +32,6 @@ module _ (source : Source) (seats : Seating) (up : Exec → Bool) where
   -- a clean-up is reached
   abbrev pub ForgetsBy : CleanUp → State → Type 0
   ForgetsBy Forgets s = IsForgotten s
-  ForgetsBy Ends s = IsForgotten s
   ForgetsBy (Destroys e) s = (x : Exec) → IsOwn source seats up s x → ReadsEnded x e s
   ForgetsBy c s = Unit {0}
 
@@ -49,8 +48,8 @@ module _ (source : Source) (seats : Seating) (up : Exec → Bool) where
   ExitsBy (piece.IsSweep d) todo s = Takes source seats up s (piece.IsSweep d) todo
   ExitsBy k todo s = Unit {0}
 
-  -- an execution is up no more where its coroutine is forgotten or its task goes; where the destructor of a mutex object is called that comes to the end of one,
-  -- that object is read there; where a part of an object is left as that is built, where all elements of an array are, and
+  -- an execution is up no more where its coroutine is forgotten, or the object of its task goes; where the destructor of a mutex object is called that comes to
+  -- the end of one, that object is read there; where a part of an object is left as that is built, where all elements of an array are, and
   -- where an exit leaves what is being built or destroyed, those that it held are held soon; no other elements are counted where some are counted anew;
   -- where a main ends, nothing is left behind it; and one that is made next has made none
   abbrev pub LeavesAt : List Todo → State → Type 0

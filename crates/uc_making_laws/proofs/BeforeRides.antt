@@ -91,7 +91,7 @@ module _ (t : Table) (few : Few) (source : Source) where
     ride_all (asks {s} e) l h f m b = one s l h f m b
 
 pub law_before_rides : LawBeforeRides
-law_before_rides t few own yet source input opts j w r range fits on zero main leaves spares binds mains finds puts this p u n s q d bound mained found put has b homes kept keeps rooted =
+law_before_rides t few own yet source input opts j w r range fits on zero main leaves spares binds mains finds puts this p u n s q d bound mained found put has b homes kept gone keeps rooted =
     let all = law_own_names source input opts j w r range fits on leaves spares in
     let rests = run_rests source input opts range r fits on in
     let y = run_named source input opts range r fits on in
@@ -105,7 +105,7 @@ law_before_rides t few own yet source input opts j w r range fits on zero main l
     let fresh_ride = ride_fresh t few source j w u d.rides bound ending found owned (law_fresh.told source d.given (drawn j w u) (drawn_fresh j w u fresh_world)) in
     let these = law_this_runs t few source input opts (j ++ act opts source.sites input j p u n q) (world_after source (act opts source.sites input j p u n q) w u s) longer (this, has) in
     let worlds = law_this_runs t few source input opts j w r this in
-    let up = law_upheld.upheld homes source input opts j w r range fits on leaves spares mains p u n s q d mained b kept keeps in
+    let up = law_upheld.upheld homes source input opts j w r range fits on leaves spares mains p u n s q d mained b kept gone keeps in
     ride_all t few source names.Spares (LoneState t few) (ThisState t few) (λ v. FreshEnv v.env) (UpheldAt (with_homes homes b.makers) (way_still source input opts r d) source j w u) (λ v. RootedOnWay t few own yet (with_homes homes b.makers) j w u v source) (λ v. Before t few j w u v source × RaisesUpwards t few own yet b.makers.rank j w u v) (λ v l h f m g.
     at_state v l (λ q x e o k belongs free. nowhere_before t few source j w u lt all.later (all.elsewhere u lt) lone.world (worlds.world on) v l h f (with_homes homes b.makers) (way_still source input opts r d) m (m.last q x e) zero own yet main o k belongs free) (λ q x e k. upwards_there t few source j w u lt all.later (all.elsewhere u lt) lone.world (worlds.world on) v l h f (with_homes homes b.makers) (way_still source input opts r d) m (m.last q x e) own yet main k) g) d.rides (ride_lone t few source d.rides put lone_start) these.rides.1 fresh_ride up rooted
   where

@@ -60,10 +60,10 @@ use Rattle.uc_acts.specs.Known.{has_ended}
 use Rattle.uc_rooted_runs.specs.OutlastRuns.{with_homes, made_behind, run_made, now, OutlastsAt}
 use Rattle.uc_rooted_runs.specs.Upwards.{OutlastWorld}
 use Rattle.uc_rooted_runs.specs.MadeRuns.{IsMade, AllMade}
-use Rattle.uc_rooted_runs.specs.KeptRuns.{RideKeeps, RunKeeps}
+use Rattle.uc_rooted_runs.specs.KeptRuns.{RideKeeps, RunKeeps, RunEnds}
 use Rattle.uc_rooted_runs.proofs.Births as births
 use Rattle.uc_rooted_runs.proofs.Births.{MakesBelow}
-use Rattle.uc_rooted_runs.proofs.KeptRuns.{at_state, run_both, law_kept_runs}
+use Rattle.uc_rooted_runs.proofs.KeptRuns.{goes_not, ticks_not, at_state, run_both, law_kept_runs}
 use Rattle.uc_rooted_runs.proofs.MadeRuns as made_runs
 use Rattle.uc_rooted_runs.proofs.MadeRuns.{BelowMade, made_grows, step_made, parked_made, law_made_runs}
 use Rattle.uc_rooted_runs.proofs.MainRuns.{law_mains}
@@ -335,7 +335,7 @@ module _ (whole : Makers) (homes : ℕ → Value) (asked : Exec → Bool) where
           λ spared.
               let both : StaysOwn source j w u s = record { now = now; next = subst (StepOwn j w u) (sym e) (own t (way.goes e way.stays) (spared, tt)) } in
               let names = names_at whole homes asked source j w u counts made s n h both l.0 in
-              let out = at_state (with_homes homes whole) asked source made s f.0 c.0 names in
+              let out = at_state (with_homes homes whole) asked source made s f.0 c.0 (λ todo y. absurd (goes_not source s t e todo y)) names in
               let b = walk source (at_hand j w u) false counts s n (λ u. vacuous u) in
               ride_upheld (made_behind source s made) (still_behind s still) b.serials r f.1 c.1 l.1 (λ x m y. own x (way.goes e m) (spared, y)) (subst (StepNamed (at_hand j w u) false b.serials) e b.named) (below_behind whole homes asked source j w u counts made s n h both l.0 b.serials b.grows.more) g (on_goes made still s o out l.0 now spared f.0 t e),
         )
@@ -345,7 +345,7 @@ module _ (whole : Makers) (homes : ℕ → Value) (asked : Exec → Bool) where
           λ spared.
               let both : StaysOwn source j w u s = record { now = now; next = subst (StepOwn j w u) (sym e) (own t (way.ticks e way.stays) (spared, tt)) } in
               let names = names_at whole homes asked source j w u counts made s n h both l.0 in
-              let out = at_state (with_homes homes whole) asked source made s f.0 c.0 names in
+              let out = at_state (with_homes homes whole) asked source made s f.0 c.0 (λ todo y. absurd (ticks_not source s t e todo y)) names in
               let b = walk source (at_hand j w u) false counts s n (λ u. vacuous u) in
               ride_upheld (made_behind source s made) (still_behind s still) b.serials r f.1 c.1 l.1 (λ x m y. own x (way.ticks e m) (spared, y)) (subst (StepNamed (at_hand j w u) false b.serials) e b.named) (below_behind whole homes asked source j w u counts made s n h both l.0 b.serials b.grows.more) g (on_ticks made still s o out l.0 now spared f.0 t e),
         )
@@ -391,7 +391,7 @@ module _ (source : Source) (input : List ℕ) (opts : Options) (range : InRange 
     pub ends : RideMeets (EndsMains source) source (answered source d.given (drawn j w u)) (left opts j u) s n q d.rides
     ends = (law_mains.runs source input opts (j ++ act opts source.sites input j p u n q) (world_after source (act opts source.sites input j p u n q) w u s) (more r on (acts p u n s q d)) (mains, mained)).1
 
-    module _ (b : MadeLaterTo source input opts j w r p u n s q d) (homes : ℕ → Value) (kept : RunKeeps (with_homes homes b.makers) (way_still source input opts r d) source input opts r) (keeps : RideKeeps (with_homes homes b.makers) (way_still source input opts r d) source (run_made source input opts r) d.rides) where
+    module _ (b : MadeLaterTo source input opts j w r p u n s q d) (homes : ℕ → Value) (kept : RunKeeps (with_homes homes b.makers) (way_still source input opts r d) source input opts r) (gone : RunEnds (with_homes homes b.makers) (way_still source input opts r d) source input opts r) (keeps : RideKeeps (with_homes homes b.makers) (way_still source input opts r d) source (run_made source input opts r) d.rides) where
       abbrev asked : Exec → Bool
       asked = way_still source input opts r d
 
@@ -402,8 +402,8 @@ module _ (source : Source) (input : List ℕ) (opts : Options) (range : InRange 
           let z = outlast_names.run_told b.makers homes asked source input opts range r fits on leaves spares b.made b.spawned in
           let v = still_runs.run_told source input opts range r fits on leaves spares (law_mains.runs source input opts j w r mains) in
           let lt : u < task_count j = known source input opts range rests on y.serials y.world p u d.runs in
-          let h : OutlastWorld (with_homes homes b.makers) (now (with_homes homes b.makers) asked (run_made source input opts r)) j w = law_kept_runs asked homes source input opts j w r range fits on leaves spares mains (record { makers = b.makers; made = b.made; spawned = b.spawned }) kept in
-          let held_world = outlast.run_outlasts b.makers homes asked source input opts range r fits on (run_both (with_homes homes b.makers) asked source input opts r (law_mains.runs source input opts j w r mains) kept z.names) b.made b.spawned in
+          let h : OutlastWorld (with_homes homes b.makers) (now (with_homes homes b.makers) asked (run_made source input opts r)) j w = law_kept_runs asked homes source input opts j w r range fits on leaves spares mains (record { makers = b.makers; made = b.made; spawned = b.spawned }) kept gone in
+          let held_world = outlast.run_outlasts b.makers homes asked source input opts range r fits on (run_both (with_homes homes b.makers) asked source input opts r (law_mains.runs source input opts j w r mains) kept gone z.names) b.made b.spawned in
           let apart = (law_own_names source input opts j w r range fits on leaves spares).elsewhere u lt in
           let there = law_made_runs.there source input opts j w r range fits on in
           let same : e.hand ≡ held u j = sym (ride_keys source e.hand d.rides e.settled) ∙ (asks_with source input opts range rests on p u n s q d).hand in
@@ -426,6 +426,6 @@ module _ (source : Source) (input : List ℕ) (opts : Options) (range : InRange 
 pub law_upheld : LawUpheld
 law_upheld = record {
   births = λ source input opts j w r range fits on p u n s q d. births_to source input opts range r fits on p u n s q d;
-  upheld = λ homes source input opts j w r range fits on leaves spares mains p u n s q d mained b kept keeps.
-      upheld_along source input opts range r fits on p u n s q d leaves spares mains mained b homes kept keeps;
+  upheld = λ homes source input opts j w r range fits on leaves spares mains p u n s q d mained b kept gone keeps.
+      upheld_along source input opts range r fits on p u n s q d leaves spares mains mained b homes kept gone keeps;
 }

@@ -28,7 +28,7 @@ use Rattle.uc_rooted_runs.specs.Makers.{Makers}
 use Rattle.uc_rooted_runs.specs.Binds.{BindsOwn}
 use Rattle.uc_rooted_runs.specs.Mains.{CallsNoMain, FindsAll}
 use Rattle.uc_rooted_runs.specs.OutlastRuns.{with_homes, run_made}
-use Rattle.uc_rooted_runs.specs.KeptRuns.{RideKeeps, RunKeeps, IsStood}
+use Rattle.uc_rooted_runs.specs.KeptRuns.{RideKeeps, RunKeeps, RunEnds, IsStood}
 use Rattle.uc_rooted_runs.specs.Still.{way_still}
 use Rattle.uc_making_laws.specs.OwnThis.{FindsThis}
 use Rattle.uc_making_laws.specs.RideWhile.{RideWhile}
@@ -73,7 +73,7 @@ module _ (t : Table) (few : Few) (own : Exec → Value → Ty → Bool) (yet : E
 -- on the way to what a task asks next, behind a run in which all that was asked so far fits, no step forgets the running execution, calls a main or binds
 -- what stands in a frame of another one, routines are there and unwindings have reasons, nobody leaves its home for good, marks are put for what is an
 -- execution's own, object 0 is at home in nobody's own, the main of task 0 has its own object alone of others, and activations have their objects: just before an object goes, or its building is given up, it is nowhere in the world, and who does
--- not run in the task spares it, as long as of those that are still there at the end of the way what was to be cleaned up as they were made stays (`RunKeeps`, `RideKeeps`); and where an
+-- not run in the task spares it, as long as of those that are still there at the end of the way what was to be cleaned up as they were made stays (`RunKeeps`, `RideKeeps`), and none of these is the main of a task whose object went (`RunEnds`); and where an
 -- event is raised at an object, what executions have of others stands upwards; so it is before the first step that forgets the running execution, if there
 -- is one
 abbrev pub LawBeforeRides : Type 0
@@ -95,6 +95,7 @@ LawBeforeRides =
     RideMeets (FindsThis t few source) source (answered source d.given (drawn j w u)) (left opts j u) s n q d.rides →
     (b : MadeLaterTo source input opts j w r p u n s q d) (homes : ℕ → Value) →
     RunKeeps (with_homes homes b.makers) (way_still source input opts r d) source input opts r →
+    RunEnds (with_homes homes b.makers) (way_still source input opts r d) source input opts r →
     RideKeeps (with_homes homes b.makers) (way_still source input opts r d) source (run_made source input opts r) d.rides →
     RideMeets (λ v. RootedOnWay t few own yet (with_homes homes b.makers) j w u v source) source (answered source d.given (drawn j w u)) (left opts j u) s n q d.rides →
     RideWhile names.Spares (λ v. Before t few j w u v source × RaisesUpwards t few own yet b.makers.rank j w u v) source (answered source d.given (drawn j w u)) (left opts j u) s n q d.rides

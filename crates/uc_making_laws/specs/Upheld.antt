@@ -25,7 +25,7 @@ use Rattle.uc_rooted_runs.specs.Mains.{CallsNoMain}
 use Rattle.uc_rooted_runs.specs.OutlastRuns.{with_homes, run_made, now}
 use Rattle.uc_rooted_runs.specs.Upwards.{OutlastWorld}
 use Rattle.uc_rooted_runs.specs.MadeRuns.{AllMade}
-use Rattle.uc_rooted_runs.specs.KeptRuns.{RideKeeps, RunKeeps}
+use Rattle.uc_rooted_runs.specs.KeptRuns.{RideKeeps, RunKeeps, RunEnds}
 use Rattle.uc_rooted_runs.specs.Still.{AreStill, way_still}
 use Rattle.uc_making_laws.specs.RideWhile.{RideWhile}
 
@@ -57,7 +57,7 @@ pub record UpheldAt (makers : Makers) (asked : Exec → Bool) (source : Source) 
 
 -- of a run in which all that was asked so far fits, no step forgets the running execution or calls a main, and nobody leaves its home for good, and of the
 -- way to what is asked next, on which no step calls a main: such are those that are told, and so it is in each state on the way before which no step forgot
--- it, where that is asked of those that are still there at the end of the way
+-- it, where that is asked of those that are still there at the end of the way, and none of these is the main of a task whose object went in an act before
 pub record LawUpheld : Type 0 where
   pub births : (source : Source) (input : List ℕ) (opts : Options) (j : Journal) (w : World)
       (r : Runs source input opts j w) → InRange opts → RunFits source input opts j w r → is_over j ≡ false →
@@ -71,5 +71,6 @@ pub record LawUpheld : Type 0 where
       RideMeets (CallsNoMain source) source (answered source d.given (drawn j w u)) (left opts j u) s n q d.rides →
       (b : MadeLaterTo source input opts j w r p u n s q d) →
       RunKeeps (with_homes homes b.makers) (way_still source input opts r d) source input opts r →
+      RunEnds (with_homes homes b.makers) (way_still source input opts r d) source input opts r →
       RideKeeps (with_homes homes b.makers) (way_still source input opts r d) source (run_made source input opts r) d.rides →
       RideWhile names.Spares (UpheldAt (with_homes homes b.makers) (way_still source input opts r d) source j w u) source (answered source d.given (drawn j w u)) (left opts j u) s n q d.rides

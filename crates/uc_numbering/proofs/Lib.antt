@@ -3,3 +3,4 @@ pub mod FlatLemmas
 pub mod Listed
 pub mod Past
 pub mod Places
+pub mod Put

@@ -102,10 +102,7 @@ fn push_maybe<'a>(found: &mut Vec<&'a Stmt>, s: &'a Option<Box<Stmt>>) -> Result
         ≡ map (λ s. s.now) found.old.items ++ gathered_maybe itself (maybe_at s.now)) }
 {
     match s {
-        Some(s) => {
-            push_stmt(found, s)?;
-            Ok(())
-        }
+        Some(s) => push_stmt(found, s),
         None => Ok(()),
     }
 }
@@ -115,8 +112,7 @@ fn push_handler<'a>(found: &mut Vec<&'a Stmt>, handler: &'a Handler) -> Result<(
     ensures { OnOk result (map (λ s. s.now) found.new.items
         ≡ map (λ s. s.now) found.old.items ++ gathered_handler itself handler.now) }
 {
-    push_stmts(found, &handler.body)?;
-    Ok(())
+    push_stmts(found, &handler.body)
 }
 
 #[cycle(gathered)]
@@ -124,6 +120,5 @@ fn push_clause<'a>(found: &mut Vec<&'a Stmt>, clause: &'a Clause) -> Result<(), 
     ensures { OnOk result (map (λ s. s.now) found.new.items
         ≡ map (λ s. s.now) found.old.items ++ gathered_clause itself clause.now) }
 {
-    push_stmt(found, &clause.body)?;
-    Ok(())
+    push_stmt(found, &clause.body)
 }

@@ -25,7 +25,7 @@ use Rattle.uc_opened_runs.specs.OpenedRuns.{FindsObjects, FindsOutside, LawOpene
 
 module _ (t : Table) (source : Source) where
   meets : (s : State) → Opens source s → FindsObjects t s → MeetsObjects t source s
-  meets s o f = record { opens = o; objects = f.objects; finds = f.finds }
+  meets s o f = record { opens = o; finds = f }
 
   outside : (n : ℕ) (s : State) → Opens source s → FindsOutside t n s → ObjectsOutside t source n s
   outside zero s o f = meets s o f

@@ -1,11 +1,11 @@
 -- Runs of programs within their limits in which of scopes only those of plain objects are asked: what is known by its number is there.
-use Rattle.std.specs.Prelude.{◌≡◌, ℕ, zero, suc, false, List, [], ◌∷◌}
+use Rattle.std.specs.Prelude.{◌≡◌, ℕ, zero, suc, false, List, []}
 use Rattle.uc_tree.specs.Programs.{Program}
-use Rattle.uc_tree.specs.Source.{Source, CleanUp, Stmts, Scoped}
+use Rattle.uc_tree.specs.Source.{Source}
 use Rattle.uc_entry.specs.declared.entry.Options.{Options}
 use Rattle.uc_acts.specs.Journal.{Journal, is_over}
 use Rattle.uc_acts.specs.KernelRuns.{InRange}
-use Rattle.uc_machine.specs.Pieces.{Todo, Rest, State}
+use Rattle.uc_machine.specs.Pieces.{State}
 use Rattle.uc_machine.specs.Answering.{answered}
 use Rattle.uc_meaning.specs.Runs.{World, Runs, drawn}
 use Rattle.uc_state_laws.specs.Fitting.{RunFits}
@@ -20,16 +20,13 @@ use Rattle.uc_sound.specs.SoundFormed.{IsFormed}
 use Rattle.uc_sound.specs.Tables.{table_of}
 use Rattle.uc_life_laws.specs.Lives.{LivesState}
 use Rattle.uc_life_laws.specs.Knowing.{KnowsState, Finds}
-use Rattle.uc_life_laws.specs.Opened.{any, ObjectsHold}
+use Rattle.uc_life_laws.specs.Opened.{any, ObjectsOpen}
 
--- a step finds what it is to find of objects and of what it reads: where a scope of plain objects opens, they hold what is known; and by some
--- typing the step finds the rest
-pub record FindsObjects (t : Table) (s : State) : Type 0 where
-  pub objects : (c : CleanUp) (rest : Stmts) (todo : List Todo) →
-      s.run.control ≡ Rest (Scoped c rest) ∷ todo →
-      ObjectsHold t c todo s
-  pub finds : LivesState t any s →
-      (x : LivesState t any s) × Finds t any x.0.sigs x.0.run.sig x.0.run.scope s s.run.control x.0.run.own
+-- a step finds what it is to find of objects and of what it reads: by some typing it finds what it reads, and where a scope of plain objects opens,
+-- they hold what is known
+abbrev pub FindsObjects : Table → State → Type 0
+FindsObjects t s = LivesState t any s → (x : LivesState t any s) ×
+    (Finds t any x.0.sigs x.0.run.sig x.0.run.scope s s.run.control x.0.run.own × ObjectsOpen t x.0.sigs s)
 
 -- but in the four states from which a clean-up comes to the variable that it ends, and reads it
 abbrev pub FindsOutside : Table → ℕ → State → Type 0

@@ -29,7 +29,7 @@ use Rattle.uc_rooted_runs.specs.Births.{MakesLater}
 use Rattle.uc_rooted_runs.specs.OutlastRuns.{with_homes, now}
 use Rattle.uc_rooted_runs.specs.KeptRuns.{KeepsAt}
 use Rattle.uc_parts_laws.specs.Parts.{CleansPart, Counts, CountsPlace, OpensAll, FillEnds, CountsNext, FreeBy, IsFree, IsClear, SetsUp, Parted, IsOrderly}
-use Rattle.uc_parts_laws.specs.PartStates.{Setting, seat_at, InParts, OverIn, Over, IsTaken, PartsState}
+use Rattle.uc_parts_laws.specs.PartStates.{Setting, Spot, seat_at, InParts, OverIn, Over, IsTaken, PartsState}
 use Rattle.uc_parts_laws.specs.Leaving.{GoesAt, LawLeaving}
 
 -- an element that is destroyed is one of so many
@@ -88,12 +88,16 @@ are_parts special P (piece.Part c ∷ todo) h = are_parts special P todo h.1
 are_parts special P (piece.Clean (src.Frees r) ∷ []) h = tt
 are_parts special P todo h = absurd h
 
+-- what an execution was made for
+abbrev pub spot_of : Makers → Exec → Spot
+spot_of makers x = record { place = (makers.seat x).place; task = (makers.seat x).task }
+
 module _ (source : Source) (special : ℕ → Bool) (home : ℕ → Value) where
   abbrev G : Setting
   G = record { source = source; special = special; home = home }
 
   -- who waits takes it over
-  module _ (v : Value) (n : Exec) (ps : List Placed) where
+  module _ (v : Spot) (n : Exec) (ps : List Placed) where
     over_rest : (b : Active) (older : List Active) (ss : Stmts) (line : ℕ) (todo : List Todo) → OverIn G v n b (piece.DropNow ∷ (piece.Within line ∷ (piece.Rest ss ∷ todo))) → Ends ps (outer_by b.frame b.this (piece.DropNow ∷ (piece.Within line ∷ (piece.Rest ss ∷ todo))) (stacked older) (outermost older)) → TakesOver source (seat_at G v) ps n b older (piece.DropNow ∷ (piece.Within line ∷ (piece.Rest ss ∷ todo)))
     over_rest b older (src.Scoped c rest) line todo h o = (h, o)
     over_rest b older (src.Built c rest) line todo h o = (h, o)
@@ -124,14 +128,14 @@ module _ (source : Source) (special : ℕ → Bool) (makers : Makers) (homes : �
   abbrev Leads : Exec → Step → Type 0
   Leads x step = Onwards source (W x) (makers.before x) s.env.exec (SoonHere source (W x) (makers.before x) s.env.exec) (Soon source (W x) (makers.before x) s.env.exec) step
 
-  taken : (c : CleanUp) → CleansPart c → Q c → (v : Value) → CleansUp source (seat_at (G source special homes) v) s.env.exec s.run.frame s.run.this c → Over (G source special homes) v s.env.exec s.callers
+  taken : (c : CleanUp) → CleansPart c → Q c → (v : Spot) → CleansUp source (seat_at (G source special homes) v) s.env.exec s.run.frame s.run.this c → Over (G source special homes) v s.env.exec s.callers
   taken src.Ends p q v h = absurd p
   taken c p q v h = q v h
 
   -- a part is left
   part : (c : CleanUp) (todo : List Todo) → PartsState (G source special homes) s → s.run.control ≡ piece.Part c ∷ todo → CleansPart c → Q c → Parted special Q todo → Takes source Seats Up s (piece.IsPart c) todo
   part c todo st e n q p x own h =
-      subst (λ l. Leads x (quiet.act_todo source l s)) (sym e) (refl, (0, law_completing.parts source (W x) (makers.before x) s.env.exec (record s.run { control = todo }) s.callers (are_parts special Q todo p) (taken_over source special homes (makers.seat x).place s.env.exec (makers.before x) s.callers st.callers (taken c n q (makers.seat x).place h.0) h.1)))
+      subst (λ l. Leads x (quiet.act_todo source l s)) (sym e) (refl, inl (0, law_completing.parts source (W x) (makers.before x) s.env.exec (record s.run { control = todo }) s.callers (are_parts special Q todo p) (taken_over source special homes (spot_of makers x) s.env.exec (makers.before x) s.callers st.callers (taken c n q (spot_of makers x) h.0) h.1)))
 
   -- all elements of an array stand, and are cleaned up together
   opens : (x : Exec) (m : ℕ) (b d : Expr) (line : ℕ) (ss : Stmts) (todo : List Todo) → OpensAll m d ss → HoldsNow source Seats Up s x (piece.IsFill m b d) (piece.Within line ∷ (piece.Rest ss ∷ todo)) → SoonIn source (W x) (makers.before x) s.env.exec 1 (record s.run { control = piece.Rest ss ∷ todo }) s.callers
@@ -148,12 +152,12 @@ module _ (source : Source) (special : ℕ → Bool) (makers : Makers) (homes : �
 
   fill : (m : ℕ) (b d : Expr) (todo : List Todo) → s.run.control ≡ piece.FillNow m b d ∷ todo → FillEnds todo m d → nat_lt s.run.elements m ≡ false → Takes source Seats Up s (piece.IsFill m b d) todo
   fill m b d todo e o f x own h =
-      subst (λ l. Leads x (quiet.act_todo source l s)) (sym e) (subst (λ c. Leads x (quiet.turns (quiet.fill_todo c m b d todo) s)) (sym f) (refl, (0, (2, stands x m b d todo o h))))
+      subst (λ l. Leads x (quiet.act_todo source l s)) (sym e) (subst (λ c. Leads x (quiet.turns (quiet.fill_todo c m b d todo) s)) (sym f) (refl, inl (0, (2, stands x m b d todo o h))))
 
   -- elements are counted anew
   sweeps : (m : ℕ) (d : Expr) (todo : List Todo) → s.run.control ≡ piece.CountNow m ∷ (piece.Sweep d ∷ todo) → Counts m d → IsFree todo → Recounts source Seats Up s (piece.Sweep d ∷ todo)
   sweeps m d todo e c k x own (inl h) =
-      subst (λ l. Leads x (quiet.act_todo source l s)) (sym e) (refl, (0, (0, inl (all_below m s.run.elements d source (W x) s.env.exec s.run.frame s.run.this c h.0, h.1))))
+      subst (λ l. Leads x (quiet.act_todo source l s)) (sym e) (refl, inl (0, (0, inl (all_below m s.run.elements d source (W x) s.env.exec s.run.frame s.run.this c h.0, h.1))))
   sweeps m d todo e c k x own (inr h) = absurd (none_counted source Seats Up s x todo k h)
 
   counts : (m : ℕ) (todo : List Todo) → s.run.control ≡ piece.CountNow m ∷ todo → CountsNext m todo → IsOrderly special Q s.run.elements todo → LeavesAt source Seats Up (piece.CountNow m ∷ todo) s
@@ -180,9 +184,9 @@ module _ (source : Source) (special : ℕ → Bool) (makers : Makers) (homes : �
 
   -- an execution that is made is a part of the object at hand next
 
-  set_up : (w : Seat) (ps : List Placed) (a : Active) (cs : List Active) (todo : List Todo) → SetsUp todo → a.this ≡ w.place → Ends ps (outermost cs) → IsSetUp source w ps s.env.exec a cs todo
-  set_up w ps a cs (piece.Rest (src.Built src.Forgets rest) ∷ todo) h i o = (i, o)
-  set_up w ps a cs todo h i o = absurd h
+  set_up : (w : Seat) (ps : List Placed) (a : Active) (cs : List Active) (todo : List Todo) → SetsUp todo → w.task ≡ false → a.this ≡ w.place → Ends ps (outermost cs) → IsSetUp source w ps s.env.exec a cs todo
+  set_up w ps a cs (piece.Rest (src.Built src.Forgets rest) ∷ todo) h t i o = (t, i, o)
+  set_up w ps a cs todo h t i o = absurd h
 
   born_exec : (r : Routine) → (written s.run.this (Running (sw.new_exec (quiet.home_at s.run.this s.env) s.env)) (sw.born (quiet.home_at s.run.this s.env) (quiet.fresh r s.run.this) s.env)).exec ≡ s.env.exec
   born_exec r = written_exec s.run.this (Running (sw.new_exec (quiet.home_at s.run.this s.env) s.env)) (sw.born (quiet.home_at s.run.this s.env) (quiet.fresh r s.run.this) s.env) ∙ change_exec (quiet.home_at s.run.this s.env) (sw.one_more (quiet.fresh r s.run.this)) s.env
@@ -194,7 +198,7 @@ module _ (source : Source) (special : ℕ → Bool) (makers : Makers) (homes : �
   soon : PartsState (G source special homes) s → MakesLater source makers s → (n : Exec) → IsBorn source s n → Ends (makers.before n) (outermost s.callers) → (b : IsBorn source s n) → Soon source (W n) (makers.before n) s.env.exec (record s.run { control = b.todo }) s.callers
   soon st later n i o b =
       let k : IsOrderly special Q s.run.elements (piece.SetUpNow b.main ∷ b.todo) = subst (λ l. IsOrderly special Q s.run.elements l) b.next st.run in
-      law_completing.begins source (W n) (makers.before n) s.env.exec (record s.run { control = b.todo }) s.callers (set_up (W n) (makers.before n) (record s.run { control = b.todo }) s.callers b.todo k.0.0 (sym (later n i).seat) o)
+      law_completing.begins source (W n) (makers.before n) s.env.exec (record s.run { control = b.todo }) s.callers (set_up (W n) (makers.before n) (record s.run { control = b.todo }) s.callers b.todo k.0.0 (later n i).task (sym (later n i).seat) o)
 
   made_soon : PartsState (G source special homes) s → MakesLater source makers s → (n : Exec) → IsBorn source s n → (u : State) → quiet.quiet source s ≡ Goes u → Soon source (W n) (makers.before n) u.env.exec u.run u.callers
   made_soon st later n b u g =

@@ -51,13 +51,13 @@ behind_before s still x e = by s.run.control e
     by (ForgetNow ∷ todo) e = own_before (own_exec s) s still x e
     by (p ∷ todo) e = e
 
-ride_before : (source : Source) (still : Exec → Bool) {s u : State} {q k : ℕ} {a : Asked} (r : Rides source s q u k a) (x : Exec) → ride_still source still r x ≡ true → still x ≡ true
+pub ride_before : (source : Source) (still : Exec → Bool) {s u : State} {q k : ℕ} {a : Asked} (r : Rides source s q u k a) (x : Exec) → ride_still source still r x ≡ true → still x ≡ true
 ride_before source still slices x e = e
 ride_before source still (goes_on {s} i r) x e = behind_before s still x (ride_before source (still_behind s still) r x e)
 ride_before source still (ticks {s} i r) x e = behind_before s still x (ride_before source (still_behind s still) r x e)
 ride_before source still (asks {s} i) x e = behind_before s still x e
 
-asked_before : (q : Request) (s : State) (still : Exec → Bool) (x : Exec) → still_asked q s still x ≡ true → still x ≡ true
+pub asked_before : (q : Request) (s : State) (still : Exec → Bool) (x : Exec) → still_asked q s still x ≡ true → still x ≡ true
 asked_before ask.End s still x e = by (exec_eq x s.env.exec) e
   where
     by : (b : Bool) → (if b then false else still x) ≡ true → still x ≡ true
@@ -85,14 +85,12 @@ ride_forgets source still (asks {s} i) todo x c n e = no_both (still_behind s st
 module _ (source : Source) (seats : Seating) (up : Exec → Bool) (s : State) (never : (todo : List Todo) (vs : List Value) → quiet.quiet source s ≡ Goes (at (ForgetNow ∷ todo) vs s) → (x : Exec) → up x ≡ true → IsNamed x s → ⊥) where
   -- so nobody is named where a coroutine is forgotten next
   by_clean : (c : CleanUp) (todo : List Todo) (vs : List Value) → quiet.quiet source s ≡ Goes (at (piece.clean_todo c todo) vs s) → NamesBy source seats up c s → ForgetsBy source seats up c s
-  by_clean src.Forgets todo vs e h = λ x own i. never todo vs e x own.0 (h x own i)
-  by_clean src.Ends todo vs e h = h
+  by_clean src.Forgets todo vs e h = λ x own t i. never todo vs e x own.0 (h x own t i)
   by_clean (src.Destroys a) todo vs e h = h
   by_clean c todo vs e h = tt
 
   by_scope : (c : CleanUp) (b : Bool) (todo : List Todo) → quiet.quiet source s ≡ raising.scope_left c b todo s → NamesBy source seats up c s → ForgetsBy source seats up c s
   by_scope src.Forgets b todo e h = by_clean src.Forgets (piece.Unwind ∷ todo) [] e h
-  by_scope src.Ends b todo e h = h
   by_scope (src.Destroys a) b todo e h = h
   by_scope c b todo e h = tt
 
@@ -108,7 +106,7 @@ module _ (source : Source) (seats : Seating) (up : Exec → Bool) (s : State) (n
   named_at l i h = tt
 
 module _ (makers : Makers) (asked : Exec → Bool) where
-  now_asked : (made : Exec → Bool) (x : Exec) → now makers asked made x ≡ true → asked x ≡ true
+  pub now_asked : (made : Exec → Bool) (x : Exec) → now makers asked made x ≡ true → asked x ≡ true
   now_asked made x h = by (asked x) refl h
     where
       by : (b : Bool) → asked x ≡ b → (if b then made x else false) ≡ true → asked x ≡ true

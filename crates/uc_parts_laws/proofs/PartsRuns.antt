@@ -1,5 +1,5 @@
 -- In each run of a program parts are taken over, as long as those are that a routine which is called is to build.
-use Rattle.std.proofs.Common.{◌≡◌, ℕ, ◌==◌, Bool, false, List, [], ◌∷◌, Option, Some, None, subst, sym, ap, ◌∙◌}
+use Rattle.std.proofs.Common.{◌≡◌, ℕ, ◌==◌, Bool, true, false, List, [], ◌∷◌, Option, Some, None, subst, sym, ap, ◌∙◌}
 use Rattle.uc_tree.specs.Source.{Source}
 use Rattle.uc_entry.specs.declared.entry.Entry.{Entry}
 use Rattle.uc_entry.specs.declared.entry.Options.{Options}
@@ -39,7 +39,7 @@ use Rattle.uc_parts_laws.proofs.PartSteps as steps
 use Rattle.uc_parts_laws.proofs.PartWalk.{walk, begins, answered_there}
 use Rattle.uc_parts_laws.proofs.PartSources.{law_parts_sources}
 use Rattle.uc_parts_laws.proofs.TakenRuns.{run_taken, ride_taken}
-use Rattle.uc_parts_laws.proofs.Leaving.{taken_over, law_leaving}
+use Rattle.uc_parts_laws.proofs.Leaving.{spot_of, taken_over, law_leaving}
 use Rattle.uc_parts_laws.proofs.SpawnSteps.{SpawnAsk, SpawnStep, walk as spawning}
 
 module _ (g : Setting) (known : PartsSource g.special g.source) where
@@ -146,11 +146,11 @@ module _ (source : Source) (special : ℕ → Bool) (makers : Makers) (homes : �
   spawned (ask.Spawn o) v u st i b = λ a.
       let k : IsOrderly special (IsTaken G v.env.exec v.callers v.run.frame v.run.this) v.run.elements (piece.SpawnNow i.main ∷ i.todo) = subst (λ l. IsOrderly special (IsTaken G v.env.exec v.callers v.run.frame v.run.this) v.run.elements l) i.control st.run in
       let place : (makers.seat (main_of o)).place ≡ piece.Object (piece.object_in v.run.this) = b.seat ∙ ap piece.Object i.object in
-      let over : Over G (makers.seat (main_of o)).place v.env.exec v.callers = subst (λ z. Over G z v.env.exec v.callers) (sym place) k.0.1 in
+      let over : Over G (spot_of makers (main_of o)) v.env.exec v.callers = subst (λ z. Over G (record { place = (makers.seat (main_of o)).place; task = z }) v.env.exec v.callers) (sym b.task) (subst (λ z. Over G (record { place = z; task = true }) v.env.exec v.callers) (sym place) k.0.1) in
       let ends : Ends (makers.before (main_of o)) (outermost v.callers) = subst (λ ps. Ends ps (outermost v.callers)) (sym (b.before ∙ ap outermost i.callers)) all in
-      let base : Soon source (seat_at G (makers.seat (main_of o)).place) (makers.before (main_of o)) v.env.exec (record v.run { control = piece.ChildNow i.main ∷ [] }) v.callers = law_completing.parts source (seat_at G (makers.seat (main_of o)).place) (makers.before (main_of o)) v.env.exec (record v.run { control = piece.ChildNow i.main ∷ [] }) v.callers tt (taken_over source special homes (makers.seat (main_of o)).place v.env.exec (makers.before (main_of o)) v.callers st.callers over ends) in
-      let now : Soon source (seat_at G (makers.seat (main_of o)).place) (makers.before (main_of o)) v.env.exec (record v.run { control = piece.ChildNow i.main ∷ i.todo }) v.callers = subst (λ l. Soon source (seat_at G (makers.seat (main_of o)).place) (makers.before (main_of o)) v.env.exec (record v.run { control = piece.ChildNow i.main ∷ l }) v.callers) (sym k.0.2) base in
-      subst (λ e. Soon source (seat_at G (makers.seat (main_of o)).place) (makers.before (main_of o)) e u.run u.callers) (sym i.exec) (subst (λ cs. Soon source (seat_at G (makers.seat (main_of o)).place) (makers.before (main_of o)) v.env.exec u.run cs) (sym i.callers) (subst (λ b. Soon source (seat_at G (makers.seat (main_of o)).place) (makers.before (main_of o)) v.env.exec b v.callers) (sym i.run) now))
+      let base : Soon source (seat_at G (spot_of makers (main_of o))) (makers.before (main_of o)) v.env.exec (record v.run { control = piece.ChildNow i.main ∷ [] }) v.callers = law_completing.parts source (seat_at G (spot_of makers (main_of o))) (makers.before (main_of o)) v.env.exec (record v.run { control = piece.ChildNow i.main ∷ [] }) v.callers tt (taken_over source special homes (spot_of makers (main_of o)) v.env.exec (makers.before (main_of o)) v.callers st.callers over ends) in
+      let now : Soon source (seat_at G (spot_of makers (main_of o))) (makers.before (main_of o)) v.env.exec (record v.run { control = piece.ChildNow i.main ∷ i.todo }) v.callers = subst (λ l. Soon source (seat_at G (spot_of makers (main_of o))) (makers.before (main_of o)) v.env.exec (record v.run { control = piece.ChildNow i.main ∷ l }) v.callers) (sym k.0.2) base in
+      subst (λ e. Soon source (seat_at G (spot_of makers (main_of o))) (makers.before (main_of o)) e u.run u.callers) (sym i.exec) (subst (λ cs. Soon source (seat_at G (spot_of makers (main_of o))) (makers.before (main_of o)) v.env.exec u.run cs) (sym i.callers) (subst (λ b. Soon source (seat_at G (spot_of makers (main_of o))) (makers.before (main_of o)) v.env.exec b v.callers) (sym i.run) now))
   spawned q v u st i b = tt
 
   ride_spawned : {s u : State} {q k : ℕ} {a : Asked} (r : Rides source s q u k a) → RideMeets (PartsState G) source s q u k a r → SpawnsLater makers a.request u → SpawnsKept (with_homes homes makers) asked source a.request u

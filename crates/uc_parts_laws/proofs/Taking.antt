@@ -1,5 +1,5 @@
 -- Where a constructor is called, each part that it is to build is taken over by what stands behind the call.
-use Rattle.std.proofs.Common.{◌≡◌, ℕ, inl, inr, Bool, true, false, List, [], ◌∷◌, length, drop, Some, None, sym, subst}
+use Rattle.std.proofs.Common.{◌≡◌, ℕ, inl, inr, Bool, true, false, List, [], ◌∷◌, length, drop, Some, None, refl, sym, subst}
 use Rattle.std.specs.Prelude.{slice_get}
 use Rattle.uc_tree.specs.Source as src
 use Rattle.uc_tree.specs.Source.{Expr, CleanUp, Stmts, Routine, Source}
@@ -9,7 +9,7 @@ use Rattle.uc_machine.specs.Pieces.{Value, Object, Todo, Active, State, top, bel
 use Rattle.uc_state_laws.specs.Counted.{params_at}
 use Rattle.uc_life_laws.specs.Destroying.{IsScoped, Seat, Destroying, DestroyingAt, itself, field, element, mutex, mutexes, AtPlace, EndsAt, AtElement, EndsElement, EndsBelow, CleansUp}
 use Rattle.uc_parts_laws.specs.Parts.{AllParts}
-use Rattle.uc_parts_laws.specs.PartStates.{Setting, seat_at, OverIn, IsTaken, TakenOn, CallsTakenBy, CallsTaken}
+use Rattle.uc_parts_laws.specs.PartStates.{Setting, Spot, seat_at, OverIn, IsTaken, TakenOn, CallsTakenBy, CallsTaken}
 use Rattle.uc_parts_laws.specs.Undoing.{IsField, IsElement, DestroysAt, IsUndone, Undoes, IsUndoneAt, IsEndedAt, IsLocus, IsCounted, Opens}
 use Rattle.uc_parts_laws.specs.UndoingTodos.{Around, around, Mark, Any, Counts, At, Homed, rests, IsPlaceOf, Holds, IsTakenBy, CalledAt, CallFits, Ok}
 use Rattle.uc_parts_laws.specs.UndoingStates.{UndoingState}
@@ -43,8 +43,8 @@ module _ (source : Source) (w : Seat) (n : Exec) (f : ℕ) (this : Value) (d : �
   pub undone_by : (b : Bool) (c : CleanUp) → IsUndone b y.body c → CleansUp source w n f this c → Destroying source w d this
   undone_by b (src.Destroys e) u k = ends_field e u.1 u.0 k
   undone_by b (src.DestroysAll m e) u k = ends_element m e u.1 u.0 k
-  undone_by b src.Forgets u k = subst (Destroying source w d) (sym k) (itself y known params src.Forgets tt u)
-  undone_by true src.Ends u k = subst (Destroying source w d) (sym k) (itself y known params src.Ends tt u)
+  undone_by b src.Forgets u k = subst (Destroying source w d) (sym k.1) (itself y known params src.Forgets k.0 u)
+  undone_by true src.Ends u k = subst (Destroying source w d) (sym k.1) (itself y known params src.Ends k.0 u)
   undone_by false src.Ends u k = absurd u
   undone_by b c u k = absurd k
 
@@ -73,16 +73,16 @@ module _ (g : Setting) (n : Exec) (a : Active) where
   at_element w P p v l h x = absurd l
 
   -- what an expression destroys at a place by the destructor d, of which `W u d` holds there, where the end of what is at u is looked for
-  record Destroys (mutex : Bool) (r : ℕ) (p : Expr) (W : Value → ℕ → Value → Type 0) (e : Expr) : Type 0 where
+  record Destroys (mutex : Bool) (r : ℕ) (p : Expr) (W : Spot → ℕ → Value → Type 0) (e : Expr) : Type 0 where
     d : ℕ
     undoes : Undoes g.source g.special mutex r d
-    whole : (u : Value) → AtPlace g.source (seat_at g u) n a.frame a.this (W u d) p → EndsAt g.source (seat_at g u) n a.frame a.this e
-    each : (u : Value) → AtElement g.source (seat_at g u) n a.frame a.this (W u d) a.elements p → EndsElement g.source (seat_at g u) n a.frame a.this a.elements e
+    whole : (u : Spot) → AtPlace g.source (seat_at g u) n a.frame a.this (W u d) p → EndsAt g.source (seat_at g u) n a.frame a.this e
+    each : (u : Spot) → AtElement g.source (seat_at g u) n a.frame a.this (W u d) a.elements p → EndsElement g.source (seat_at g u) n a.frame a.this a.elements e
 
-  abbrev Plain : Value → ℕ → Value → Type 0
+  abbrev Plain : Spot → ℕ → Value → Type 0
   Plain u d v = Destroying g.source (seat_at g u) d v
 
-  abbrev Mutex : Value → ℕ → Value → Type 0
+  abbrev Mutex : Spot → ℕ → Value → Type 0
   Mutex u d v = DestroyingAt g.source (seat_at g u) d v
 
   undone : (r : ℕ) (p e : Expr) → IsUndoneAt g.source g.special r p e → Destroys false r p Plain e
@@ -113,9 +113,9 @@ module _ (g : Setting) (n : Exec) (a : Active) where
   record Hands (mutex : Bool) (r : ℕ) (v : Value) (todo : List Todo) : Type 0 where
     d : ℕ
     undoes : Undoes g.source g.special mutex r d
-    over : (u : Value) → Plain u d v → OverIn g u n a todo
+    over : (u : Spot) → Plain u d v → OverIn g u n a todo
 
-  module _ (mutex : Bool) (r : ℕ) (p : Expr) (W : Value → ℕ → Value → Type 0) (U : Expr → Type 0) (f : (e : Expr) → U e → Destroys mutex r p W e) (place v : Value) (h : IsPlaceOf g.home A p place) (there : (u : Value) (d : ℕ) → Plain u d v → W u d place) where
+  module _ (mutex : Bool) (r : ℕ) (p : Expr) (W : Spot → ℕ → Value → Type 0) (U : Expr → Type 0) (f : (e : Expr) → U e → Destroys mutex r p W e) (place v : Value) (h : IsPlaceOf g.home A p place) (there : (u : Spot) (d : ℕ) → Plain u d v → W u d place) where
     in_rest : (line : ℕ) (ss : Stmts) (todo : List Todo) → IsLocus p → Opens U ss → Hands mutex r v (piece.DropNow ∷ (piece.Within line ∷ (piece.Rest ss ∷ todo)))
     in_rest line (src.Scoped (src.Destroys e) rest) todo l t = let z = f e t in record { d = z.d; undoes = z.undoes; over = λ u x. z.whole u (at_place (seat_at g u) (W u z.d) p place l h (there u z.d x)) }
     in_rest line (src.Built (src.Destroys e) rest) todo l t = let z = f e t in record { d = z.d; undoes = z.undoes; over = λ u x. z.whole u (at_place (seat_at g u) (W u z.d) p place l h (there u z.d x)) }
@@ -141,7 +141,7 @@ module _ (g : Setting) (n : Exec) (a : Active) where
     mutex_taken o e z = all_more g.special (IsUndone true z.undoes.destructor.body) (IsTaken g n (a ∷ older) frame v) each x.body (z.undoes.undone x is)
       where
         each : (c : CleanUp) → IsUndone true z.undoes.destructor.body c → IsTaken g n (a ∷ older) frame v c
-        each src.Ends u = z.over (Object (piece.object_in v)) (subst (λ q. Destroying g.source (seat_at g (Object (piece.object_in q))) z.d q) (sym e) (itself z.undoes.destructor z.undoes.known z.undoes.params src.Ends tt u))
+        each src.Ends u = z.over (record { place = Object (piece.object_in v); task = true }) (subst (λ q. Destroying g.source (seat_at g (record { place = Object (piece.object_in q); task = true })) z.d q) (sym e) (itself z.undoes.destructor z.undoes.known z.undoes.params src.Ends refl u))
         each c u = λ w k. z.over w (undone_by g.source (seat_at g w) n frame v z.d z.undoes.destructor z.undoes.known z.undoes.params true c u k)
 
 -- where a constructor is called

@@ -13,7 +13,7 @@ use Rattle.uc_rooted_runs.specs.KeptRuns.{Keeps}
 use Rattle.uc_parts_laws.specs.PartStates.{PartsState}
 
 module _ (source : Source) (seats : Seating) (up : Exec → Bool) where
-  -- an execution is up no more where its coroutine is forgotten or its task goes; and where the destructor of a mutex object is called that comes to the end of
+  -- an execution is up no more where its coroutine is forgotten; and where the destructor of a mutex object is called that comes to the end of
   -- one, that object is read there
   abbrev pub GoesAt : List Todo → State → Type 0
   GoesAt (piece.Clean c ∷ todo) s = ForgetsBy source seats up c s

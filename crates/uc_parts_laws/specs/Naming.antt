@@ -1,6 +1,6 @@
 -- What is left to find of steps that take marks away, where the first cell of a coroutine names its execution as that is forgotten: so of those that are
 -- still there at the end of a way no coroutine is forgotten.
-use Rattle.std.specs.Prelude.{◌≡◌, ℕ, Bool, List, ◌∷◌, Some}
+use Rattle.std.specs.Prelude.{◌≡◌, ℕ, Bool, false, List, ◌∷◌, Some}
 use Rattle.uc_tree.specs.Source.{Source, CleanUp, Forgets}
 use Rattle.uc_entry.specs.declared.entry.Entry.{Entry}
 use Rattle.uc_entry.specs.declared.entry.Options.{Options}
@@ -28,7 +28,7 @@ pub record IsNamed (x : Exec) (s : State) : Type 0 where
 module _ (source : Source) (seats : Seating) (up : Exec → Bool) where
   -- a clean-up is reached: where the coroutine at hand is forgotten, its first cell names each execution that is up there
   abbrev pub NamesBy : CleanUp → State → Type 0
-  NamesBy Forgets s = (x : Exec) → IsOwn source seats up s x → s.run.this ≡ (seats.seat x).place → IsNamed x s
+  NamesBy Forgets s = (x : Exec) → IsOwn source seats up s x → (seats.seat x).task ≡ false → s.run.this ≡ (seats.seat x).place → IsNamed x s
   NamesBy c s = ForgetsBy source seats up c s
 
   -- it is done behind an event

@@ -16,32 +16,36 @@ pub record Setting : Type 0 where
   pub special : ℕ → Bool
   pub home : ℕ → Value
 
--- a coroutine or a task at this place
-abbrev pub seat_at : Setting → Value → Seat
-seat_at g v = record { place = v; home = g.home }
+-- a coroutine, or the object of a task, at a place
+pub record Spot : Type 0 where
+  pub place : Value
+  pub task : Bool
+
+abbrev pub seat_at : Setting → Spot → Seat
+seat_at g v = record { place = v.place; task = v.task; home = g.home }
 
 module _ (g : Setting) where
-  -- of an activation of the execution n, in which these statements are left behind a call: what cleans up there comes to the end of what is at the place v
-  abbrev pub OpensOver : Value → Exec → Active → Stmts → Type 0
+  -- of an activation of the execution n, in which these statements are left behind a call: what cleans up there comes to the end of what is at v
+  abbrev pub OpensOver : Spot → Exec → Active → Stmts → Type 0
   OpensOver v n a (Scoped c rest) = CleansUp g.source (seat_at g v) n a.frame a.this c
   OpensOver v n a (Built c rest) = CleansUp g.source (seat_at g v) n a.frame a.this c
   OpensOver v n a ss = ⊥
 
   -- so it is behind what it waits for, or one more element stands then
-  abbrev pub OverIn : Value → Exec → Active → List Todo → Type 0
+  abbrev pub OverIn : Spot → Exec → Active → List Todo → Type 0
   OverIn v n a (piece.DropNow ∷ (piece.Within line ∷ (piece.Rest ss ∷ todo))) = OpensOver v n a ss
   OverIn v n a (piece.DropNow ∷ (piece.MoreNow ∷ (piece.FillNow m b d ∷ todo))) =
       EndsElement g.source (seat_at g v) n a.frame a.this a.elements d
   OverIn v n a todo = ⊥
 
-  abbrev pub Over : Value → Exec → List Active → Type 0
+  abbrev pub Over : Spot → Exec → List Active → Type 0
   Over v n [] = ⊥
   Over v n (a ∷ older) = OverIn v n a a.control
 
   -- a part of the object at hand is taken over by who waits; and so is the task that this is
   abbrev pub IsTaken : Exec → List Active → ℕ → Value → CleanUp → Type 0
-  IsTaken n older f this Ends = Over (piece.Object (piece.object_in this)) n older
-  IsTaken n older f this c = (v : Value) → CleansUp g.source (seat_at g v) n f this c → Over v n older
+  IsTaken n older f this Ends = Over (record { place = piece.Object (piece.object_in this); task = true }) n older
+  IsTaken n older f this c = (v : Spot) → CleansUp g.source (seat_at g v) n f this c → Over v n older
 
   -- an activation of the execution n before these older ones
   abbrev pub InParts : Exec → List Active → Active → Type 0

@@ -1,12 +1,12 @@
 -- The spots of clean-ups, and the order in which fields get their marks.
-use Rattle.std.proofs.Common.{◌≡◌, ℕ, suc, ◌≤◌, ◌<◌, inl, inr, Bool, true, false, List, [], ◌∷◌, Option, Some, None, refl, sym, ap, subst, arith}
+use Rattle.std.proofs.Common.{◌≡◌, ℕ, suc, ◌≤◌, ◌<◌, inl, inr, Bool, true, false, List, [], ◌∷◌, Option, Some, None, refl, sym, ap, ◌∙◌, subst, arith}
 use Rattle.uc_tree.specs.Source as src
 use Rattle.uc_tree.specs.Source.{Expr, CleanUp, Source}
 use Rattle.uc_machine.specs.Pieces as piece
 use Rattle.uc_machine.specs.Pieces.{Todo, Sort}
 use Rattle.uc_typing.specs.Typing.{Ty, Cell, Obj, Row, Clu, Pro, Table, DestroysAt, CleansAt}
-use Rattle.uc_life_laws.specs.Ending.{Spot, OfVariable, OfField}
-use Rattle.uc_putting_laws.specs.CleanedSpots.{Site, AnySite, place_spot, spot_in, spot_of, IsSpotOf, Reach, apart, IsOf, SpotBelow, SortBelow, AllBelow, IsOutermost, AscendsBy}
+use Rattle.uc_life_laws.specs.Ending.{Spot, OfVariable, OfField, naming}
+use Rattle.uc_putting_laws.specs.CleanedSpots.{Site, One, Each, Under, site_spot, place_spot, spot_in, spot_of, IsOver, LiesInClass, Reach, apart, IsOf, SpotBelow, SortBelow, AllBelow, IsOutermost, AscendsBy}
 use Rattle.uc_putting_laws.specs.Fields.{OfOthers, SortOthers, AllOthers}
 use Rattle.uc_putting_laws.specs.Calling.{PlaceAt, CallsAt, EndsAt, EndsEach, EndsNumber, CleansBy}
 
@@ -31,22 +31,34 @@ cleans_spot t a x (src.Destroys e) d = destroys_spot t a x e d
 cleans_spot t (Row n a) x (src.DestroysAll m e) d = destroys_spot t a _ e d.1
 cleans_spot t a x c d = absurd d
 
+pub named_spot : (p : Spot) → place_spot (naming p) ≡ Some p
+named_spot (OfVariable k) = refl
+named_spot (OfField h i) = refl
+
+-- so is one that is over what is at a site
+pub over_spot : (t : Table) (c : CleanUp) (x : Site) → IsOver t c x → spot_of c ≡ Some (site_spot x)
+over_spot t c (One p) h = cleans_spot t (Cell (Obj h.0)) (naming p) c h.1 ∙ named_spot p
+over_spot t c (Each n p) h = cleans_spot t (Row n (Cell (Obj h.0))) (naming p) c h.1 ∙ named_spot p
+over_spot t c (Under None n p) h = h
+over_spot t c (Under (Some d) n p) (inl h) = cleans_spot t (Obj d) (naming p) c h ∙ named_spot p
+over_spot t c (Under (Some d) n p) (inr h) = cleans_spot t (Row n (Obj d)) (naming p) c h ∙ named_spot p
+
 -- such a spot is one that its code may name
 module _ (t : Table) (source : Source) (special : ℕ → Bool) (r : Reach) (q : Spot) where
-  place_of : (P : Site → Type 0) (x : Expr) → PlaceAt t source special r P x → place_spot x ≡ Some q → IsOf r q
+  place_of : (P : ℕ → Spot → Type 0) (x : Expr) → PlaceAt t source special r P x → place_spot x ≡ Some q → IsOf r q
   place_of P (src.Variable k) h e = subst (IsOf r) (some_one (OfVariable k) q e) h.0
   place_of P (src.OfObject (src.OwnField s i)) h e = subst (IsOf r) (some_one (OfField s i) q e) h.0
-  place_of P (src.Element n s x i) h e = place_of P x h.0 e
+  place_of P (src.Element n s x i) h e = place_of (λ m p. P n p) x h.0 e
   place_of P x h e = absurd h
 
-  number_of : (x : Expr) → EndsNumber t source special r x → spot_in x ≡ Some q → IsOf r q
-  number_of (src.OfObject (src.EndCluster (src.Load x))) h e = place_of AnySite x h e
-  number_of (src.OfObject (src.EndProcessor (src.Load x))) h e = place_of AnySite x h e
-  number_of x h e = absurd h
+  number_of : (P : Site → Type 0) (x : Expr) → EndsNumber t source special r P x → spot_in x ≡ Some q → IsOf r q
+  number_of P (src.OfObject (src.EndCluster (src.Load x))) h e = place_of (λ n p. P (Under None n p)) x h e
+  number_of P (src.OfObject (src.EndProcessor (src.Load x))) h e = place_of (λ n p. P (Under None n p)) x h e
+  number_of P x h e = absurd h
 
   call_of : (P : Site → Type 0) (x : Expr) → CallsAt t source special r P x → spot_in x ≡ Some q → IsOf r q
-  call_of P (src.OfObject (src.CallOn n x args)) h e = place_of P x h.1 e
-  call_of P (src.OfObject (src.CallUnwritten n x)) h e = place_of P x h.1 e
+  call_of P (src.OfObject (src.CallOn n x args)) h e = place_of (λ m p. P (Under (t.routine n).this m p)) x h.1 e
+  call_of P (src.OfObject (src.CallUnwritten n x)) h e = place_of (λ m p. P (Under (t.routine n).this m p)) x h.1 e
   call_of P x h e = absurd h
 
   end_of : (P : Site → Type 0) (x : Expr) → EndsAt t source special r P x → spot_in x ≡ Some q → IsOf r q
@@ -60,12 +72,12 @@ module _ (t : Table) (source : Source) (special : ℕ → Bool) (r : Reach) (q :
   each_of P x h e = absurd h
 
   pub spot_named : (c : CleanUp) → CleansBy t source special r c → spot_of c ≡ Some q → IsOf r q
-  spot_named (src.Destroys x) (inl h) e = number_of x h e
-  spot_named (src.Destroys x) (inr (inl h)) e = call_of (IsSpotOf (src.Destroys x)) x h e
-  spot_named (src.Destroys x) (inr (inr h)) e = end_of (IsSpotOf (src.Destroys x)) x h e
-  spot_named (src.DestroysAll n x) (inl h) e = number_of x h e
-  spot_named (src.DestroysAll n x) (inr (inl h)) e = call_of (IsSpotOf (src.DestroysAll n x)) x h e
-  spot_named (src.DestroysAll n x) (inr (inr h)) e = each_of (IsSpotOf (src.DestroysAll n x)) x h e
+  spot_named (src.Destroys x) (inl h) e = number_of (IsOver t (src.Destroys x)) x h e
+  spot_named (src.Destroys x) (inr (inl h)) e = call_of (IsOver t (src.Destroys x)) x h e
+  spot_named (src.Destroys x) (inr (inr h)) e = end_of (IsOver t (src.Destroys x)) x h e
+  spot_named (src.DestroysAll n x) (inl h) e = number_of (IsOver t (src.DestroysAll n x)) x h e
+  spot_named (src.DestroysAll n x) (inr (inl h)) e = call_of (IsOver t (src.DestroysAll n x)) x h e
+  spot_named (src.DestroysAll n x) (inr (inr h)) e = each_of (IsOver t (src.DestroysAll n x)) x h e
   spot_named c h e = absurd (cc)
 
 -- code that names no fields cleans up none
@@ -76,6 +88,9 @@ apart_outermost t source special r c todo h = by (spot_of c) refl
     by None e = tt
     by (Some (OfVariable k)) e = tt
     by (Some (OfField s i)) e = no_field (spot_named t source special (apart r) (OfField s i) c h e)
+
+pub apart_class : (t : Table) (source : Source) (special : ℕ → Bool) (r : Reach) (o : Option ℕ) (c : CleanUp) → CleansBy t source special (apart r) c → LiesInClass t o c
+apart_class t source special r o c n h i a this v e d w = no_field (spot_named t source special (apart r) (OfField h i) c n (cleans_spot t a (src.OfObject (src.OwnField h i)) c d))
 
 -- numbers of fields
 

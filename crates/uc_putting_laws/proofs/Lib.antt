@@ -4,6 +4,10 @@ pub mod CleanedSpots
 pub mod Marks
 pub mod OwnMarks
 pub mod VariableMarks
+pub mod SpotRooms
+pub mod HandlersFrom
+pub mod Searches
+pub mod Seats
 pub mod PuttingTodos
 pub mod Steps
 pub mod Lone
@@ -12,6 +16,7 @@ pub mod LawSteps
 pub mod Puts
 pub mod Roles
 pub mod Expressions
+pub mod Classes
 pub mod Statements
 pub mod Routines
 pub mod Worlds

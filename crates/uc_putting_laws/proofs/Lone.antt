@@ -1,27 +1,30 @@
 -- Where nothing stands around what is built and destroyed at a spot: a variable whose scope is left, or opens behind what builds that; and a field of
 -- a higher number than those that are cleaned up outwards of it.
-use Rattle.std.proofs.Common.{◌≡◌, ℕ, ◌+◌, ◌≤◌, ◌<◌, ◌⊎◌, inl, inr, Bool, true, false, List, [], ◌∷◌, Some, refl, sym, ap, ◌∙◌, subst, arith}
+use Rattle.std.proofs.Common.{◌≡◌, ℕ, ◌+◌, ◌≤◌, ◌<◌, ◌⊎◌, inl, inr, Bool, true, false, List, [], ◌∷◌, Some, None, refl, sym, ap, ◌∙◌, subst, arith}
 use Rattle.uc_tree.specs.Source as src
 use Rattle.uc_tree.specs.Source.{Expr, CleanUp, Stmt, Stmts, EventStmt, Raised}
 use Rattle.uc_machine.specs.declared.exec.Owner.TheVariants.{Frame, Fields}
 use Rattle.uc_machine.specs.Pieces as piece
 use Rattle.uc_machine.specs.Pieces.{Slot, FieldAt, Value, Object, Todo, Active, State, further}
-use Rattle.uc_typing.specs.Typing.{Ty, Cell, Obj}
-use Rattle.uc_state_laws.specs.Rooms.{Room, LiesAt, LiesIn, Destroyed, Lies, OwnAt, OwnIn, OwnPart, RaisedIn}
+use Rattle.uc_typing.specs.Typing.{Ty, Cell, Obj, Table}
+use Rattle.uc_state_laws.specs.Rooms.{Room, IsWithin, RaisedIn}
 use Rattle.uc_state_laws.specs.RoomStacks as stacks
-use Rattle.uc_state_laws.specs.RoomStacks.{SomeTo, StackState}
-use Rattle.uc_state_laws.proofs.Stacks.{stacked_by, stack_before}
+use Rattle.uc_state_laws.specs.RoomStacks.{SomeTo, UpTo, GuardsFrom, StackState}
+use Rattle.uc_state_laws.proofs.Stacks.{up_to, stacked_by, stack_before}
 use Rattle.uc_life_laws.specs.Things.{Within, Stands, lies, inside, Variables}
 use Rattle.uc_life_laws.specs.LifeRuns.{IsLaidOut}
 use Rattle.uc_life_laws.specs.Marks.{Marked, Outward}
 use Rattle.uc_place_laws.specs.OlderResting.{AllWait, NamedEnv}
 use Rattle.uc_life_laws.specs.Ending.{Spot, OfVariable, OfField, leaving}
-use Rattle.uc_putting_laws.specs.CleanedSpots.{Site, site_spot, IsAtVariable, place_spot, spot_in, spot_of, IsSpotOf, OpensFor, Reach, apart, IsOf, IsIn, AllBelow, IsOutermost, AscendsBy, Ascends}
+use Rattle.uc_putting_laws.specs.CleanedSpots.{Site, Under, site_spot, HasSome, spot_of, HoldsObjects, MayHold, IsOver, OpensFor, IsHollow, LiesInClass, Reach, apart, IsOf, IsIn, AllBelow, IsOutermost, AscendsBy, Ascends}
 use Rattle.uc_putting_laws.specs.ObjectsAtHand as hand
-use Rattle.uc_putting_laws.specs.ObjectsAtHand.{OwnedBy, same_place, further_on, there, at_home, variable, OwnMarked, IsSeated}
+use Rattle.uc_putting_laws.specs.ObjectsAtHand.{OwnedBy, same_place, further_on, there, at_home, variable, OwnMarked}
+use Rattle.uc_putting_laws.specs.Seats.{IsSeated}
 use Rattle.uc_putting_laws.specs.Calling.{CleansBy, RaisesBy, CallingEvent}
-use Rattle.uc_putting_laws.specs.Putting.{Setting, spot_at, LoneAt, CodeStmt, CodeRest, CodeScope, CodePart, Ok, Left, Runs, Waits}
-use Rattle.uc_putting_laws.proofs.CleanedSpots.{some_one, spot_named, below_more, all_others}
+use Rattle.uc_putting_laws.specs.Putting.{Setting, IsPast, BehindBy, SeatAt, spot_at, CodeStmt, CodeRest, CodeScope, CodePart, Ok, Left, Runs, Waits}
+use Rattle.uc_putting_laws.proofs.CleanedSpots.{over_spot, spot_named, below_more, all_others}
+use Rattle.uc_putting_laws.proofs.SpotRooms.{variable_one, cleaned_between, own_part, guards_high, over_past, over_class}
+use Rattle.uc_putting_laws.proofs.Searches.{guards_left, guards_from, searched}
 use Rattle.uc_putting_laws.proofs.ObjectsWithin.{owner_one, owned_under, one_object, no_frame, within_under, below_own, under_below, not_below}
 use Rattle.uc_putting_laws.proofs.Fields.{field_lone}
 use Rattle.uc_putting_laws.proofs.VariableMarks.{no_variable}
@@ -36,68 +39,19 @@ use Rattle.uc_putting_laws.proofs.Steps.{here}
 no_field : false ≡ true → ⊥
 no_field e = cc
 
-variable_one : (j k : ℕ) → OfVariable j ≡ OfVariable k → j ≡ k
-variable_one j k e = cc
+no_spot : (p : Spot) → spot_of src.Ends ≡ Some p → ⊥
+no_spot p e = cc
 
 no_variable_field : (k : ℕ) (h : src.Shape) (i : ℕ) → OfVariable k ≡ OfField h i → ⊥
 no_variable_field k h i e = cc
 
 module _ (Z : ℕ → ℕ → Type 0) where
-  -- what is at a variable lies behind the beginning of the room, and in it
-  abbrev Between : ℕ → ℕ → ℕ → Type 0
-  Between low high k = (low ≤ k) × (k ≤ high)
-
-  place_between : (low high count n k : ℕ) (e : Expr) → LiesAt Z low high count n e → place_spot e ≡ Some (OfVariable k) → Between low high k
-  place_between low high count n k (src.Variable j) h e = subst (Between low high) (variable_one j k (some_one (OfVariable j) (OfVariable k) e)) (let a = h.0 in let b = h.1 in (a, omega (arith, b)))
-  place_between low high count n k (src.OfObject (src.OwnField s i)) h e = absurd (cc)
-  place_between low high count n k x h e = absurd h
-
-  element_between : (low high count n k : ℕ) (e : Expr) → LiesIn Z low high count n e → place_spot e ≡ Some (OfVariable k) → Between low high k
-  element_between low high count n k (src.Element m s x (src.OfObject src.Counted)) h e = place_between low high count n k x h.1 e
-  element_between low high count n k x h e = absurd h
-
-  destroyed_between : (low high k : ℕ) (P : ℕ → Expr → Type 0) (e : Expr) → ((n : ℕ) (x : Expr) → P n x → place_spot x ≡ Some (OfVariable k) → Between low high k) → Destroyed Z P e → spot_in e ≡ Some (OfVariable k) → Between low high k
-  destroyed_between low high k P (src.OfObject (src.CallOn r x args)) f h e = f h.0 x h.2 e
-  destroyed_between low high k P (src.OfObject (src.CallUnwritten r x)) f h e = f h.0 x h.2 e
-  destroyed_between low high k P (src.OfObject (src.EndOn r written (src.Load x))) f h e = f 1 x h e
-  destroyed_between low high k P (src.OfObject (src.EndCluster (src.Load x))) f h e = f 1 x h e
-  destroyed_between low high k P (src.OfObject (src.EndProcessor (src.Load x))) f h e = f 1 x h e
-  destroyed_between low high k P x f h e = absurd h
-
-  cleaned_between : (low high k : ℕ) (c : CleanUp) → Lies Z low high c → spot_of c ≡ Some (OfVariable k) → Between low high k
-  cleaned_between low high k (src.Destroys x) h e = destroyed_between low high k (LiesAt Z low high 1) x (λ n y. place_between low high 1 n k y) h e
-  cleaned_between low high k (src.DestroysAll m x) h e = destroyed_between low high k (LiesIn Z low high m) x (λ n y. element_between low high m n k y) h e
-  cleaned_between low high k c h e = absurd (cc)
-
-  -- a part is at no variable
-
-  own_place : (k n : ℕ) (e : Expr) → OwnAt Z n e → place_spot e ≡ Some (OfVariable k) → ⊥
-  own_place k n (src.OfObject (src.OwnField s i)) h e = cc
-  own_place k n x h e = h
-
-  own_element : (k m n : ℕ) (e : Expr) → OwnIn Z m n e → place_spot e ≡ Some (OfVariable k) → ⊥
-  own_element k m n (src.Element j s x (src.OfObject src.Counted)) h e = own_place k n x h.1 e
-  own_element k m n x h e = h
-
-  own_destroyed : (k : ℕ) (P : ℕ → Expr → Type 0) (e : Expr) → ((n : ℕ) (x : Expr) → P n x → place_spot x ≡ Some (OfVariable k) → ⊥) → Destroyed Z P e → spot_in e ≡ Some (OfVariable k) → ⊥
-  own_destroyed k P (src.OfObject (src.CallOn r x args)) f h e = f h.0 x h.2 e
-  own_destroyed k P (src.OfObject (src.CallUnwritten r x)) f h e = f h.0 x h.2 e
-  own_destroyed k P (src.OfObject (src.EndOn r written (src.Load x))) f h e = f 1 x h e
-  own_destroyed k P (src.OfObject (src.EndCluster (src.Load x))) f h e = f 1 x h e
-  own_destroyed k P (src.OfObject (src.EndProcessor (src.Load x))) f h e = f 1 x h e
-  own_destroyed k P x f h e = h
-
-  own_part : (k : ℕ) (c : CleanUp) → OwnPart Z c → spot_of c ≡ Some (OfVariable k) → ⊥
-  own_part k (src.Destroys x) h e = own_destroyed k (OwnAt Z) x (λ n y. own_place k n y) h e
-  own_part k (src.DestroysAll m x) h e = own_destroyed k (OwnIn Z m) x (λ n y. own_element k m n y) h e
-  own_part k c h e = absurd (cc)
-
   -- so marks in the frame lie before a variable whose scope is left, or opens next, and before the hidden cells of an event
 
   cleared : (k : ℕ) (c : CleanUp) (todo : List Todo) (End : Room → Type 0) → spot_of c ≡ Some (OfVariable k) → SomeTo Z End (piece.Clean c ∷ todo) → SomeTo Z End (piece.ClearNow k 0 ∷ todo)
   cleared k c todo End e h =
       let w = h.1.1 in
-      let b = cleaned_between h.1.0.low h.0.low k c h.1.2.0 e in
+      let b = cleaned_between Z h.1.0.low h.0.low k c h.1.2.0 e in
       let low = b.0 in
       let high = b.1 in
       let cells = w.cells in
@@ -108,18 +62,18 @@ module _ (Z : ℕ → ℕ → Type 0) where
   left_cleared true k c todo End e h = cleared k c todo End e (h.0, h.1.1)
   left_cleared false k c todo End e h = cleared k c todo End e h
 
-  pub opened_cleared : (k : ℕ) (a : Stmt) (ss : Stmts) (x : Site) (todo : List Todo) (End : Room → Type 0) → site_spot x ≡ OfVariable k → OpensFor ss x → SomeTo Z End (piece.Do a ∷ (piece.Rest ss ∷ todo)) → SomeTo Z End (piece.ClearNow k 0 ∷ todo)
-  opened_cleared k a (src.Scoped c ss) x todo End q e h =
+  pub opened_cleared : (k : ℕ) (a : Stmt) (ss : Stmts) (x : Site) (todo : List Todo) (End : Room → Type 0) → (t : Table) → site_spot x ≡ OfVariable k → OpensFor t ss x → SomeTo Z End (piece.Do a ∷ (piece.Rest ss ∷ todo)) → SomeTo Z End (piece.ClearNow k 0 ∷ todo)
+  opened_cleared k a (src.Scoped c ss) x todo End t q e h =
       let there = h.1.1 in
       let w = there.0.1 in
-      let b = cleaned_between h.0.low there.0.0.low k c there.0.2.0 (e ∙ ap Some q) in
+      let b = cleaned_between Z h.0.low there.0.0.low k c there.0.2.0 (over_spot t c x e ∙ ap Some q) in
       let low = b.0 in
       let high = b.1 in
       let cells = w.cells in
       let wide = w.high in
       (h.0, (inl (low, omega (arith, high, cells, wide)), there.1))
-  opened_cleared k a (src.Built c ss) x todo End q e h = absurd (own_part k c h.1.1.0.0 (e ∙ ap Some q))
-  opened_cleared k a ss x todo End q e h = absurd e
+  opened_cleared k a (src.Built c ss) x todo End t q e h = absurd (own_part Z k c h.1.1.0.0 (over_spot t c x e ∙ ap Some q))
+  opened_cleared k a ss x todo End t q e h = absurd e
 
   -- the cells of an event
   abbrev pub BuiltIn : ℕ → Raised → Type 0
@@ -145,7 +99,66 @@ module _ (Z : ℕ → ℕ → Type 0) where
   event_cleared k (src.RaiseAt line r e) todo End q h = (h.0, (inr (raised_cleared k r h.0 q h.1.0.0), h.1.1))
   event_cleared k a todo End q h = absurd q
 
-module _ (Z : ℕ → ℕ → Type 0) (g : Setting) (laid : IsLaidOut Z g.table) (s : State) (st : StackState Z s) (callers : AllWait (Runs g) (Waits g) s.env.exec s.callers) (env : NamedEnv (Runs g) (Waits g) s.env) (made : Reach) (this : IsSeated g.table g.few made s.env.exec s.callers s.run.frame s.run.this) where
+-- behind what is at a variable whose scope is left, or opens next: its room, behind which all handlers outwards of it lie
+module _ (Z : ℕ → ℕ → Type 0) (t : Table) (laid : IsLaidOut Z t) where
+  record PastIn (k : ℕ) (todo : List Todo) (top : ℕ) (x : Site) : Type 0 where
+    pub cell : ℕ
+    pub low : k ≤ cell
+    pub high : cell ≤ top
+    pub guards : GuardsFrom Z cell todo
+    pub past : MayHold t x → HasSome x → k < cell
+
+  clean_past : (k : ℕ) (c : CleanUp) (todo : List Todo) (top : ℕ) (x : Site) → IsOver t c x → site_spot x ≡ OfVariable k → SomeTo Z (UpTo top) (piece.Clean c ∷ todo) → PastIn k todo top x
+  clean_past k c todo top x y e h =
+      let o : Room = h.0 in
+      let m : Room = h.1.0 in
+      let w : IsWithin m o = h.1.1 in
+      let b = cleaned_between Z m.low o.low k c h.1.2.0 (over_spot t c x y ∙ ap Some e) in
+      let cells = w.cells in
+      let wide = w.high in
+      let last = up_to Z top m todo h.1.3 in
+      record {
+        cell = o.low;
+        low = b.1;
+        high = omega (arith, cells, wide, last);
+        guards = guards_high Z (UpTo top) o.low m todo (omega (arith, cells, wide)) h.1.3;
+        past = λ v s. over_past t Z laid m.low o.low k c x h.1.2.0 y e v s;
+      }
+
+  left_past : (unwinds : Bool) (k : ℕ) (c : CleanUp) (todo : List Todo) (top : ℕ) (x : Site) → IsOver t c x → site_spot x ≡ OfVariable k → SomeTo Z (UpTo top) (leaving unwinds c todo) → PastIn k todo top x
+  left_past true k c todo top x y e h = clean_past k c todo top x y e (h.0, h.1.1)
+  left_past false k c todo top x y e h = clean_past k c todo top x y e h
+
+  opened_past : (k : ℕ) (a : Stmt) (ss : Stmts) (x : Site) (todo : List Todo) (top : ℕ) → site_spot x ≡ OfVariable k → OpensFor t ss x → SomeTo Z (UpTo top) (piece.Do a ∷ (piece.Rest ss ∷ todo)) → PastIn k todo top x
+  opened_past k a (src.Scoped c ss) x todo top e y h =
+      let there = h.1.1 in
+      let o : Room = h.0 in
+      let m : Room = there.0.0 in
+      let w : IsWithin o m = there.0.1 in
+      let b = cleaned_between Z o.low m.low k c there.0.2.0 (over_spot t c x y ∙ ap Some e) in
+      let cells = w.cells in
+      let wide = w.high in
+      let last = up_to Z top o todo there.1 in
+      record {
+        cell = m.low;
+        low = b.1;
+        high = omega (arith, cells, wide, last);
+        guards = guards_high Z (UpTo top) m.low o todo (omega (arith, cells, wide)) there.1;
+        past = λ v s. over_past t Z laid o.low m.low k c x there.0.2.0 y e v s;
+      }
+  opened_past k a (src.Built c ss) x todo top e y h = absurd (own_part Z k c h.1.1.0.0 (over_spot t c x y ∙ ap Some e))
+  opened_past k a ss x todo top e y h = absurd y
+
+-- what holds no mutex object
+hollow_spot : (t : Table) (k : ℕ) (x : Site) → IsHollow t k x → site_spot x ≡ OfVariable k
+hollow_spot t k (Under o n p) h = h.0
+hollow_spot t k x h = absurd h
+
+hollow_none : (t : Table) (k : ℕ) (x : Site) → IsHollow t k x → MayHold t x → ⊥
+hollow_none t k (Under o n p) h m = h.1 m
+hollow_none t k x h m = absurd h
+
+module _ (Z : ℕ → ℕ → Type 0) (g : Setting) (laid : IsLaidOut Z g.table) (s : State) (st : StackState Z s) (callers : AllWait (Runs g) (Waits g) s.env.exec s.callers) (env : NamedEnv (Runs g) (Waits g) s.env) (made : Reach) (this : IsSeated g.table g.source g.special g.few made s.env.exec s.callers s.run.frame s.run.handles s.run.this) where
   -- of a variable before which all marks in the frame lie
   module _ (k : ℕ) (todo : List Todo) (low : made.low ≤ k) (code : Left g (here s) made todo) (clears : (End : Room → Type 0) → SomeTo Z End s.run.control → SomeTo Z End (piece.ClearNow k 0 ∷ todo)) where
     abbrev run : Active
@@ -199,50 +212,89 @@ module _ (Z : ℕ → ℕ → Type 0) (g : Setting) (laid : IsLaidOut Z g.table)
   spot_lone (OfVariable k) todo i code clears below v e l st = variable_lone k todo i code (clears k refl) v e l st
   spot_lone (OfField h j) todo i code clears below v e l st = at_field h j todo (below h j refl) i v e l st
 
+  -- behind a site
+
+  abbrev Past : ℕ → List Todo → Site → Type 0
+  Past k todo x = PastIn Z g.table laid k todo st.stack.0.top x
+
+  at_past : (k : ℕ) (todo : List Todo) (x : Site) → made.low ≤ k → Left g (here s) made todo → Past k todo x → IsPast g (here s) made todo k x
+  at_past k todo x i code p =
+      let low = p.low in (
+        p.cell,
+        omega (arith, i, low),
+        guards_from Z g p.cell p.cell made.low todo (omega arith) p.guards (guards_left g (here s) made todo code),
+        searched Z g s.env.exec p.cell st.stack.0.top s.run.handles s.run.frame s.callers p.high (marks.waits_left g s.env.exec s.callers callers) st.stack.0.beyond,
+        p.past,
+      )
+
+  spot_behind : (p : Spot) (todo : List Todo) (x : Site) → IsOf made p → Left g (here s) made todo → ((k : ℕ) → p ≡ OfVariable k → Past k todo x) → ((h : src.Shape) (i : ℕ) → p ≡ OfField h i → MayHold g.table x → HasSome x → HoldsObjects g.table made.class) → BehindBy g (here s) made todo p x
+  spot_behind (OfVariable k) todo x i code past class = at_past k todo x i code (past k refl)
+  spot_behind (OfField h j) todo x i code past class = class h j refl
+
   same_spot : (p : Spot) → IsOf made p → IsOf made p
   same_spot p i = i
 
-  -- a clean-up, where nothing stands around its spot
-  cleans_lone : (c : CleanUp) (todo : List Todo) → ((x : Site) → IsIn made x → IsSpotOf c x → LoneAt g.table g.few (here s) todo x) → CleansBy g.table g.source g.special made c → LoneFor g (here s) made c todo
-  cleans_lone (src.Destroys e) todo f (inl k) = inl k
-  cleans_lone (src.Destroys e) todo f (inr (inl k)) = inr (inl (marks.calls_more g.table g.source g.special made made same_spot (IsSpotOf (src.Destroys e)) (Lones g (here s) made todo) f e k))
-  cleans_lone (src.Destroys e) todo f (inr (inr k)) = inr (inr (marks.ends_more g.table g.source g.special made made same_spot (IsSpotOf (src.Destroys e)) (Lones g (here s) made todo) f e k))
-  cleans_lone (src.DestroysAll m e) todo f k = marks.sweeps_more g.table g.source g.special made made same_spot (IsSpotOf (src.DestroysAll m e)) (Lones g (here s) made todo) f e k
+  -- a clean-up, where its spot is so
+  cleans_lone : (c : CleanUp) (todo : List Todo) → ((x : Site) → IsIn made x → IsOver g.table c x → SeatAt g (here s) made todo x) → CleansBy g.table g.source g.special made c → LoneFor g (here s) made c todo
+  cleans_lone (src.Destroys e) todo f (inl k) = inl (marks.number_more g.table g.source g.special made made same_spot (IsOver g.table (src.Destroys e)) (Lones g (here s) made todo) f e k)
+  cleans_lone (src.Destroys e) todo f (inr (inl k)) = inr (inl (marks.calls_more g.table g.source g.special made made same_spot (IsOver g.table (src.Destroys e)) (Lones g (here s) made todo) f e k))
+  cleans_lone (src.Destroys e) todo f (inr (inr k)) = inr (inr (marks.ends_more g.table g.source g.special made made same_spot (IsOver g.table (src.Destroys e)) (Lones g (here s) made todo) f e k))
+  cleans_lone (src.DestroysAll m e) todo f k = marks.sweeps_more g.table g.source g.special made made same_spot (IsOver g.table (src.DestroysAll m e)) (Lones g (here s) made todo) f e k
   cleans_lone c todo f k = tt
 
-  left_lone : (unwinds : Bool) (c : CleanUp) (todo : List Todo) → s.run.control ≡ leaving unwinds c todo → CleansBy g.table g.source g.special made c → IsOutermost (spot_of c) todo → Left g (here s) made todo → LoneFor g (here s) made c todo
-  left_lone unwinds c todo q n o code =
-      cleans_lone c todo (λ x i e. spot_lone (site_spot x) todo i code (λ k y end h. left_cleared Z unwinds k c todo end (e ∙ ap Some y) (subst (SomeTo Z end) q h)) (λ h j y. subst (λ z. IsOutermost z todo) (e ∙ ap Some y) o)) n
+  left_lone : (unwinds : Bool) (c : CleanUp) (todo : List Todo) → s.run.control ≡ leaving unwinds c todo → CleansBy g.table g.source g.special made c → IsOutermost (spot_of c) todo → LiesInClass g.table made.class c → Left g (here s) made todo → LoneFor g (here s) made c todo
+  left_lone unwinds c todo q n o z code =
+      cleans_lone c todo (λ x i e. (
+        spot_lone (site_spot x) todo i code (λ k y end h. left_cleared Z unwinds k c todo end (over_spot g.table c x e ∙ ap Some y) (subst (SomeTo Z end) q h)) (λ h j y. subst (λ z. IsOutermost z todo) (over_spot g.table c x e ∙ ap Some y) o),
+        spot_behind (site_spot x) todo x i code (λ k y. left_past Z g.table laid unwinds k c todo st.stack.0.top x e y (subst (SomeTo Z (UpTo st.stack.0.top)) q st.stack.0.fits)) (λ h j y. over_class g.table made.class h j c x z e y),
+      )) n
 
   -- its scope is left next
   pub scope_lone : (unwinds : Bool) (c : CleanUp) (todo : List Todo) → s.run.control ≡ leaving unwinds c todo → CodeScope g made c todo → Left g (here s) made todo → LoneFor g (here s) made c todo
-  scope_lone unwinds (src.Destroys e) todo q n code = left_lone unwinds (src.Destroys e) todo q n.1 n.2 code
-  scope_lone unwinds (src.DestroysAll m e) todo q n code = left_lone unwinds (src.DestroysAll m e) todo q n.1 n.2 code
+  scope_lone unwinds (src.Destroys e) todo q n code = left_lone unwinds (src.Destroys e) todo q n.1 n.2 n.3 code
+  scope_lone unwinds (src.DestroysAll m e) todo q n code = left_lone unwinds (src.DestroysAll m e) todo q n.1 n.2 n.3 code
   scope_lone unwinds c todo q n code = tt
 
   -- a part is given up
   pub part_lone : (c : CleanUp) (todo : List Todo) → s.run.control ≡ piece.Unwind ∷ (piece.Part c ∷ todo) → CodePart g made c todo → Left g (here s) made todo → LoneFor g (here s) made c todo
   part_lone c todo q n code =
-      cleans_lone c todo (λ x i e. spot_lone (site_spot x) todo i code (λ k y end h. absurd (own_part Z k c (subst (SomeTo Z end) q h).1.1.0 (e ∙ ap Some y))) (λ h j y. subst (λ z. IsOutermost z todo) (e ∙ ap Some y) n.2)) n.1
+      cleans_lone c todo (λ x i e. (
+        spot_lone (site_spot x) todo i code (λ k y end h. absurd (own_part Z k c (subst (SomeTo Z end) q h).1.1.0 (over_spot g.table c x e ∙ ap Some y))) (λ h j y. subst (λ z. IsOutermost z todo) (over_spot g.table c x e ∙ ap Some y) n.2),
+        spot_behind (site_spot x) todo x i code (λ k y. absurd (own_part Z k c (subst (SomeTo Z (UpTo st.stack.0.top)) q st.stack.0.fits).1.1.0 (over_spot g.table c x e ∙ ap Some y))) (λ h j y. over_class g.table made.class h j c x n.3 e y),
+      )) n.1
 
   -- what opens behind a statement is of a higher number than all outwards of it
-  spot_next : (c : CleanUp) (x : Site) (n : ℕ) (todo : List Todo) (next : ℕ → Type 0) (h : src.Shape) (i : ℕ) → AscendsBy (spot_of c) n next → AllBelow n todo → IsSpotOf c x → site_spot x ≡ OfField h i → AllBelow i todo
-  spot_next c x n todo next h i a b e y = below_more n i todo (subst (λ o. AscendsBy o n next) (e ∙ ap Some y) a).0 b
+  spot_next : (c : CleanUp) (x : Site) (n : ℕ) (todo : List Todo) (next : ℕ → Type 0) (h : src.Shape) (i : ℕ) → AscendsBy (spot_of c) n next → AllBelow n todo → IsOver g.table c x → site_spot x ≡ OfField h i → AllBelow i todo
+  spot_next c x n todo next h i a b e y = below_more n i todo (subst (λ o. AscendsBy o n next) (over_spot g.table c x e ∙ ap Some y) a).0 b
 
-  rest_below : (ss : Stmts) (todo : List Todo) (x : Site) (h : src.Shape) (i : ℕ) → CodeRest g (here s) made ss todo → OpensFor ss x → site_spot x ≡ OfField h i → AllBelow i todo
-  rest_below (src.Scoped c ss) todo x h i (inl n) e y = absurd (no_field (spot_named g.table g.source g.special (apart made) (OfField h i) c n.1.0 (e ∙ ap Some y)))
-  rest_below (src.Built c ss) todo x h i (inl n) e y = absurd (no_field (spot_named g.table g.source g.special (apart made) (OfField h i) c n.1.0 (e ∙ ap Some y)))
+  rest_below : (ss : Stmts) (todo : List Todo) (x : Site) (h : src.Shape) (i : ℕ) → CodeRest g (here s) made ss todo → OpensFor g.table ss x → site_spot x ≡ OfField h i → AllBelow i todo
+  rest_below (src.Scoped c ss) todo x h i (inl n) e y = absurd (no_field (spot_named g.table g.source g.special (apart made) (OfField h i) c n.1.0 (over_spot g.table c x e ∙ ap Some y)))
+  rest_below (src.Built c ss) todo x h i (inl n) e y = absurd (no_field (spot_named g.table g.source g.special (apart made) (OfField h i) c n.1.0 (over_spot g.table c x e ∙ ap Some y)))
   rest_below (src.Scoped c ss) todo x h i (inr (inl n)) e y = spot_next c x n.1.0 todo (λ m. Ascends m ss) h i n.1.2 n.1.1 e y
   rest_below (src.Built c ss) todo x h i (inr (inl n)) e y = spot_next c x n.1.0 todo (λ m. Ascends m ss) h i n.1.2 n.1.1 e y
-  rest_below (src.Scoped src.Ends ss) todo x h i (inr (inr n)) e y = absurd (cc)
-  rest_below (src.Scoped (src.Frees r) ss) todo x h i (inr (inr n)) e y = absurd (cc)
+  rest_below (src.Scoped src.Ends ss) todo x h i (inr (inr n)) e y = absurd (no_spot (site_spot x) (over_spot g.table src.Ends x e))
+  rest_below (src.Scoped (src.Frees r) ss) todo x h i (inr (inr n)) e y = absurd (no_spot (site_spot x) (over_spot g.table (src.Frees r) x e))
   rest_below (src.Scoped c ss) todo x h i (inr (inr n)) e y = absurd n.2
   rest_below (src.Built c ss) todo x h i (inr (inr n)) e y = absurd n.2
   rest_below ss todo x h i n e y = absurd e
 
-  opened : (a : Stmt) (ss : Stmts) (todo : List Todo) → s.run.control ≡ piece.Do a ∷ (piece.Rest ss ∷ todo) → CodeRest g (here s) made ss todo → Left g (here s) made todo → (x : Site) → IsIn made x → OpensFor ss x → LoneAt g.table g.few (here s) todo x
-  opened a ss todo q n code x i e =
-      spot_lone (site_spot x) todo i code (λ k y end h. opened_cleared Z k a ss x todo end y e (subst (SomeTo Z end) q h)) (λ h j y. rest_below ss todo x h j n e y)
+  -- so is it with objects that may lie there
+  rest_class : (ss : Stmts) (todo : List Todo) (x : Site) (h : src.Shape) (i : ℕ) → CodeRest g (here s) made ss todo → OpensFor g.table ss x → site_spot x ≡ OfField h i → MayHold g.table x → HasSome x → HoldsObjects g.table made.class
+  rest_class (src.Scoped c ss) todo x h i (inl n) e y = absurd (no_field (spot_named g.table g.source g.special (apart made) (OfField h i) c n.1.0 (over_spot g.table c x e ∙ ap Some y)))
+  rest_class (src.Built c ss) todo x h i (inl n) e y = absurd (no_field (spot_named g.table g.source g.special (apart made) (OfField h i) c n.1.0 (over_spot g.table c x e ∙ ap Some y)))
+  rest_class (src.Scoped c ss) todo x h i (inr (inl n)) e y = over_class g.table made.class h i c x n.2.0 e y
+  rest_class (src.Built c ss) todo x h i (inr (inl n)) e y = over_class g.table made.class h i c x n.2.0 e y
+  rest_class (src.Scoped src.Ends ss) todo x h i (inr (inr n)) e y = absurd (no_spot (site_spot x) (over_spot g.table src.Ends x e))
+  rest_class (src.Scoped (src.Frees r) ss) todo x h i (inr (inr n)) e y = absurd (no_spot (site_spot x) (over_spot g.table (src.Frees r) x e))
+  rest_class (src.Scoped c ss) todo x h i (inr (inr n)) e y = absurd n.2
+  rest_class (src.Built c ss) todo x h i (inr (inr n)) e y = absurd n.2
+  rest_class ss todo x h i n e y = absurd e
+
+  opened : (a : Stmt) (ss : Stmts) (todo : List Todo) → s.run.control ≡ piece.Do a ∷ (piece.Rest ss ∷ todo) → CodeRest g (here s) made ss todo → Left g (here s) made todo → (x : Site) → IsIn made x → OpensFor g.table ss x → SeatAt g (here s) made todo x
+  opened a ss todo q n code x i e = (
+    spot_lone (site_spot x) todo i code (λ k y end h. opened_cleared Z k a ss x todo end g.table y e (subst (SomeTo Z end) q h)) (λ h j y. rest_below ss todo x h j n e y),
+    spot_behind (site_spot x) todo x i code (λ k y. opened_past Z g.table laid k a ss x todo st.stack.0.top y e (subst (SomeTo Z (UpTo st.stack.0.top)) q st.stack.0.fits)) (λ h j y. rest_class ss todo x h j n e y),
+  )
 
   pub lone_behind : (a : Stmt) (todo : List Todo) → s.run.control ≡ piece.Do a ∷ todo → Ok g (here s) made [] todo → steps.LoneBehind g s callers env made this todo
   lone_behind a (piece.Rest ss ∷ todo) q h x i e = opened a ss todo q h.0 (marks.left g (here s) made [] todo h.1) x i e
@@ -250,9 +302,18 @@ module _ (Z : ℕ → ℕ → Type 0) (g : Setting) (laid : IsLaidOut Z g.table)
 
   -- where an event is built
 
+  -- all handlers of its frame name other variables than those that older activations have to clean up
+  built_behind : (p : Spot) (k : ℕ) (todo : List Todo) (x : Site) → p ≡ OfVariable k → Left g (here s) made todo → (MayHold g.table x → ⊥) → BehindBy g (here s) made todo p x
+  built_behind (OfVariable j) k todo x y code none =
+      (made.low, omega arith, guards_left g (here s) made todo code, this.after, λ m e. absurd (none m))
+  built_behind (OfField h j) k todo x y code none = absurd (no_variable_field k h j (sym y))
+
   raised_lone : (a : EventStmt) (r : Raised) (todo : List Todo) → s.run.control ≡ piece.Do (src.OfEvents a) ∷ todo → ((k : ℕ) → BuiltIn Z k r → EventIn Z k a) → RaisesBy g.table g.source g.special made r → Left g (here s) made todo → BuildsAt g (here s) made r (Lones g (here s) made todo)
   raised_lone a (src.BuiltAt n c e) todo q f h code =
-      marks.calls_more g.table g.source g.special made made same_spot (IsAtVariable c) (Lones g (here s) made todo) (λ x i y. spot_lone (site_spot x) todo i code (λ k z end l. event_cleared Z k a todo end (f k (variable_one c k (sym y ∙ z))) (subst (SomeTo Z end) q l)) (λ h j z. absurd (no_variable_field c h j (sym y ∙ z)))) e h
+      marks.calls_more g.table g.source g.special made made same_spot (IsHollow g.table c) (Lones g (here s) made todo) (λ x i y. (
+        spot_lone (site_spot x) todo i code (λ k z end l. event_cleared Z k a todo end (f k (variable_one c k (sym (hollow_spot g.table c x y) ∙ z))) (subst (SomeTo Z end) q l)) (λ h j z. absurd (no_variable_field c h j (sym (hollow_spot g.table c x y) ∙ z))),
+        built_behind (site_spot x) c todo x (hollow_spot g.table c x y) code (hollow_none g.table c x y),
+      )) e h
   raised_lone a (src.Plainly n) todo q f h code = tt
   raised_lone a (src.AgainFrom c) todo q f h code = tt
 

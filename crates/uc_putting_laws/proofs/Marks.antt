@@ -16,8 +16,9 @@ use Rattle.uc_life_laws.specs.Marks.{Outward, Free}
 use Rattle.uc_life_laws.specs.Ending.{Spot, OfVariable, OfField}
 use Rattle.uc_place_laws.specs.OlderResting.{AllWait}
 use Rattle.uc_place_laws.proofs.AsideKeeping.{tested}
-use Rattle.uc_putting_laws.specs.CleanedSpots.{Site, One, Each, Under, site_spot, AnySite, IsAtVariable, IsSpotOf, Reach, apart, IsOf, IsIn}
-use Rattle.uc_putting_laws.specs.ObjectsAtHand.{LiesUnder, same_place, further_on, BelongsBelow, in_frame, IsSeated}
+use Rattle.uc_putting_laws.specs.CleanedSpots.{Site, One, Each, Under, site_spot, AnySite, AnyPlace, HasSome, IsOver, IsHollow, Reach, apart, IsOf, IsIn}
+use Rattle.uc_putting_laws.specs.ObjectsAtHand.{LiesUnder, same_place, further_on, BelongsBelow, in_frame}
+use Rattle.uc_putting_laws.specs.Seats.{IsSeated}
 use Rattle.uc_putting_laws.specs.Calling.{opens_object, PlainExpr, PlaceAt, Binds, CallsAt, MakesAt, MakesEach, EndsAt, EndsEach, EndsNumber, Evaluates, FillsBy, SweepsBy, CleansBy, RaisesBy, CallingStmt, CallingEvent, CallingTask, Opening}
 use Rattle.uc_putting_laws.specs.Putting.{Setting, Around, around, Mark, Any, At, Homed, rest, rests, anys, FirstUnder, FirstAt, FirstHome, Located, Enters, Loads, spot_at, StandsAt, HomedAt, Holds, after, made_marks, Ok, Left, Runs, Waits}
 use Rattle.uc_putting_laws.proofs.ObjectsWithin.{below_more, under_below}
@@ -40,9 +41,9 @@ module _ (few : Few) (A : Around) where
   at_of (Any ∷ ms) vs h F k = absurd k
   at_of (Homed p ∷ ms) vs h F k = absurd k
 
-  -- and where it lies at a spot or further
-  pub under_of : (ms : List Mark) (vs : List Value) → Holds few A ms vs → (F : Spot → Type 0) → FirstUnder ms F → (p : Spot) × LiesUnder (spot_at few A p) (top vs) × F p
-  under_of (At (Under p) ∷ ms) vs h F k = (p, h.0, k)
+  -- and where it lies at a spot or further, one of so many
+  pub under_of : (ms : List Mark) (vs : List Value) → Holds few A ms vs → (F : ℕ → Spot → Type 0) → FirstUnder ms F → (n : ℕ) × (p : Spot) × ((0 < n) × LiesUnder (spot_at few A p) (top vs)) × F n p
+  under_of (At (Under o n p) ∷ ms) vs h F k = (n, p, h.0, k)
   under_of (At (One p) ∷ ms) vs h F k = absurd k
   under_of (At (Each n p) ∷ ms) vs h F k = absurd k
   under_of [] vs h F k = absurd k
@@ -100,7 +101,13 @@ set_top (suc n) v (w ∷ vs) h = set_top n v vs h
 pub stands_under : (few : Few) (A : Around) (x : Site) (v : Value) → StandsAt few A x v → LiesUnder (spot_at few A (site_spot x)) v
 stands_under few A (One p) v e = subst (LiesUnder (spot_at few A p)) (sym e) same_place
 stands_under few A (Each n p) v e = subst (LiesUnder (spot_at few A p)) (sym e.2) (further_on (piece.At src.Binding e.0) same_place)
-stands_under few A (Under p) v e = e
+stands_under few A (Under o n p) v e = e.1
+
+-- one of so many is there
+pub stands_some : (few : Few) (A : Around) (x : Site) (v : Value) → StandsAt few A x v → HasSome x
+stands_some few A (One p) v e = tt
+stands_some few A (Each n p) v e = let l = e.1 in omega (arith, l)
+stands_some few A (Under o n p) v e = e.0
 
 -- it is the execution's own, in a frame below the next one, where the object at hand is, if fields of that are named
 module _ (few : Few) (A : Around) (made : Reach) (own : made.builds ≡ true → BelongsBelow few A.exec A.frame A.this) (d : ℕ) (le : A.frame < d) where
@@ -161,25 +168,24 @@ module _ (g : Setting) where
   opening_opens made ss h = absurd h
 
   -- a place calls nothing
-  pub place_plain : (made : Reach) (P : Site → Type 0) (e : Expr) → PlaceAt g.table g.source g.special made P e → PlainExpr g.table g.source g.special e
+  pub place_plain : (made : Reach) (P : ℕ → Spot → Type 0) (e : Expr) → PlaceAt g.table g.source g.special made P e → PlainExpr g.table g.source g.special e
   place_plain made P (src.Variable k) h = tt
   place_plain made P (src.OfObject (src.OwnField s i)) h = (tt, tt)
-  place_plain made P (src.Element n s e i) h = (place_plain made P e h.0, h.1)
+  place_plain made P (src.Element n s e i) h = (place_plain made (λ m p. P n p) e h.0, h.1)
   place_plain made P e h = absurd h
 
 -- code that names fewer spots, for fewer sites
 module _ (t : Table) (source : Source) (special : ℕ → Bool) (r q : Reach) (wide : (p : Spot) → IsOf r p → IsOf q p) where
-  module _ (P Q : Site → Type 0) (f : (p : Spot) → IsOf r p → P (Under p) → Q (Under p)) where
-    pub place_more : (e : Expr) → PlaceAt t source special r P e → PlaceAt t source special q Q e
-    place_more (src.Variable k) h = (wide (OfVariable k) h.0, f (OfVariable k) h.0 h.1)
-    place_more (src.OfObject (src.OwnField s i)) h = (wide (OfField s i) h.0, f (OfField s i) h.0 h.1)
-    place_more (src.Element n s e i) h = (place_more e h.0, h.1)
-    place_more e h = absurd h
+  pub place_more : (P Q : ℕ → Spot → Type 0) → ((n : ℕ) (p : Spot) → IsOf r p → P n p → Q n p) → (e : Expr) → PlaceAt t source special r P e → PlaceAt t source special q Q e
+  place_more P Q f (src.Variable k) h = (wide (OfVariable k) h.0, f 1 (OfVariable k) h.0 h.1)
+  place_more P Q f (src.OfObject (src.OwnField s i)) h = (wide (OfField s i) h.0, f 1 (OfField s i) h.0 h.1)
+  place_more P Q f (src.Element n s e i) h = (place_more (λ m p. P n p) (λ m p. Q n p) (λ m p. f n p) e h.0, h.1)
+  place_more P Q f e h = absurd h
 
   module _ (P Q : Site → Type 0) (f : (x : Site) → IsIn r x → P x → Q x) where
     pub calls_more : (e : Expr) → CallsAt t source special r P e → CallsAt t source special q Q e
-    calls_more (src.OfObject (src.CallOn n x args)) h = (h.0, place_more P Q (λ p. f (Under p)) x h.1, h.2)
-    calls_more (src.OfObject (src.CallUnwritten n x)) h = (h.0, place_more P Q (λ p. f (Under p)) x h.1)
+    calls_more (src.OfObject (src.CallOn n x args)) h = (h.0, place_more (λ m p. P (Under (t.routine n).this m p)) (λ m p. Q (Under (t.routine n).this m p)) (λ m p. f (Under (t.routine n).this m p)) x h.1, h.2)
+    calls_more (src.OfObject (src.CallUnwritten n x)) h = (h.0, place_more (λ m p. P (Under (t.routine n).this m p)) (λ m p. Q (Under (t.routine n).this m p)) (λ m p. f (Under (t.routine n).this m p)) x h.1)
     calls_more e h = absurd h
 
     makes_more : (e : Expr) → MakesAt t source special r P e → MakesAt t source special q Q e
@@ -202,13 +208,13 @@ module _ (t : Table) (source : Source) (special : ℕ → Bool) (r q : Reach) (w
     ends_each_more (src.OfObject (src.EndOn n written (src.Load (src.Element m src.Binding (src.OfObject (src.OwnField s i)) (src.OfObject src.Counted))))) h = (f (Each m (OfField s i)) h.1 h.0, wide (OfField s i) h.1, h.2)
     ends_each_more e h = absurd h
 
-  pub number_more : (e : Expr) → EndsNumber t source special r e → EndsNumber t source special q e
-  number_more (src.OfObject (src.EndCluster (src.Load x))) h = place_more AnySite AnySite (λ x i y. y) x h
-  number_more (src.OfObject (src.EndProcessor (src.Load x))) h = place_more AnySite AnySite (λ x i y. y) x h
-  number_more e h = absurd h
+    pub number_more : (e : Expr) → EndsNumber t source special r P e → EndsNumber t source special q Q e
+    number_more (src.OfObject (src.EndCluster (src.Load x))) h = place_more (λ m p. P (Under None m p)) (λ m p. Q (Under None m p)) (λ m p. f (Under None m p)) x h
+    number_more (src.OfObject (src.EndProcessor (src.Load x))) h = place_more (λ m p. P (Under None m p)) (λ m p. Q (Under None m p)) (λ m p. f (Under None m p)) x h
+    number_more e h = absurd h
 
   binds_more : (e : Expr) → Binds t source special r e → Binds t source special q e
-  binds_more (src.OfObject (src.Bind x e)) h = (place_more AnySite AnySite (λ x i y. y) x h.0, h.1)
+  binds_more (src.OfObject (src.Bind x e)) h = (place_more AnyPlace AnyPlace (λ n p i y. y) x h.0, h.1)
   binds_more e h = absurd h
 
   module _ (P Q : Site → Type 0) (f : (x : Site) → IsIn r x → P x → Q x) where
@@ -218,7 +224,7 @@ module _ (t : Table) (source : Source) (special : ℕ → Bool) (r q : Reach) (w
     fills_more e (inr (inr h)) = inr (inr (makes_each_more P Q f e h))
 
     pub sweeps_more : (e : Expr) → SweepsBy t source special r P e → SweepsBy t source special q Q e
-    sweeps_more e (inl h) = inl (number_more e h)
+    sweeps_more e (inl h) = inl (number_more P Q f e h)
     sweeps_more e (inr (inl h)) = inr (inl (calls_more P Q f e h))
     sweeps_more e (inr (inr h)) = inr (inr (ends_each_more P Q f e h))
 
@@ -229,16 +235,16 @@ module _ (t : Table) (source : Source) (special : ℕ → Bool) (r q : Reach) (w
     evaluates_more e (inr (inr (inr h))) = inr (inr (inr (makes_more P Q f e h)))
 
   pub cleans_more : (c : CleanUp) → CleansBy t source special r c → CleansBy t source special q c
-  cleans_more (src.Destroys e) (inl h) = inl (number_more e h)
-  cleans_more (src.Destroys e) (inr (inl h)) = inr (inl (calls_more (IsSpotOf (src.Destroys e)) (IsSpotOf (src.Destroys e)) (λ x i y. y) e h))
-  cleans_more (src.Destroys e) (inr (inr h)) = inr (inr (ends_more (IsSpotOf (src.Destroys e)) (IsSpotOf (src.Destroys e)) (λ x i y. y) e h))
-  cleans_more (src.DestroysAll n e) h = sweeps_more (IsSpotOf (src.DestroysAll n e)) (IsSpotOf (src.DestroysAll n e)) (λ x i y. y) e h
+  cleans_more (src.Destroys e) (inl h) = inl (number_more (IsOver t (src.Destroys e)) (IsOver t (src.Destroys e)) (λ x i y. y) e h)
+  cleans_more (src.Destroys e) (inr (inl h)) = inr (inl (calls_more (IsOver t (src.Destroys e)) (IsOver t (src.Destroys e)) (λ x i y. y) e h))
+  cleans_more (src.Destroys e) (inr (inr h)) = inr (inr (ends_more (IsOver t (src.Destroys e)) (IsOver t (src.Destroys e)) (λ x i y. y) e h))
+  cleans_more (src.DestroysAll n e) h = sweeps_more (IsOver t (src.DestroysAll n e)) (IsOver t (src.DestroysAll n e)) (λ x i y. y) e h
   cleans_more src.Forgets h = wide (OfField src.Last 0) h
   cleans_more c h = h
 
   raises_more : (x : Raised) → RaisesBy t source special r x → RaisesBy t source special q x
   raises_more (src.Plainly n) h = h
-  raises_more (src.BuiltAt n k e) h = calls_more (IsAtVariable k) (IsAtVariable k) (λ x i y. y) e h
+  raises_more (src.BuiltAt n k e) h = calls_more (IsHollow t k) (IsHollow t k) (λ x i y. y) e h
   raises_more (src.AgainFrom k) h = h
 
 -- statements within others may stand where those of constructors may
@@ -269,11 +275,11 @@ module _ (t : Table) (source : Source) (special : ℕ → Bool) (made : Reach) w
 -- to-do lists that are left
 
 module _ (g : Setting) (A : Around) (made : Reach) where
-  placed : (e : Expr) (todo : List Todo) (ms : List Mark) → ((ms : List Mark) → Ok g A made ms todo → Left g A made todo) → PlaceAt g.table g.source g.special made (λ x. Ok g A made (At x ∷ ms) todo) e → Left g A made todo
-  placed (src.Variable k) todo ms next h = next (At (Under (OfVariable k)) ∷ ms) h.1
-  placed (src.OfObject (src.OwnField s i)) todo ms next h = next (At (Under (OfField s i)) ∷ ms) h.1
-  placed (src.Element n s e i) todo ms next h = placed e todo ms next h.0
-  placed e todo ms next h = absurd h
+  placed : (todo : List Todo) (P : ℕ → Spot → Type 0) → ((n : ℕ) (p : Spot) → P n p → Left g A made todo) → (e : Expr) → PlaceAt g.table g.source g.special made P e → Left g A made todo
+  placed todo P next (src.Variable k) h = next 1 (OfVariable k) h.1
+  placed todo P next (src.OfObject (src.OwnField s i)) h = next 1 (OfField s i) h.1
+  placed todo P next (src.Element n s e i) h = placed todo (λ m p. P n p) (λ m p. next n p) e h.0
+  placed todo P next e h = absurd h
 
   -- what is known of a place or not is left alike
   located : (e : Expr) (todo : List Todo) (f : Site → Mark) (ms : List Mark) → ((ms : List Mark) → Ok g A made ms todo → Left g A made todo) → Located e (λ x. Ok g A made (f x ∷ ms) todo) → Left g A made todo
@@ -294,7 +300,7 @@ module _ (g : Setting) (A : Around) (made : Reach) where
   first_at (Homed x ∷ ns) todo F next h = absurd h
 
   enters : (n : ℕ) (k : src.Shape) (x : Site) (todo : List Todo) (F : Site → Type 0) → ((x : Site) → F x → Left g A made todo) → Enters n k x F → Left g A made todo
-  enters n k (Under p) todo F next h = next (Under p) h
+  enters n k (Under o m p) todo F next h = next (Under o n p) h
   enters n src.Binding (One p) todo F next h = next (Each n p) h
   enters n k x todo F next h = absurd h
 
@@ -304,7 +310,7 @@ module _ (g : Setting) (A : Around) (made : Reach) where
   left ms (piece.Eval e ∷ todo) (n, inr (inl h)) = left (Any ∷ ms) todo h.1
   left ms (piece.Eval e ∷ todo) (n, inr (inr (inl h))) = left (Any ∷ ms) todo h.1
   left ms (piece.Eval e ∷ todo) (n, inr (inr (inr (inl h)))) = left (Any ∷ ms) todo h.1
-  left ms (piece.Eval e ∷ todo) (n, inr (inr (inr (inr (inl h))))) = placed e todo ms (λ ns k. left ns todo k) h
+  left ms (piece.Eval e ∷ todo) (n, inr (inr (inr (inr (inl h))))) = placed todo (λ n p. Ok g A made (At (Under None n p) ∷ ms) todo) (λ n p k. left (At (Under None n p) ∷ ms) todo k) e h
   left ms (piece.Eval e ∷ todo) (n, inr (inr (inr (inr (inr (inl h)))))) = located e todo At ms (λ ns k. left ns todo k) h
   left ms (piece.Eval e ∷ todo) (n, inr (inr (inr (inr (inr (inr (inl h))))))) = loaded e todo ms (λ ns k. left ns todo k) h.1
   left ms (piece.Eval e ∷ todo) (n, inr (inr (inr (inr (inr (inr (inr (inl h)))))))) = left (Any ∷ ms) todo h.1
@@ -347,7 +353,7 @@ module _ (g : Setting) (n : Exec) where
   pub record ActiveLeft (older : List Active) (a : Active) : Type 0 where
     pub made : Reach
     pub rest : Left g (around n a older) made a.control
-    pub seat : IsSeated g.table g.few made n older a.frame a.this
+    pub seat : IsSeated g.table g.source g.special g.few made n older a.frame a.handles a.this
 
   abbrev pub AllLeft : List Active → Type 0
   AllLeft [] = Unit {0}

@@ -3,8 +3,8 @@ use Rattle.std.proofs.Common.{◌≡◌, ℕ, ◌<◌, ◌≤◌, List, refl, sy
 use Rattle.uc_machine.specs.declared.exec.Exec.{Exec}
 use Rattle.uc_machine.specs.declared.exec.Owner.{Owner}
 use Rattle.uc_machine.specs.declared.exec.Owner.TheVariants.{Frame, Fields}
-use Rattle.uc_machine.specs.Pieces.{Link, FieldAt, Value, Number, Place, Running, Object, Nothing, further}
-use Rattle.uc_typing.specs.Typing.{Ty, Obj, Table}
+use Rattle.uc_machine.specs.Pieces.{Link, FieldAt, At, Value, Number, Place, Running, Object, Nothing, further}
+use Rattle.uc_typing.specs.Typing.{Ty, Cell, Obj, Row, Table, element_shape}
 use Rattle.uc_life_laws.specs.Things.{Few, Within, itself, field, element, Stands, lies, inside}
 use Rattle.uc_life_laws.specs.Belonging.{Belongs, frame, fields, object}
 use Rattle.uc_putting_laws.specs.ObjectsAtHand.{OwnedBy, LiesUnder, same_place, further_on, LiesIn, there, at_home, BelongsBelow, in_frame, in_fields, in_object}
@@ -66,6 +66,32 @@ within_under t w a v b itself = same_place
 within_under t w a v b (field {v = x} {c} h i f) = further_on (FieldAt (t.shape c) i) (within_under t w a x _ h)
 within_under t w a v b (element {v = x} {m} h j l) = further_on _ (within_under t w a x _ h)
 
+-- what lies within a thing lies so at any place
+pub moved_within : (t : Table) (w : Value) (a : Ty) (v : Value) (b : Ty) → Within t w a v b → (x : Value) → (u : Value) × Within t x a u b
+moved_within t w a v b itself x = (x, itself)
+moved_within t w a v b (field {v = y} {c} h i f) x =
+    let m = moved_within t w a y (Obj c) h x in
+    (further (FieldAt (t.shape c) i) m.0, field m.1 i f)
+moved_within t w a v b (element {v = y} {m} h j l) x =
+    let k = moved_within t w a y (Row m b) h x in
+    (further (At (element_shape t b) j) k.0, element k.1 j l)
+
+pub within_both : (t : Table) (w : Value) (a : Ty) (v : Value) (b : Ty) (u : Value) (c : Ty) → Within t w a v b → Within t v b u c → Within t w a u c
+within_both t w a v b u c h itself = h
+within_both t w a v b u c h (field {v = y} {c = d} k i f) = field (within_both t w a v b y (Obj d) h k) i f
+within_both t w a v b u c h (element {v = y} {m} k j l) = element (within_both t w a v b y (Row m c) h k) j l
+
+-- of what stands in a thing or lies further: a thing, with a mutex object in it that lies there
+module _ (few : Few) where
+  pub record Outermost (t : Table) (there : Value) (K : Value → Ty → Type 0) : Type 0 where
+    pub thing : Value
+    pub type : Ty
+    pub is : K thing type
+    pub place : Value
+    pub class : ℕ
+    pub within : Within t thing type place (Cell (Obj class))
+    pub in_it : LiesIn few there place
+
 module _ (few : Few) where
   pub in_under : (w v : Value) → LiesUnder w v → (u : Value) → LiesIn few v u → LiesIn few w u
   in_under w v h u (there k) = there (under_both w v u h k)
@@ -121,6 +147,18 @@ module _ (few : Few) where
     stands_below t d K f b v (inside {o = o} {c} m k h) =
         under_below d (Object o) v (within_under t (Object o) (Obj c) v b h) (in_object (stands_below t d K f _ (few.home o) k))
 
+    owned_below : (d o : ℕ) (v : Value) → OwnedBy (Fields o) v → BelongsBelow few n d (few.home o) → BelongsBelow few n d v
+    owned_below d o (Place (Frame x e) p) q h = absurd (no_frame x e o q)
+    owned_below d o (Place (Fields x) p) q h = in_fields (subst (λ y. BelongsBelow few n d (few.home y)) (sym (one_object x o q)) h)
+    owned_below d o (Object x) q h = in_object (subst (λ y. BelongsBelow few n d (few.home y)) (sym (one_object x o q)) h)
+    owned_below d o (Number z) q h = absurd q
+    owned_below d o (Running x) q h = absurd q
+    owned_below d o Nothing q h = absurd q
+
+    pub in_below : (d : ℕ) (w v : Value) → LiesIn few w v → BelongsBelow few n d w → BelongsBelow few n d v
+    in_below d w v (there u) h = under_below d w v u h
+    in_below d w v (at_home {o = o} u q) h = owned_below d o v q (in_below d w (few.home o) u h)
+
     -- what lies in a frame is not below it
     pub not_below : (f d : ℕ) (p : List Link) → d ≤ f → (v : Value) → LiesIn few (Place (Frame n f) p) v → BelongsBelow few n d v → ⊥
     not_below f d p le v (there k) (in_frame {x = x} {e} q l) =
@@ -133,6 +171,18 @@ module _ (few : Few) where
         not_below f d p le (few.home y) k (subst (λ z. BelongsBelow few n d (few.home z)) (one_object o y q) h)
     not_below f d p le v (at_home {o = y} k q) (in_object {o = o} h) =
         not_below f d p le (few.home y) k (subst (λ z. BelongsBelow few n d (few.home z)) (one_object o y q) h)
+
+    -- what stands there does so as a thing in which a mutex object lies there
+    pub outermost : (t : Table) (f : ℕ) (p : List Link) (K : Value → Ty → Type 0) (v : Value) (e : ℕ) → LiesIn few (Place (Frame n f) p) v → Stands t few K (Cell (Obj e)) v → Outermost few t (Place (Frame n f) p) K
+    outermost t f p K v e l (lies {w = w} {a} k h) = record { thing = w; type = a; is = k; place = v; class = e; within = h; in_it = l }
+    outermost t f p K v e (there u) (inside {o = o} {c} m h i) =
+        let mine : OwnedBy (Frame n f) v = owned_under (Frame n f) (Place (Frame n f) p) refl v u in
+        let its : OwnedBy (Fields o) v = owned_under (Fields o) (Object o) refl v (within_under t (Object o) (Obj c) v (Cell (Obj e)) i) in
+        absurd (no_frame n f o (owner_one (Frame n f) (Fields o) v mine its))
+    outermost t f p K v e (at_home {o = x} u q) (inside {o = o} {c} m h i) =
+        let its : OwnedBy (Fields o) v = owned_under (Fields o) (Object o) refl v (within_under t (Object o) (Obj c) v (Cell (Obj e)) i) in
+        let same : o ≡ x = one_object o x (owner_one (Fields o) (Fields x) v its q) in
+        outermost t f p K (few.home x) c u (subst (λ y. Stands t few K (Cell (Obj c)) (few.home y)) same h)
 
     pub not_standing : (t : Table) (f : ℕ) (p : List Link) (K : Value → Ty → Type 0) → ((w : Value) (a : Ty) → K w a → BelongsBelow few n f w) → (b : Ty) (v : Value) → LiesIn few (Place (Frame n f) p) v → Stands t few K b v → ⊥
     not_standing t f p K k b v h st = not_below f f p (omega arith) v h (stands_below t f K k b v st)

@@ -1,5 +1,5 @@
 -- What activations have to clean up: variables, or fields of their objects, which are in frames below theirs.
-use Rattle.std.proofs.Common.{◌≡◌, ℕ, ◌≤◌, ◌⊎◌, inl, inr, ⊎_elim, true, false, List, [], ◌∷◌, length, sym, subst, arith}
+use Rattle.std.proofs.Common.{◌≡◌, ℕ, ◌≤◌, ◌<◌, ◌⊎◌, inl, inr, ⊎_elim, true, false, List, [], ◌∷◌, length, Option, None, sym, subst, arith}
 use Rattle.uc_tree.specs.Source as src
 use Rattle.uc_tree.specs.Source.{Shape, CleanUp}
 use Rattle.uc_machine.specs.declared.exec.Exec.{Exec}
@@ -7,18 +7,20 @@ use Rattle.uc_machine.specs.declared.exec.Owner.{Owner}
 use Rattle.uc_machine.specs.declared.exec.Owner.TheVariants.{Frame}
 use Rattle.uc_machine.specs.Pieces as piece
 use Rattle.uc_machine.specs.Pieces.{FieldAt, Value, Todo, Sort, Active, sort, further}
-use Rattle.uc_typing.specs.Typing.{Ty, Table}
+use Rattle.uc_typing.specs.Typing.{Ty, Cell, Obj, Table}
 use Rattle.uc_state_laws.specs.RoomStacks.{Stack}
-use Rattle.uc_life_laws.specs.Things.{Few, AtVariable, AtField, Nowhere, IsFor, Marks, InTodo, Variables}
+use Rattle.uc_life_laws.specs.Things.{Few, Within, AtVariable, AtField, Nowhere, IsFor, Marks, InTodo, Stands, Variables}
 use Rattle.uc_life_laws.specs.Marks.{Marked}
 use Rattle.uc_life_laws.specs.Ending.{OfField}
-use Rattle.uc_putting_laws.specs.CleanedSpots.{Reach, reach_of}
-use Rattle.uc_putting_laws.specs.ObjectsAtHand.{same_place, further_on, BelongsBelow, OwnMarked, IsSeated}
+use Rattle.uc_putting_laws.specs.CleanedSpots.{HoldsObjects, LiesInClass, Reach, reach_of}
+use Rattle.uc_putting_laws.specs.ObjectsAtHand.{same_place, further_on, LiesIn, BelongsBelow, variable, OwnMarked}
+use Rattle.uc_putting_laws.specs.Seats.{IsSeated}
 use Rattle.uc_putting_laws.specs.Calling.{CleansBy}
 use Rattle.uc_putting_laws.specs.Putting.{Setting, Around, around, CodeScope, LeftBy, Ok, Left}
 use Rattle.uc_putting_laws.proofs.CleanedSpots.{cleans_spot, spot_named}
 use Rattle.uc_putting_laws.proofs.ObjectsWithin.{below_more, under_below, not_standing}
 use Rattle.uc_putting_laws.proofs.Marks.{left_tail, AllLeft}
+use Rattle.uc_putting_laws.proofs.Searches.{FramesBelow}
 
 -- variables, or fields
 
@@ -49,32 +51,34 @@ module _ (t : Table) where
 
 -- an activation that has to clean up fields builds or destroys an object
 module _ (g : Setting) (A : Around) (made : Reach) where
-  pub record IsField (w : Value) : Type 0 where
+  pub record IsField (w : Value) (a : Ty) : Type 0 where
     pub builds : made.builds ≡ true
     pub shape : Shape
     pub number : ℕ
     pub at : w ≡ further (FieldAt shape number) A.this
+    pub holds : (v : Value) (e : ℕ) → Within g.table w a v (Cell (Obj e)) → HoldsObjects g.table made.class
 
   abbrev Cleaned : CleanUp → Value → Ty → Type 0
   Cleaned c w a = AtField g.table (Frame A.exec A.frame) A.this c w a
 
-  by_clean : (c : CleanUp) (w : Value) (a : Ty) → CleansBy g.table g.source g.special made c → Cleaned c w a → IsField w
-  by_clean c w a k m = record {
+  by_clean : (c : CleanUp) (w : Value) (a : Ty) → CleansBy g.table g.source g.special made c → LiesInClass g.table made.class c → Cleaned c w a → IsField w a
+  by_clean c w a k n m = record {
     builds = spot_named g.table g.source g.special made (OfField m.0 m.1) c k (cleans_spot g.table a (src.OfObject (src.OwnField m.0 m.1)) c m.2);
     shape = m.0;
     number = m.1;
     at = m.3;
+    holds = λ v e h. n m.0 m.1 a A.this v e m.2 (subst (λ x. Within g.table x a v (Cell (Obj e))) m.3 h);
   }
 
-  by_scope : (c : CleanUp) (todo : List Todo) (w : Value) (a : Ty) → CodeScope g made c todo → Cleaned c w a → IsField w
-  by_scope (src.Destroys e) todo w a n m = by_clean (src.Destroys e) w a n.1 m
-  by_scope (src.DestroysAll j e) todo w a n m = by_clean (src.DestroysAll j e) w a n.1 m
+  by_scope : (c : CleanUp) (todo : List Todo) (w : Value) (a : Ty) → CodeScope g made c todo → Cleaned c w a → IsField w a
+  by_scope (src.Destroys e) todo w a n m = by_clean (src.Destroys e) w a n.1 n.3 m
+  by_scope (src.DestroysAll j e) todo w a n m = by_clean (src.DestroysAll j e) w a n.1 n.3 m
   by_scope c todo w a n m = absurd m.2
 
-  by_sort : (s : Sort) (todo : List Todo) (l o R : Type 0) (w : Value) (a : Ty) → LeftBy g A made s todo l o → (R → IsField w) → Marks (AtField g.table (Frame A.exec A.frame) A.this) (AtField g.table (Frame A.exec A.frame) A.this) s w a R → IsField w
+  by_sort : (s : Sort) (todo : List Todo) (l o R : Type 0) (w : Value) (a : Ty) → LeftBy g A made s todo l o → (R → IsField w a) → Marks (AtField g.table (Frame A.exec A.frame) A.this) (AtField g.table (Frame A.exec A.frame) A.this) s w a R → IsField w a
   by_sort (piece.IsClean c) todo l o R w a k next (inl m) = by_scope c todo w a k.0 m
   by_sort (piece.IsClean c) todo l o R w a k next (inr m) = next m
-  by_sort (piece.IsPart c) todo l o R w a k next (inl m) = by_clean c w a k.0.1 m
+  by_sort (piece.IsPart c) todo l o R w a k next (inl m) = by_clean c w a k.0.1 k.0.3 m
   by_sort (piece.IsPart c) todo l o R w a k next (inr m) = next m
   by_sort piece.Simple todo l o R w a k next m = next m
   by_sort (piece.IsLoop x y z u) todo l o R w a k next m = next m
@@ -85,7 +89,7 @@ module _ (g : Setting) (A : Around) (made : Reach) where
   by_sort piece.IsFinish todo l o R w a k next m = next m
   by_sort piece.IsFinishCoroutine todo l o R w a k next m = next m
 
-  pub fields_in : (todo : List Todo) (w : Value) (a : Ty) → Left g A made todo → InTodo (AtField g.table (Frame A.exec A.frame) A.this) (AtField g.table (Frame A.exec A.frame) A.this) todo w a → IsField w
+  pub fields_in : (todo : List Todo) (w : Value) (a : Ty) → Left g A made todo → InTodo (AtField g.table (Frame A.exec A.frame) A.this) (AtField g.table (Frame A.exec A.frame) A.this) todo w a → IsField w a
   fields_in [] w a k m = absurd m
   fields_in (p ∷ todo) w a k m = by_sort (sort p) todo (Left g A made todo) (Ok g A made [] todo) _ w a k (fields_in todo w a (left_tail g A made p todo k)) m
 
@@ -98,7 +102,14 @@ pub frames_within : (Z : ℕ → ℕ → Type 0) (fs : List (List Value)) (cs : 
 frames_within Z fs [] h = tt
 frames_within Z fs (a ∷ older) h = (h.0.frame, frames_within Z fs older h.1)
 
--- so fields that are cleaned up are in frames below the next one
+-- so they are below one that comes next
+pub frames_below : (f : ℕ) (cs : List Active) → length cs ≤ f → FramesWithin cs → FramesBelow f cs
+frames_below f [] le h = tt
+frames_below f (c ∷ cs) le h =
+    let k = h.0 in
+    (omega (arith, le, k), frames_below f cs (omega (arith, le)) h.1)
+
+-- and fields that are cleaned up are in frames below the next one
 module _ (g : Setting) (n : Exec) where
   pub own_below : (cs : List Active) → AllLeft g n cs → FramesWithin cs → (w : Value) (a : Ty) → OwnMarked g.table n cs w a → BelongsBelow g.few n (length cs) w
   own_below [] h k w a m = absurd m
@@ -113,9 +124,14 @@ module _ (g : Setting) (n : Exec) where
       below_more g.few n (length older) (length (c ∷ older)) (omega arith) w (own_below older h.1 k.1 w a m)
 
 -- where no one waits nothing is to be cleaned up
-pub first_seat : (t : Table) (few : Few) (n : Exec) (frame : ℕ) (this : Value) → IsSeated t few (reach_of false) n [] frame this
-first_seat t few n frame this = record {
+pub first_seat : (g : Setting) (n : Exec) (frame : ℕ) (this : Value) (o : Option ℕ) → IsSeated g.table g.source g.special g.few (reach_of false o) n [] frame None this
+first_seat g n frame this o = record {
   own = λ q. absurd (cc);
   alone = λ q. absurd (cc);
-  spare = λ k v e i st. absurd (not_standing few n t frame (piece.Slot k ∷ []) (OwnMarked t n []) (λ w a m. absurd m) _ v i st);
+  spare = λ k v e i st. absurd (none frame k v e i st);
+  after = tt;
+  beyond = λ f q. record { cell = 0; spare = λ k v e i st. absurd (none f k v e i st); past = λ h. absurd h; code = tt };
 }
+  where
+    none : (f k : ℕ) (v : Value) (e : ℕ) → LiesIn g.few (variable n f k) v → Stands g.table g.few (OwnMarked g.table n []) (Cell (Obj e)) v → ⊥
+    none f k v e i st = not_standing g.few n g.table f (piece.Slot k ∷ []) (OwnMarked g.table n []) (λ w a m. absurd m) _ v i st

@@ -30,7 +30,8 @@ use Rattle.uc_life_laws.proofs.Laying.{laid_out}
 use Rattle.uc_life_laws.specs.Belonging.{Belongs}
 use Rattle.uc_life_laws.specs.Ending.{Spot}
 use Rattle.uc_putting_laws.specs.CleanedSpots.{site_spot, Reach, IsOf, IsIn}
-use Rattle.uc_putting_laws.specs.ObjectsAtHand.{LiesUnder, IsSeated}
+use Rattle.uc_putting_laws.specs.ObjectsAtHand.{LiesUnder}
+use Rattle.uc_putting_laws.specs.Seats.{IsSeated}
 use Rattle.uc_putting_laws.specs.Putting.{Setting, Mark, Homed, rest, rests, spot_at, Holds, made_marks, Ok, CodeRoutine, PutState}
 use Rattle.uc_putting_laws.specs.PuttingLaws.{special_of, setting_of, Fair}
 use Rattle.uc_putting_laws.specs.OwnPlaces.{OwnPlacesAt, OwnPlaces, LawOwnPlaces}
@@ -41,15 +42,15 @@ use Rattle.uc_putting_laws.proofs.Routines.{law_calling}
 use Rattle.uc_putting_laws.proofs.Worlds.{Stands, PutWorld, goes, ticks, start, run_put}
 use Rattle.uc_putting_laws.proofs.PuttingRuns.{code_of}
 
-module _ (g : Setting) (s : State) (made : Reach) (this : IsSeated g.table g.few made s.env.exec s.callers s.run.frame s.run.this) where
+module _ (g : Setting) (s : State) (made : Reach) (this : IsSeated g.table g.source g.special g.few made s.env.exec s.callers s.run.frame s.run.handles s.run.this) where
   -- what lies at a spot that code names, or further, is the execution's own
   spot_own : (p : Spot) → IsOf made p → (v : Value) → LiesUnder (spot_at g.few (here s) p) v → Belongs g.few s.env.exec v
   spot_own p i v u = below_own g.few s.env.exec (suc s.run.frame) v (under_spot g.few (here s) made this.own (suc s.run.frame) (omega arith) p i v u)
 
   own_places : (ms : List Mark) → Holds g.few (here s) ms s.run.operands → (l : List Todo) → Ok g (here s) made ms l → OwnPlacesAt g.few g.source l s
   own_places ms holds (piece.BindNow ∷ todo) h =
-      let k = under_of g.few (here s) (rest ms) (below s.run.operands) (holds_below g.few (here s) ms s.run.operands holds) (λ p. IsOf made p) h.0 in
-      spot_own k.0 k.2 (top (below s.run.operands)) k.1
+      let k = under_of g.few (here s) (rest ms) (below s.run.operands) (holds_below g.few (here s) ms s.run.operands holds) (λ n p. IsOf made p) h.0 in
+      spot_own k.1 k.3 (top (below s.run.operands)) k.2.1
   own_places ms holds (piece.BindMadeNow c r ∷ todo) h =
       let n = params g.source r in
       let vs = below s.run.operands in
@@ -63,14 +64,14 @@ module _ (g : Setting) (s : State) (made : Reach) (this : IsSeated g.table g.few
 states : (g : Setting) (s : State) → PutState g s → OwnPlaces g.few g.source s
 states g s h = own_places g s h.run.made h.run.this h.run.marks h.run.holds s.run.control h.run.ok
 
-module _ (p : Program) (g : Setting) (laid : IsLaidOut (Sized p) g.table) (in_rooms : SourceIn (Sized p) g.source) (known : (n : ℕ) → CodeRoutine g (g.special n) (slice_get g.source.routines n)) where
+module _ (p : Program) (g : Setting) (laid : IsLaidOut (Sized p) g.table) (in_rooms : SourceIn (Sized p) g.source) (known : (n : ℕ) → CodeRoutine g (g.special n) (g.table.routine n).this (slice_get g.source.routines n)) where
   ridden : {s u : State} {q k : ℕ} {a : Asked} (d : Rides g.source s q u k a) → RideMeets (Fair g) g.source s q u k a d → Stands p g s → RideMeets (OwnPlaces g.few g.source) g.source s q u k a d
   ridden rides.slices f n = tt
   ridden (rides.goes_on {s} {t} e r) f n = (states g s n.put, ridden r f.1 (goes p g laid in_rooms known s t e n f.0))
   ridden (rides.ticks {s} {t} e r) f n = (states g s n.put, ridden r f.1 (ticks p g laid in_rooms known s t e n f.0))
   ridden (rides.asks {s} {t} e) f n = states g s n.put
 
-module _ (p : Program) (accepted : breaks_of p ≡ []) (few : Few) (laid : IsLaidOut (Sized p) (table_of p)) (main : special_of p (source_of p).main ≡ false) (known : (n : ℕ) → CodeRoutine (setting_of p few) (special_of p n) (slice_get (source_of p).routines n)) (input : List ℕ) (opts : Options) (range : InRange opts) where
+module _ (p : Program) (accepted : breaks_of p ≡ []) (few : Few) (laid : IsLaidOut (Sized p) (table_of p)) (main : special_of p (source_of p).main ≡ false) (known : (n : ℕ) → CodeRoutine (setting_of p few) (special_of p n) ((table_of p).routine n).this (slice_get (source_of p).routines n)) (input : List ℕ) (opts : Options) (range : InRange opts) where
   may : {j : Journal} {w : World} {a : List Entry} {v : World} → RunRests (source_of p) input opts j w → is_over j ≡ false → PutWorld (setting_of p few) j w → KeepsFrames p j w → (m : May (source_of p) opts input j w a v) → MayMeet (Fair (setting_of p few)) (source_of p) opts input j w a v m → MayMeet (OwnPlaces few (source_of p)) (source_of p) opts input j w a v m
   may r o x i (gives q t s le) fair = tt
   may r o x i (no_room q t s le) fair = tt

@@ -8,7 +8,8 @@ use Rattle.uc_typing.specs.Typing.{Ty, Cell, Obj, CleansAt}
 use Rattle.uc_life_laws.specs.Marks.{OwnFields, Sole, OfClean, PutsAt}
 use Rattle.uc_life_laws.specs.Ending.{OfField}
 use Rattle.uc_putting_laws.specs.CleanedSpots.{spot_of, Reach, apart, AllBelow, IsOutermost, Ascends}
-use Rattle.uc_putting_laws.specs.ObjectsAtHand.{LiesUnder, there, IsSeated}
+use Rattle.uc_putting_laws.specs.ObjectsAtHand.{LiesUnder, there}
+use Rattle.uc_putting_laws.specs.Seats.{IsSeated}
 use Rattle.uc_putting_laws.specs.Calling.{CleansBy}
 use Rattle.uc_putting_laws.specs.Putting.{Setting, Mark, CodeRest, Ok}
 use Rattle.uc_putting_laws.specs.PuttingLaws.{LawPuts}
@@ -18,7 +19,7 @@ use Rattle.uc_putting_laws.proofs.Fields.{field_lone}
 use Rattle.uc_putting_laws.proofs.Marks.{apart_wide, cleans_more}
 use Rattle.uc_putting_laws.proofs.Steps.{here}
 
-module _ (g : Setting) (s : State) (made : Reach) (this : IsSeated g.table g.few made s.env.exec s.callers s.run.frame s.run.this) where
+module _ (g : Setting) (s : State) (made : Reach) (this : IsSeated g.table g.source g.special g.few made s.env.exec s.callers s.run.frame s.run.handles s.run.this) where
   -- a clean-up for a field of the object at hand
   named : (c : CleanUp) → CleansBy g.table g.source g.special made c → (h : Shape) (i : ℕ) (a : Ty) → CleansAt g.table a (src.OfObject (src.OwnField h i)) c → made.builds ≡ true
   named c n h i a d = spot_named g.table g.source g.special made (OfField h i) c n (cleans_spot g.table a (src.OfObject (src.OwnField h i)) c d)

@@ -24,7 +24,7 @@ use Rattle.uc_putting_laws.proofs.Worlds.{run_put, leads_put}
 known_of : (p : Program) → IsFormed p → breaks_of p ≡ [] → CountedSource (source_of p)
 known_of p formed accepted = counted_source (sites_of p) (source_of p) (table_of p) (law_sound p formed accepted) (source_named p)
 
-pub code_of : (p : Program) → IsFormed p → breaks_of p ≡ [] → (few : Few) → (n : ℕ) → CodeRoutine (setting_of p few) (special_of p n) (slice_get (source_of p).routines n)
+pub code_of : (p : Program) → IsFormed p → breaks_of p ≡ [] → (few : Few) → (n : ℕ) → CodeRoutine (setting_of p few) (special_of p n) ((table_of p).routine n).this (slice_get (source_of p).routines n)
 code_of p formed accepted few = code (setting_of p few) (known_of p formed accepted) (law_calling p formed accepted)
 
 pub law_runs : LawRuns

@@ -18,12 +18,12 @@ use Rattle.uc_place_laws.specs.OlderResting.{AllWait, NamedEnv}
 use Rattle.uc_place_laws.proofs.AsideKeeping as kept
 use Rattle.uc_place_laws.proofs.AsideKeeping.{either}
 use Rattle.uc_life_laws.specs.Ending.{Spot, OfVariable, OfField}
-use Rattle.uc_putting_laws.specs.CleanedSpots.{Site, NoSite, spot_of, Reach, apart, IsOutermost}
+use Rattle.uc_putting_laws.specs.CleanedSpots.{Site, NoSite, AnySite, spot_of, Reach, apart, IsOutermost}
 use Rattle.uc_putting_laws.specs.Calling.{CallsAt, EndsAt, EndsNumber, Evaluates, SweepsBy, CleansBy, Begins}
-use Rattle.uc_putting_laws.specs.Putting.{Setting, Around, around, Mark, Any, rest, rests, anys, OpensRest, LoneAt, Counts, CodeMaybe, CodeItems, CodeStmt, CodeStmts, CodeHandlers, CodeClauses, CodeLoop, CodeSweep, CodeFill, CodeScope, CodePart, made_marks, CallFits, LeftBy, Ok, Left, Runs, Waits}
-use Rattle.uc_putting_laws.proofs.CleanedSpots.{apart_outermost}
+use Rattle.uc_putting_laws.specs.Putting.{Setting, Around, around, Mark, Any, rest, rests, anys, OpensRest, SeatAt, Counts, CodeMaybe, CodeItems, CodeStmt, CodeStmts, CodeHandlers, CodeClauses, CodeLoop, CodeSweep, CodeFill, CodeScope, CodePart, made_marks, CallFits, LeftBy, Ok, Left, Runs, Waits}
+use Rattle.uc_putting_laws.proofs.CleanedSpots.{apart_outermost, apart_class}
 use Rattle.uc_putting_laws.proofs.Marks as marks
-use Rattle.uc_putting_laws.proofs.Marks.{rests_anys, apart_wide, cleans_more, stmt_more, AllLeft}
+use Rattle.uc_putting_laws.proofs.Marks.{rests_anys, apart_wide, number_more, cleans_more, stmt_more, AllLeft}
 
 module _ (g : Setting) where
   abbrev pub E : Env → Type 0
@@ -184,7 +184,7 @@ module _ (g : Setting) where
     scope_past : (c : CleanUp) (w : Way) (todo : List Todo) → CodeScope g made c todo → CodeScope g made c (piece.Exit w ∷ todo)
     scope_past src.Ends w todo n = tt
     scope_past (src.Frees r) w todo n = n
-    scope_past c w todo n = (n.0, n.1, outermost_past (spot_of c) w todo n.2)
+    scope_past c w todo n = (n.0, n.1, outermost_past (spot_of c) w todo n.2, n.3)
 
     pub left_behind : (w : Way) (k : Sort) (todo : List Todo) → LeftBy g A made k todo (LeftTo A made todo) (Fits [] todo) → Fits [] (quiet.left_behind w k todo)
     left_behind w piece.Simple todo h = h
@@ -198,9 +198,12 @@ module _ (g : Setting) where
     left_behind w piece.IsFinish todo h = (tt, h)
     left_behind w piece.IsFinishCoroutine todo h = (tt, h)
 
-    -- nothing stands around a site, with this to do
+    -- something may be built or destroyed at a site, with this to do
     abbrev pub Lones : List Todo → Site → Type 0
-    Lones todo x = LoneAt g.table g.few A todo x
+    Lones todo x = SeatAt g A made todo x
+
+    any_number : (P : Site → Type 0) (e : Expr) → EndsNumber g.table g.source g.special made P e → EndsNumber g.table g.source g.special made AnySite e
+    any_number P e h = number_more g.table g.source g.special made made (λ p i. i) P AnySite (λ x i y. tt) e h
 
     -- an expression that is evaluated by itself
     pub single : (e : Expr) (todo : List Todo) → Counts g e → Evaluates g.table g.source g.special made (Lones todo) e → Fits (Any ∷ []) todo → Fits [] (piece.Eval e ∷ todo)
@@ -217,13 +220,13 @@ module _ (g : Setting) where
     filled true n e d todo (k, inr (inr y)) q h = (k, inr (inr (inr (inr (inr (inr (inr (inl (inr y, (tt, (tt, (((k, inr (inr y)), q), h))))))))))))
 
     pub sweeps : (e : Expr) (todo : List Todo) → CodeSweep g made (Lones todo) e → Fits [] todo → Fits [] (piece.Eval e ∷ (piece.DropNow ∷ (piece.Sweep e ∷ todo)))
-    sweeps e todo (k, inl y) h = (k, inr (inr (inr (inr (inr (inr (inr (inr (inr (y, (tt, ((k, inl y), h))))))))))))
+    sweeps e todo (k, inl y) h = (k, inr (inr (inr (inr (inr (inr (inr (inr (inr (any_number (Lones todo) e y, (tt, ((k, inl y), h))))))))))))
     sweeps e todo (k, inr (inl y)) h = (k, inr (inr (inr (inl (y, (tt, ((k, inr (inl y)), h)))))))
     sweeps e todo (k, inr (inr y)) h = (k, inr (inr (inr (inr (inr (inr (inr (inr (inl (inr y, (tt, ((k, inr (inr y)), h))))))))))))
 
     -- what a clean-up destroys, where nothing stands around what it ends at a spot
-    destroys : (e : Expr) (todo : List Todo) → Counts g e → EndsNumber g.table g.source g.special made e ⊎ (CallsAt g.table g.source g.special made (Lones todo) e ⊎ EndsAt g.table g.source g.special made (Lones todo) e) → Fits [] todo → Fits [] (piece.Eval e ∷ (piece.DropNow ∷ todo))
-    destroys e todo n (inl k) h = (n, inr (inr (inr (inr (inr (inr (inr (inr (inr (k, (tt, h)))))))))))
+    destroys : (e : Expr) (todo : List Todo) → Counts g e → EndsNumber g.table g.source g.special made (Lones todo) e ⊎ (CallsAt g.table g.source g.special made (Lones todo) e ⊎ EndsAt g.table g.source g.special made (Lones todo) e) → Fits [] todo → Fits [] (piece.Eval e ∷ (piece.DropNow ∷ todo))
+    destroys e todo n (inl k) h = (n, inr (inr (inr (inr (inr (inr (inr (inr (inr (any_number (Lones todo) e k, (tt, h)))))))))))
     destroys e todo n (inr (inl k)) h = (n, inr (inr (inr (inl (k, (tt, h))))))
     destroys e todo n (inr (inr k)) h = (n, inr (inr (inr (inr (inr (inr (inr (inr (inl (inl k, (tt, h)))))))))))
 
@@ -248,7 +251,7 @@ module _ (g : Setting) where
 
     -- where nothing stands around what ends at a spot
     abbrev pub LoneFor : CleanUp → List Todo → Type 0
-    LoneFor (src.Destroys e) todo = EndsNumber g.table g.source g.special made e ⊎ (CallsAt g.table g.source g.special made (Lones todo) e ⊎ EndsAt g.table g.source g.special made (Lones todo) e)
+    LoneFor (src.Destroys e) todo = EndsNumber g.table g.source g.special made (Lones todo) e ⊎ (CallsAt g.table g.source g.special made (Lones todo) e ⊎ EndsAt g.table g.source g.special made (Lones todo) e)
     LoneFor (src.DestroysAll n e) todo = SweepsBy g.table g.source g.special made (Lones todo) e
     LoneFor c todo = Unit {0}
 
@@ -301,7 +304,7 @@ module _ (g : Setting) where
     pub scope_more : (c : CleanUp) (todo : List Todo) → CountedClean g.source c → CleansBy g.table g.source g.special (apart made) c → CodeScope g made c todo
     scope_more src.Ends todo n k = tt
     scope_more (src.Frees r) todo n k = absurd k
-    scope_more c todo n k = (n, cleans_more g.table g.source g.special (apart made) made (apart_wide made) c k, apart_outermost g.table g.source g.special made c todo k)
+    scope_more c todo n k = (n, cleans_more g.table g.source g.special (apart made) made (apart_wide made) c k, apart_outermost g.table g.source g.special made c todo k, apart_class g.table g.source g.special made made.class c k)
 
     -- a statement of another one
     pub inner : (P : Site → Type 0) (a : Stmt) → CodeStmt g NoSite (apart made) a → CodeStmt g P made a
@@ -309,9 +312,9 @@ module _ (g : Setting) where
 
     pub branch : (k : ℕ) (cs : Clauses) (todo : List Todo) → CodeClauses g (apart made) cs → Fits [] todo → Fits [] (monitors.branch_todo k cs todo)
     branch k src.NoClauses todo n h = h
-    branch k (src.Otherwise b) todo n h = either (Fits []) (nat_eq k 0) (piece.Do b ∷ todo) todo (inner (OpensRest todo) b n, h) h
+    branch k (src.Otherwise b) todo n h = either (Fits []) (nat_eq k 0) (piece.Do b ∷ todo) todo (inner (OpensRest g.table todo) b n, h) h
     branch zero (src.MoreClauses guard b cs) todo n h = branch zero cs todo (n.0.2, n.1.2) h
-    branch (suc zero) (src.MoreClauses guard b cs) todo n h = (inner (OpensRest todo) b (n.0.1, n.1.1), h)
+    branch (suc zero) (src.MoreClauses guard b cs) todo n h = (inner (OpensRest g.table todo) b (n.0.1, n.1.1), h)
     branch (suc (suc k)) (src.MoreClauses guard b cs) todo n h = branch (suc k) cs todo (n.0.2, n.1.2) h
 
     pub item : (i : Item) (is : List Item) (todo : List Todo) → CodeItems g (i ∷ is) → Fits [] todo → Fits [] (quiet.item_todo i todo)

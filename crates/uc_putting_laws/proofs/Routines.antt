@@ -20,26 +20,29 @@ use Rattle.uc_resolve.specs.Resolve.{Scope, source_of}
 use Rattle.uc_rules.specs.Sorts.{has_main}
 use Rattle.uc_rules.specs.ProgramVisits.{program_visits}
 use Rattle.uc_sound.specs.Unbroken.{Unbroken}
+use Rattle.uc_sound.proofs.SoundLemmas.{law_sound}
 use Rattle.uc_sound.proofs.Ties.{false_true}
 use Rattle.uc_sound.specs.SoundFormed.{IsFormed}
 use Rattle.uc_sound.specs.Tables.{table_of}
 use Rattle.uc_state_laws.specs.Makers.{roles}
 use Rattle.uc_sound.proofs.Lookups.{MakesPlain, making_plain}
 use Rattle.uc_life_laws.specs.Ending.{OfField}
-use Rattle.uc_putting_laws.specs.CleanedSpots.{Site, spot_of, OpensFor, reach_of, AscendsBy, Ascends}
+use Rattle.uc_putting_laws.specs.CleanedSpots.{Site, AnyPlace, spot_of, OpensFor, reach_of, AscendsBy, Ascends}
 use Rattle.uc_putting_laws.specs.Calling.{Evaluates, CallingStmts, CallingBody, CallingRoutine}
 use Rattle.uc_putting_laws.specs.PuttingLaws.{is_special, special_of, LawCalling}
 use Rattle.uc_putting_laws.proofs.Roles.{main_plain, program_main_plain}
 use Rattle.uc_putting_laws.proofs.Expressions as expressions
 use Rattle.uc_putting_laws.proofs.Expressions.{MeantPlain, AllMeant}
+use Rattle.uc_putting_laws.proofs.Classes.{fields_in_class}
 use Rattle.uc_putting_laws.proofs.Statements as statements
 
-module _ (p : Program) (formed : IsFormed p) (u : Unbroken (program_visits p)) where
+-- routines at an object of a class
+module _ (p : Program) (formed : IsFormed p) (u : Unbroken (program_visits p)) (class : Option ℕ) where
   abbrev Fine : Stmts → Type 0
-  Fine ss = CallingStmts (table_of p) (source_of p) (special_of p) (reach_of true) ss
+  Fine ss = CallingStmts (table_of p) (source_of p) (special_of p) (reach_of true class) ss
 
   abbrev Plain : Stmts → Type 0
-  Plain ss = CallingStmts (table_of p) (source_of p) (special_of p) (reach_of false) ss
+  Plain ss = CallingStmts (table_of p) (source_of p) (special_of p) (reach_of false class) ss
 
   -- fields
 
@@ -47,23 +50,23 @@ module _ (p : Program) (formed : IsFormed p) (u : Unbroken (program_visits p)) w
   init_args s None = tt
   init_args s (Some x) = statements.args p formed u s x.args
 
-  field_start : (P : Site → Type 0) (b : Bool) (s : Shape) (k : Shape) (i : ℕ) (m : Meant) → MeantPlain p m → Evaluates (table_of p) (source_of p) (special_of p) (reach_of true) P (meaning.field_start p b s (src.OfObject (src.OwnField k i)) m)
+  field_start : (P : Site → Type 0) (b : Bool) (s : Shape) (k : Shape) (i : ℕ) (m : Meant) → MeantPlain p m → Evaluates (table_of p) (source_of p) (special_of p) (reach_of true class) P (meaning.field_start p b s (src.OfObject (src.OwnField k i)) m)
   field_start P true s k i m h = inr (inl ((refl, tt), inl h.expr))
   field_start P false s k i m h = inl ((tt, tt), expressions.converted p s (tree.value_of m) (expressions.value_of p m h))
 
   field_started : (f : ClassField) (k : Shape) (i : ℕ) (args : List Meant) (rest : Stmts) → AllMeant p args → Fine rest → Fine (meaning.field_started p f (src.OfObject (src.OwnField k i)) args rest)
   field_started f k i [] rest h l = l
-  field_started f k i (m ∷ ms) rest h l = (field_start (OpensFor rest) f.declarator.by_ref (shape_of f.base) k i m h.0, l)
+  field_started f k i (m ∷ ms) rest h l = (field_start (OpensFor (table_of p) rest) f.declarator.by_ref (shape_of f.base) k i m h.0, l)
 
   field_built : (m : Option Making) (f : ClassField) (len : Option ℕ) (k : Shape) (i : ℕ) (args : List Meant) (rest : Stmts) → MakesPlain p m → AllMeant p args → Fine rest → Fine (meaning.field_built p m f len (src.OfObject (src.OwnField k i)) args rest)
   field_built None f len k i args rest c h l = field_started f k i args rest h l
   field_built (Some m) f len k i args rest c h l =
-      (statements.build p formed u (reach_of true) 0 m len (OfField k i) args rest c refl h, (statements.clean_up p formed u (reach_of true) m len (OfField k i) c refl, l))
+      (statements.build p formed u (reach_of true class) 0 m len (OfField k i) args rest c refl h, (statements.clean_up p formed u (reach_of true class) m len (OfField k i) c refl, l))
 
   -- fields are destroyed in a destructor
   field_left : (m : Option Making) (len : Option ℕ) (k : Shape) (i : ℕ) (rest : Stmts) → MakesPlain p m → Fine rest → Fine (meaning.field_left p m len (src.OfObject (src.OwnField k i)) rest)
   field_left None len k i rest c l = l
-  field_left (Some m) len k i rest c l = (statements.clean_up p formed u (reach_of true) m len (OfField k i) c refl, l)
+  field_left (Some m) len k i rest c l = (statements.clean_up p formed u (reach_of true class) m len (OfField k i) c refl, l)
 
   field_class : (f : ClassField) → MakesPlain p (meaning.field_making p f)
   field_class f = by f.declarator.by_ref
@@ -167,7 +170,7 @@ module _ (p : Program) (formed : IsFormed p) (u : Unbroken (program_visits p)) w
 
   -- a whole body, which may hold the object that it builds or destroys
   abbrev Body : Stmts → Type 0
-  Body ss = CallingBody (table_of p) (source_of p) (special_of p) true ss
+  Body ss = CallingBody (table_of p) (source_of p) (special_of p) true class ss
 
   freed : (c : whole.Class) (k : Kind) (i : ℕ) (rest : Stmts) → c.kind ≡ k → class_at p i ≡ Some c → Fine rest → Ascends 0 rest → Body (meaning.freed p k i rest)
   freed c kind.Monitor i rest e at h o = inr (tt, h, o)
@@ -228,24 +231,24 @@ module _ (p : Program) (formed : IsFormed p) (u : Unbroken (program_visits p)) w
   class_is None = tt
   class_is (Some i) = at_is i (class_at p i) refl
 
-  body_by : (x : Role) (r : whole.Routine) (s : Scope) → CallingBody (table_of p) (source_of p) (special_of p) (is_special (Some x)) (meaning.body_by p x r s)
+  body_by : (x : Role) (r : whole.Routine) (s : Scope) → CallingBody (table_of p) (source_of p) (special_of p) (is_special (Some x)) class (meaning.body_by p x r s)
   body_by role.Plain r s = plain_body (meaning.has_number_in p (meaning.class_by p s.class) r.sig) r _ (statements.all p formed u r.body s)
   body_by role.Constructor r s =
       construction (meaning.class_by p s.class) (meaning.place_or_zero p s.class) r.inits s _ (class_is s.class) (statements.all p formed u r.body s, construction_ends (meaning.class_by p s.class) (meaning.place_or_zero p s.class)) (ends_order (meaning.class_by p s.class) (meaning.place_or_zero p s.class))
   body_by role.Destructor r s = destruction (meaning.class_by p s.class) (meaning.place_or_zero p s.class) _ (statements.all p formed u r.body s, tt) (λ n. tt)
 
-  unwritten_body : (x : Role) (i : ℕ) → CallingBody (table_of p) (source_of p) (special_of p) (is_special (Some x)) (meaning.unwritten_body p x i)
+  unwritten_body : (x : Role) (i : ℕ) → CallingBody (table_of p) (source_of p) (special_of p) (is_special (Some x)) class (meaning.unwritten_body p x i)
   unwritten_body role.Plain i = tt
   unwritten_body role.Constructor i = construction (class_at p i) i [] (meaning.nowhere p) _ (at_is i (class_at p i) refl) (construction_ends (class_at p i) i) (ends_order (class_at p i) i)
   unwritten_body role.Destructor i = destruction (class_at p i) i src.Nil tt (λ n. tt)
 
-  -- all routines of a source, each by its role
-
+-- all routines of a source, each by its role
+module _ (p : Program) (formed : IsFormed p) (u : Unbroken (program_visits p)) where
   abbrev AllCalling : List Role → List Routine → Type 0
   AllCalling [] [] = Unit {0}
   AllCalling [] (r ∷ rs) = ⊥
   AllCalling (x ∷ xs) [] = ⊥
-  AllCalling (x ∷ xs) (r ∷ rs) = CallingBody (table_of p) (source_of p) (special_of p) (is_special (Some x)) r.body × AllCalling xs rs
+  AllCalling (x ∷ xs) (r ∷ rs) = ((o : Option ℕ) → CallingBody (table_of p) (source_of p) (special_of p) (is_special (Some x)) o r.body) × AllCalling xs rs
 
   both_lists : (xs ys : List Role) (rs us : List Routine) → AllCalling xs rs → AllCalling ys us → AllCalling (xs ++ ys) (rs ++ us)
   both_lists [] ys [] us h k = k
@@ -253,25 +256,26 @@ module _ (p : Program) (formed : IsFormed p) (u : Unbroken (program_visits p)) w
   both_lists (x ∷ xs) ys [] us h k = absurd h
   both_lists (x ∷ xs) ys (r ∷ rs) us h k = (h.0, both_lists xs ys rs us h.1 k)
 
-  by_place : (xs : List Role) (rs : List Routine) → AllCalling xs rs → (n : ℕ) → CallingRoutine (table_of p) (source_of p) (special_of p) (is_special (slice_get xs n)) (slice_get rs n)
-  by_place [] [] h n = tt
-  by_place [] (r ∷ rs) h n = absurd h
-  by_place (x ∷ xs) [] h n = absurd h
-  by_place (x ∷ xs) (r ∷ rs) h zero = h.0
-  by_place (x ∷ xs) (r ∷ rs) h (suc n) = by_place xs rs h.1 n
+  by_place : (xs : List Role) (rs : List Routine) → AllCalling xs rs → (n : ℕ) (o : Option ℕ) → CallingRoutine (table_of p) (source_of p) (special_of p) (is_special (slice_get xs n)) o (slice_get rs n)
+  by_place [] [] h n o = tt
+  by_place [] (r ∷ rs) h n o = absurd h
+  by_place (x ∷ xs) [] h n o = absurd h
+  by_place (x ∷ xs) (r ∷ rs) h zero o = h.0 o
+  by_place (x ∷ xs) (r ∷ rs) h (suc n) o = by_place xs rs h.1 n o
 
   written : (ds : List Defined) (number texts sites : ℕ) → AllCalling (map (λ d. d.routine.sig.role) ds) (meaning.routines_meant p ds number texts sites)
   written [] number texts sites = tt
   written (d ∷ ds) number texts sites =
-      (body_by d.routine.sig.role d.routine (meaning.routine_scope p d.routine (meaning.place_by p d) number texts sites), written ds (number + 1) (texts + length (gathered_all own_texts d.routine.body)) (sites + length (gathered_all (own_sites d.class d.number) d.routine.body)))
+      (λ o. body_by p formed u o d.routine.sig.role d.routine (meaning.routine_scope p d.routine (meaning.place_by p d) number texts sites), written ds (number + 1) (texts + length (gathered_all own_texts d.routine.body)) (sites + length (gathered_all (own_sites d.class d.number) d.routine.body)))
 
   unwritten : (us : List Unwritten) → AllCalling (map (λ u. u.role) us) (meaning.all_unwritten p us)
   unwritten [] = tt
-  unwritten (x ∷ us) = (unwritten_body x.role x.class, unwritten us)
+  unwritten (x ∷ us) = (λ o. unwritten_body p formed u o x.role x.class, unwritten us)
 
 pub law_calling : LawCalling
 law_calling p formed accepted =
     record {
-      routines = λ n. by_place p formed accepted (roles p) (source_of p).routines (both_lists p formed accepted (map (λ d. d.routine.sig.role) (routines_of p)) (map (λ u. u.role) (unwritten_of p)) (meaning.routines_meant p (routines_of p) 0 0 0) (meaning.all_unwritten p (unwritten_of p)) (written p formed accepted (routines_of p) 0 0 0) (unwritten p formed accepted (unwritten_of p))) n;
+      routines = λ n. by_place p formed accepted (roles p) (source_of p).routines (both_lists p formed accepted (map (λ d. d.routine.sig.role) (routines_of p)) (map (λ u. u.role) (unwritten_of p)) (meaning.routines_meant p (routines_of p) 0 0 0) (meaning.all_unwritten p (unwritten_of p)) (written p formed accepted (routines_of p) 0 0 0) (unwritten p formed accepted (unwritten_of p))) n ((table_of p).routine n).this;
+      fields = fields_in_class (table_of p) (source_of p) (special_of p) (law_sound p formed accepted);
       main = program_main_plain p formed accepted;
     }

@@ -1,5 +1,5 @@
 -- What statements of a program stand for calls constructors and destructors where they may be called.
-use Rattle.std.proofs.Common.{◌≡◌, ℕ, ◌+◌, ◌≤◌, inl, inr, false, List, [], ◌∷◌, Option, Some, None, refl, sym, ap, ◌∙◌, arith}
+use Rattle.std.proofs.Common.{◌≡◌, ℕ, ◌+◌, ◌≤◌, inl, inr, false, List, [], ◌∷◌, Option, Some, None, refl, sym, ap, ◌∙◌, subst, arith}
 use Rattle.std.specs.Prelude.{slice_get}
 use Rattle.uc_tree.specs.declared.kinds.Base.{Base}
 use Rattle.uc_tree.specs.declared.kinds.Role.{Role}
@@ -17,6 +17,7 @@ use Rattle.uc_resolve.specs.Standings.{Meant}
 use Rattle.uc_resolve.specs.Resolve as meaning
 use Rattle.uc_resolve.specs.Resolve.{Scope, source_of}
 use Rattle.uc_rules.specs.ProgramVisits.{program_visits}
+use Rattle.uc_typing.specs.Typing.{Cell, Obj, DestroysAt}
 use Rattle.uc_sound.specs.Unbroken.{Unbroken}
 use Rattle.uc_sound.specs.SoundFormed.{IsFormed}
 use Rattle.uc_sound.specs.Tables.{table_of}
@@ -24,9 +25,11 @@ use Rattle.uc_sound.proofs.MemberLemmas.{tells_maker}
 use Rattle.uc_depth_laws.specs.Entering.{lets_go, holds_object}
 use Rattle.uc_sound.proofs.Lookups.{IsPlainClass, IsObjectClass, MakesPlain, making_plain, event_free, written_free, unwritten_free}
 use Rattle.uc_life_laws.specs.Ending.{Spot, OfVariable, OfField, naming}
-use Rattle.uc_putting_laws.specs.CleanedSpots.{Site, One, Each, Under, site_spot, NoSite, AnySite, place_spot, spot_in, spot_of, IsSpotOf, OpensFor, Reach, reach_of, IsOf}
+use Rattle.uc_putting_laws.specs.CleanedSpots.{Site, One, Each, Under, NoSite, AnyPlace, place_spot, spot_in, spot_of, IsOver, OpensFor, IsHollow, Reach, reach_of, IsOf}
 use Rattle.uc_putting_laws.specs.Calling.{of_object, opens_object, opens_at, EndsWhole, PlainExpr, PlainMaybe, PlainItems, PlainTargets, PlainDeclared, PlaceAt, CallsAt, MakesAt, MakesEach, EndsAt, EndsEach, Evaluates, FillsBy, SweepsBy, CleansBy, RaisesBy, CallingStmt, CallingStmts, CallingHandlers, CallingClauses}
 use Rattle.uc_putting_laws.specs.PuttingLaws.{special_of}
+use Rattle.uc_putting_laws.proofs.CleanedSpots.{named_spot}
+use Rattle.uc_putting_laws.proofs.Classes.{event_hollow}
 use Rattle.uc_putting_laws.proofs.Marks.{stmt_more}
 use Rattle.uc_putting_laws.proofs.Expressions as expressions
 use Rattle.uc_putting_laws.proofs.Expressions.{MeantPlain, AllMeant}
@@ -84,10 +87,6 @@ module _ (p : Program) (formed : IsFormed p) (u : Unbroken (program_visits p)) w
 
   -- a clean-up is for the spot of what it destroys
 
-  named_spot : (q : Spot) → place_spot (naming q) ≡ Some q
-  named_spot (OfVariable k) = refl
-  named_spot (OfField s i) = refl
-
   called_spot : (i : ℕ) (e : Expr) (r : Option ℕ) → spot_in (meaning.called_by p i role.Destructor e [] r) ≡ place_spot e
   called_spot i e None = refl
   called_spot i e (Some r) = refl
@@ -106,19 +105,78 @@ module _ (p : Program) (formed : IsFormed p) (u : Unbroken (program_visits p)) w
   spot_cleaned m None q = destroyed_spot m (naming q) ∙ named_spot q
   spot_cleaned m (Some n) q = destroyed_spot m (meaning.counted_element p m n (naming q)) ∙ named_spot q
 
+  -- at which site something is built
+  abbrev Gets : (Site → Type 0) → Making → Option ℕ → Spot → Type 0
+  Gets P (APlain i) None q = P (Under (Some i) 1 q)
+  Gets P (APlain i) (Some n) q = P (Under (Some i) n q)
+  Gets P (AMutex i) None q = P (One q)
+  Gets P (AMutex i) (Some n) q = P (Each n q)
+  Gets P m None q = P (Under None 1 q)
+  Gets P m (Some n) q = P (Under None n q)
+
+  -- a clean-up is of what is there
+
+  plain_destroyed : (i : ℕ) (c : IsPlainClass p i) (place : Expr) (r : Option ℕ) → written_at p i role.Destructor ≡ r → DestroysAt (table_of p) (Obj i) place (meaning.called_by p i role.Destructor place [] r)
+  plain_destroyed i c place None e =
+      let k = tells_maker p formed u i c.class role.Destructor c.at c.object refl in
+      (refl, k.unwritten_this e, k.unwritten_whole e)
+  plain_destroyed i c place (Some r) e =
+      let k = tells_maker p formed u i c.class role.Destructor c.at c.object refl in
+      (refl, (k.written r e).this, k.written_whole r e)
+
+  mutex_destroyed : (i : ℕ) (c : IsObjectClass p i) (place : Expr) (r : Option ℕ) → written_at p i role.Destructor ≡ r → DestroysAt (table_of p) (Cell (Obj i)) place (meaning.ended_by p i (src.Load place) r)
+  mutex_destroyed i c place None e =
+      let k = tells_maker p formed u i c.class role.Destructor c.at c.object refl in
+      (refl, k.unwritten_this e, k.unwritten_whole e)
+  mutex_destroyed i c place (Some r) e =
+      let k = tells_maker p formed u i c.class role.Destructor c.at c.object refl in
+      (refl, (k.written r e).this, k.written_whole r e)
+
+  over_made : (m : Making) (len : Option ℕ) (q : Spot) → MakesPlain p (Some m) → Gets (IsOver (table_of p) (meaning.clean_up p m len (naming q))) m len q
+  over_made (APlain i) None q c = inl (plain_destroyed i c (naming q) (written_at p i role.Destructor) refl)
+  over_made (APlain i) (Some n) q c = inr (refl, plain_destroyed i c (meaning.counted_element p (APlain i) n (naming q)) (written_at p i role.Destructor) refl)
+  over_made (AMutex i) None q c = (i, mutex_destroyed i c (naming q) (written_at p i role.Destructor) refl)
+  over_made (AMutex i) (Some n) q c = (i, (refl, mutex_destroyed i c (meaning.counted_element p (AMutex i) n (naming q)) (written_at p i role.Destructor) refl))
+  over_made ACluster None q c = spot_cleaned ACluster None q
+  over_made ACluster (Some n) q c = spot_cleaned ACluster (Some n) q
+  over_made AProcessor None q c = spot_cleaned AProcessor None q
+  over_made AProcessor (Some n) q c = spot_cleaned AProcessor (Some n) q
+
   -- behind what builds something at a spot opens the scope of that
-  opens_behind : (m : Making) (len : Option ℕ) (q : Spot) (rest : Stmts) (x : Site) → site_spot x ≡ q → OpensFor (behind q (meaning.clean_up p m len (naming q)) rest) x
-  opens_behind m len (OfVariable k) rest x e = spot_cleaned m len (OfVariable k) ∙ ap Some (sym e)
-  opens_behind m len (OfField s i) rest x e = spot_cleaned m len (OfField s i) ∙ ap Some (sym e)
+  gets_opens : (m : Making) (len : Option ℕ) (q s : Spot) (d : CleanUp) (rest : Stmts) → Gets (IsOver (table_of p) d) m len q → Gets (OpensFor (table_of p) (behind s d rest)) m len q
+  gets_opens (APlain i) None q (OfVariable k) d rest h = h
+  gets_opens (APlain i) (Some n) q (OfVariable k) d rest h = h
+  gets_opens (AMutex i) None q (OfVariable k) d rest h = h
+  gets_opens (AMutex i) (Some n) q (OfVariable k) d rest h = h
+  gets_opens ACluster None q (OfVariable k) d rest h = h
+  gets_opens ACluster (Some n) q (OfVariable k) d rest h = h
+  gets_opens AProcessor None q (OfVariable k) d rest h = h
+  gets_opens AProcessor (Some n) q (OfVariable k) d rest h = h
+  gets_opens (APlain i) None q (OfField s j) d rest h = h
+  gets_opens (APlain i) (Some n) q (OfField s j) d rest h = h
+  gets_opens (AMutex i) None q (OfField s j) d rest h = h
+  gets_opens (AMutex i) (Some n) q (OfField s j) d rest h = h
+  gets_opens ACluster None q (OfField s j) d rest h = h
+  gets_opens ACluster (Some n) q (OfField s j) d rest h = h
+  gets_opens AProcessor None q (OfField s j) d rest h = h
+  gets_opens AProcessor (Some n) q (OfField s j) d rest h = h
+
+  opens_behind : (m : Making) (len : Option ℕ) (q : Spot) (rest : Stmts) → MakesPlain p (Some m) → Gets (OpensFor (table_of p) (behind q (meaning.clean_up p m len (naming q)) rest)) m len q
+  opens_behind m len q rest c = gets_opens m len q q (meaning.clean_up p m len (naming q)) rest (over_made m len q c)
 
   module _ (made : Reach) where
-    place_at : (P : Site → Type 0) (q : Spot) → IsOf made q → P (Under q) → PlaceAt (table_of p) (source_of p) (special_of p) made P (naming q)
+    place_at : (P : ℕ → Spot → Type 0) (q : Spot) → IsOf made q → P 1 q → PlaceAt (table_of p) (source_of p) (special_of p) made P (naming q)
     place_at P (OfVariable k) h o = (h, o)
     place_at P (OfField s i) h o = (h, o)
 
-    called_by : (P : Site → Type 0) (i : ℕ) (wanted : Role) (place : Expr) (args : List Meant) (r : Option ℕ) → IsPlainClass p i → is_plain wanted ≡ false → written_at p i wanted ≡ r → PlaceAt (table_of p) (source_of p) (special_of p) made P place → AllMeant p args → CallsAt (table_of p) (source_of p) (special_of p) made P (meaning.called_by p i wanted place args r)
-    called_by P i wanted place args None c w e h k = (shut_at (slice_get (source_of p).routines (unwritten_number p i wanted)) (unwritten_free p formed u i wanted c w e), h)
-    called_by P i wanted place args (Some r) c w e h k = (shut_at (slice_get (source_of p).routines r) (written_free p formed u i r wanted c w e), h, expressions.args_by p (tree.params_of p r) args k)
+    -- of an object of this class
+    called_by : (P : Site → Type 0) (i : ℕ) (wanted : Role) (place : Expr) (args : List Meant) (r : Option ℕ) → IsPlainClass p i → is_plain wanted ≡ false → written_at p i wanted ≡ r → PlaceAt (table_of p) (source_of p) (special_of p) made (λ n x. P (Under (Some i) n x)) place → AllMeant p args → CallsAt (table_of p) (source_of p) (special_of p) made P (meaning.called_by p i wanted place args r)
+    called_by P i wanted place args None c w e h k =
+        let x = tells_maker p formed u i c.class wanted c.at c.object w in
+        (shut_at (slice_get (source_of p).routines (unwritten_number p i wanted)) (unwritten_free p formed u i wanted c w e), subst (λ o. PlaceAt (table_of p) (source_of p) (special_of p) made (λ n y. P (Under o n y)) place) (sym (x.unwritten_this e)) h)
+    called_by P i wanted place args (Some r) c w e h k =
+        let x = tells_maker p formed u i c.class wanted c.at c.object w in
+        (shut_at (slice_get (source_of p).routines r) (written_free p formed u i r wanted c w e), subst (λ o. PlaceAt (table_of p) (source_of p) (special_of p) made (λ n y. P (Under o n y)) place) (sym (x.written r e).this) h, expressions.args_by p (tree.params_of p r) args k)
 
     made_at : (P : Site → Type 0) (i : ℕ) (q : Spot) (args : List Meant) (r : Option ℕ) → IsOf made q → P (One q) → AllMeant p args → MakesAt (table_of p) (source_of p) (special_of p) made P (meaning.made_by p i (naming q) args r)
     made_at P i (OfVariable k) args None n o a = (o, n, tt)
@@ -132,14 +190,14 @@ module _ (p : Program) (formed : IsFormed p) (u : Unbroken (program_visits p)) w
     ended_at P i (OfField s j) None c e n o = (o, n, unwritten_whole i c e)
     ended_at P i (OfField s j) (Some r) c e n o = (o, n, whole_by i c r e)
 
-    constructed : (P : Site → Type 0) (m : Making) (q : Spot) (args : List Meant) → MakesPlain p (Some m) → IsOf made q → ((x : Site) → site_spot x ≡ q → P x) → AllMeant p args → Evaluates (table_of p) (source_of p) (special_of p) made P (meaning.constructed p m (naming q) args)
-    constructed P (APlain i) q args c n f k = inr (inr (inl (called_by P i role.Constructor (naming q) args (written_at p i role.Constructor) c refl refl (place_at P q n (f (Under q) refl)) k)))
-    constructed P (AMutex i) q args c n f k = inr (inr (inr (made_at P i q args (written_at p i role.Constructor) n (f (One q) refl) k)))
-    constructed P ACluster q args c n f k = inr (inl (place_at AnySite q n tt, inr tt))
-    constructed P AProcessor q args c n f k = inr (inl (place_at AnySite q n tt, inr (cluster_in args k)))
+    constructed : (P : Site → Type 0) (m : Making) (q : Spot) (args : List Meant) → MakesPlain p (Some m) → IsOf made q → Gets P m None q → AllMeant p args → Evaluates (table_of p) (source_of p) (special_of p) made P (meaning.constructed p m (naming q) args)
+    constructed P (APlain i) q args c n f k = inr (inr (inl (called_by P i role.Constructor (naming q) args (written_at p i role.Constructor) c refl refl (place_at (λ m x. P (Under (Some i) m x)) q n f) k)))
+    constructed P (AMutex i) q args c n f k = inr (inr (inr (made_at P i q args (written_at p i role.Constructor) n f k)))
+    constructed P ACluster q args c n f k = inr (inl (place_at AnyPlace q n tt, inr tt))
+    constructed P AProcessor q args c n f k = inr (inl (place_at AnyPlace q n tt, inr (cluster_in args k)))
 
-    counted_at : (P : Site → Type 0) (m : Making) (n : ℕ) (q : Spot) → IsOf made q → P (Under q) → PlaceAt (table_of p) (source_of p) (special_of p) made P (meaning.counted_element p m n (naming q))
-    counted_at P m n q h o = (place_at P q h o, (tt, tt))
+    counted_at : (P : ℕ → Spot → Type 0) (m : Making) (n : ℕ) (q : Spot) → IsOf made q → P n q → PlaceAt (table_of p) (source_of p) (special_of p) made P (meaning.counted_element p m n (naming q))
+    counted_at P m n q h o = (place_at (λ m x. P n x) q h o, (tt, tt))
 
     makes_each : (P : Site → Type 0) (i n : ℕ) (q : Spot) (r : Option ℕ) → IsOf made q → P (Each n q) → MakesEach (table_of p) (source_of p) (special_of p) made P (meaning.made_by p i (element_at n q) [] r)
     makes_each P i n (OfVariable k) None h o = (o, h, tt)
@@ -153,38 +211,34 @@ module _ (p : Program) (formed : IsFormed p) (u : Unbroken (program_visits p)) w
     ends_each P i n (OfField s j) None c e h o = (o, h, unwritten_whole i c e)
     ends_each P i n (OfField s j) (Some r) c e h o = (o, h, whole_by i c r e)
 
-    fills : (P : Site → Type 0) (m : Making) (n : ℕ) (q : Spot) → MakesPlain p (Some m) → IsOf made q → ((x : Site) → site_spot x ≡ q → P x) → FillsBy (table_of p) (source_of p) (special_of p) made P (meaning.constructed p m (meaning.counted_element p m n (naming q)) [])
-    fills P (APlain i) n q c h f = inr (inl (called_by P i role.Constructor (meaning.counted_element p (APlain i) n (naming q)) [] (written_at p i role.Constructor) c refl refl (counted_at P (APlain i) n q h (f (Under q) refl)) tt))
-    fills P (AMutex i) n q c h f = inr (inr (makes_each P i n q (written_at p i role.Constructor) h (f (Each n q) refl)))
-    fills P ACluster n q c h f = inl (counted_at AnySite ACluster n q h tt, inr tt)
-    fills P AProcessor n q c h f = inl (counted_at AnySite AProcessor n q h tt, inr tt)
+    fills : (P : Site → Type 0) (m : Making) (n : ℕ) (q : Spot) → MakesPlain p (Some m) → IsOf made q → Gets P m (Some n) q → FillsBy (table_of p) (source_of p) (special_of p) made P (meaning.constructed p m (meaning.counted_element p m n (naming q)) [])
+    fills P (APlain i) n q c h f = inr (inl (called_by P i role.Constructor (meaning.counted_element p (APlain i) n (naming q)) [] (written_at p i role.Constructor) c refl refl (counted_at (λ m x. P (Under (Some i) m x)) (APlain i) n q h f) tt))
+    fills P (AMutex i) n q c h f = inr (inr (makes_each P i n q (written_at p i role.Constructor) h f))
+    fills P ACluster n q c h f = inl (counted_at AnyPlace ACluster n q h tt, inr tt)
+    fills P AProcessor n q c h f = inl (counted_at AnyPlace AProcessor n q h tt, inr tt)
 
-    sweeps : (P : Site → Type 0) (m : Making) (n : ℕ) (q : Spot) → MakesPlain p (Some m) → IsOf made q → ((x : Site) → site_spot x ≡ q → P x) → SweepsBy (table_of p) (source_of p) (special_of p) made P (meaning.destroyed p m (meaning.counted_element p m n (naming q)))
-    sweeps P (APlain i) n q c h f = inr (inl (called_by P i role.Destructor (meaning.counted_element p (APlain i) n (naming q)) [] (written_at p i role.Destructor) c refl refl (counted_at P (APlain i) n q h (f (Under q) refl)) tt))
-    sweeps P (AMutex i) n q c h f = inr (inr (ends_each P i n q (written_at p i role.Destructor) c refl h (f (Each n q) refl)))
-    sweeps P ACluster n q c h f = inl (counted_at AnySite ACluster n q h tt)
-    sweeps P AProcessor n q c h f = inl (counted_at AnySite AProcessor n q h tt)
+    sweeps : (P : Site → Type 0) (m : Making) (n : ℕ) (q : Spot) → MakesPlain p (Some m) → IsOf made q → Gets P m (Some n) q → SweepsBy (table_of p) (source_of p) (special_of p) made P (meaning.destroyed p m (meaning.counted_element p m n (naming q)))
+    sweeps P (APlain i) n q c h f = inr (inl (called_by P i role.Destructor (meaning.counted_element p (APlain i) n (naming q)) [] (written_at p i role.Destructor) c refl refl (counted_at (λ m x. P (Under (Some i) m x)) (APlain i) n q h f) tt))
+    sweeps P (AMutex i) n q c h f = inr (inr (ends_each P i n q (written_at p i role.Destructor) c refl h f))
+    sweeps P ACluster n q c h f = inl (counted_at (λ m x. P (Under None m x)) ACluster n q h f)
+    sweeps P AProcessor n q c h f = inl (counted_at (λ m x. P (Under None m x)) AProcessor n q h f)
 
-    pub build : (line : ℕ) (m : Making) (len : Option ℕ) (q : Spot) (args : List Meant) (rest : Stmts) → MakesPlain p (Some m) → IsOf made q → AllMeant p args → CallingStmt (table_of p) (source_of p) (special_of p) (OpensFor (behind q (meaning.clean_up p m len (naming q)) rest)) made (meaning.build p line m len (naming q) args)
-    build line m None q args rest c n k = constructed (OpensFor (behind q (meaning.clean_up p m None (naming q)) rest)) m q args c n (opens_behind m None q rest) k
+    pub build : (line : ℕ) (m : Making) (len : Option ℕ) (q : Spot) (args : List Meant) (rest : Stmts) → MakesPlain p (Some m) → IsOf made q → AllMeant p args → CallingStmt (table_of p) (source_of p) (special_of p) (OpensFor (table_of p) (behind q (meaning.clean_up p m len (naming q)) rest)) made (meaning.build p line m len (naming q) args)
+    build line m None q args rest c n k = constructed (OpensFor (table_of p) (behind q (meaning.clean_up p m None (naming q)) rest)) m q args c n (opens_behind m None q rest c) k
     build line m (Some len) q args rest c n k =
-        let P : Site → Type 0 = OpensFor (behind q (meaning.clean_up p m (Some len) (naming q)) rest) in
-        (fills P m len q c n (opens_behind m (Some len) q rest), sweeps P m len q c n (opens_behind m (Some len) q rest))
+        let P : Site → Type 0 = OpensFor (table_of p) (behind q (meaning.clean_up p m (Some len) (naming q)) rest) in
+        (fills P m len q c n (opens_behind m (Some len) q rest c), sweeps P m len q c n (opens_behind m (Some len) q rest c))
 
     -- a clean-up ends what is at its spot
-
-    cleaned_at : (m : Making) (len : Option ℕ) (q : Spot) (x : Site) → site_spot x ≡ q → IsSpotOf (meaning.clean_up p m len (naming q)) x
-    cleaned_at m len q x e = spot_cleaned m len q ∙ ap Some (sym e)
-
     pub clean_up : (m : Making) (len : Option ℕ) (q : Spot) → MakesPlain p (Some m) → IsOf made q → CleansBy (table_of p) (source_of p) (special_of p) made (meaning.clean_up p m len (naming q))
     clean_up (APlain i) None q c n =
-        let P : Site → Type 0 = IsSpotOf (meaning.clean_up p (APlain i) None (naming q)) in
-        inr (inl (called_by P i role.Destructor (naming q) [] (written_at p i role.Destructor) c refl refl (place_at P q n (cleaned_at (APlain i) None q (Under q) refl)) tt))
+        let P : Site → Type 0 = IsOver (table_of p) (meaning.clean_up p (APlain i) None (naming q)) in
+        inr (inl (called_by P i role.Destructor (naming q) [] (written_at p i role.Destructor) c refl refl (place_at (λ m x. P (Under (Some i) m x)) q n (over_made (APlain i) None q c)) tt))
     clean_up (AMutex i) None q c n =
-        inr (inr (ended_at (IsSpotOf (meaning.clean_up p (AMutex i) None (naming q))) i q (written_at p i role.Destructor) c refl n (cleaned_at (AMutex i) None q (One q) refl)))
-    clean_up ACluster None q c n = inl (place_at AnySite q n tt)
-    clean_up AProcessor None q c n = inl (place_at AnySite q n tt)
-    clean_up m (Some len) q c n = sweeps (IsSpotOf (meaning.clean_up p m (Some len) (naming q))) m len q c n (cleaned_at m (Some len) q)
+        inr (inr (ended_at (IsOver (table_of p) (meaning.clean_up p (AMutex i) None (naming q))) i q (written_at p i role.Destructor) c refl n (over_made (AMutex i) None q c)))
+    clean_up ACluster None q c n = inl (place_at (λ m x. IsOver (table_of p) (meaning.clean_up p ACluster None (naming q)) (Under None m x)) q n (over_made ACluster None q c))
+    clean_up AProcessor None q c n = inl (place_at (λ m x. IsOver (table_of p) (meaning.clean_up p AProcessor None (naming q)) (Under None m x)) q n (over_made AProcessor None q c))
+    clean_up m (Some len) q c n = sweeps (IsOver (table_of p) (meaning.clean_up p m (Some len) (naming q))) m len q c n (over_made m (Some len) q c)
 
   -- expressions in a scope
   pub meant : (s : Scope) (e : expr.Expr) → MeantPlain p (tree.meant (meaning.context_at p s) e)
@@ -227,11 +281,11 @@ module _ (p : Program) (formed : IsFormed p) (u : Unbroken (program_visits p)) w
 
   -- events
 
-  built_event : (s : Scope) (n : ℕ) (name : List ℕ) (r : Option ℕ) (ms : List Meant) → meaning.event_constructor p name ≡ r → AllMeant p ms → RaisesBy (table_of p) (source_of p) (special_of p) (reach_of false) (meaning.built_event p s n r ms)
+  built_event : (s : Scope) (n : ℕ) (name : List ℕ) (r : Option ℕ) (ms : List Meant) → meaning.event_constructor p name ≡ r → AllMeant p ms → RaisesBy (table_of p) (source_of p) (special_of p) (reach_of false None) (meaning.built_event p s n r ms)
   built_event s n name None ms e k = tt
-  built_event s n name (Some r) ms e k = (shut_at (slice_get (source_of p).routines r) (event_free p formed u r name e), (low_least s.hidden, refl), expressions.args_by p (tree.params_of p r) ms k)
+  built_event s n name (Some r) ms e k = (shut_at (slice_get (source_of p).routines r) (event_free p formed u r name e), (low_least s.hidden, (refl, event_hollow p formed u r name e)), expressions.args_by p (tree.params_of p r) ms k)
 
-  raised : (s : Scope) (r : Option stmt.Raised) → RaisesBy (table_of p) (source_of p) (special_of p) (reach_of false) (meaning.raised_meant p s r)
+  raised : (s : Scope) (r : Option stmt.Raised) → RaisesBy (table_of p) (source_of p) (special_of p) (reach_of false None) (meaning.raised_meant p s r)
   raised s None = tt
   raised s (Some r) = built_event s (meaning.number_of_event p r.name) r.name (meaning.event_constructor p r.name) (tree.args_meant (meaning.context_at p s) r.args) refl (args s r.args)
 
@@ -247,34 +301,34 @@ module _ (p : Program) (formed : IsFormed p) (u : Unbroken (program_visits p)) w
   returned s None = tt
   returned s (Some e) = expressions.converted p (shape_of (tree.result_of p s.routine)) _ (value s e)
 
-  scoped : (m : Making) (line : ℕ) (b : Base) (d : Declarator) (s : Scope) (rest : Stmts) → MakesPlain p (Some m) → CallingStmts (table_of p) (source_of p) (special_of p) (reach_of false) rest → CallingStmts (table_of p) (source_of p) (special_of p) (reach_of false) (meaning.object_scoped p m line b d s rest)
+  scoped : (m : Making) (line : ℕ) (b : Base) (d : Declarator) (s : Scope) (rest : Stmts) → MakesPlain p (Some m) → CallingStmts (table_of p) (source_of p) (special_of p) (reach_of false None) rest → CallingStmts (table_of p) (source_of p) (special_of p) (reach_of false None) (meaning.object_scoped p m line b d s rest)
   scoped m line b d s rest c h =
       let len : Option ℕ = meaning.length_of p d d.len in
-      ((tt, tt), (build (reach_of false) line m len (OfVariable s.cells) (meaning.start_args p s d.start) rest c (low_least s.cells) (start_args s d.start), (clean_up (reach_of false) m len (OfVariable s.cells) c (low_least s.cells), h)))
+      ((tt, tt), (build (reach_of false None) line m len (OfVariable s.cells) (meaning.start_args p s d.start) rest c (low_least s.cells) (start_args s d.start), (clean_up (reach_of false None) m len (OfVariable s.cells) c (low_least s.cells), h)))
 
-  all_scoped : (m : Making) (line : ℕ) (b : Base) (ds : List Declarator) (s : Scope) (rest : Stmts) → MakesPlain p (Some m) → CallingStmts (table_of p) (source_of p) (special_of p) (reach_of false) rest → CallingStmts (table_of p) (source_of p) (special_of p) (reach_of false) (meaning.objects_scoped p m line b ds s rest)
+  all_scoped : (m : Making) (line : ℕ) (b : Base) (ds : List Declarator) (s : Scope) (rest : Stmts) → MakesPlain p (Some m) → CallingStmts (table_of p) (source_of p) (special_of p) (reach_of false None) rest → CallingStmts (table_of p) (source_of p) (special_of p) (reach_of false None) (meaning.objects_scoped p m line b ds s rest)
   all_scoped m line b [] s rest c h = h
   all_scoped m line b (d ∷ ds) s rest c h = scoped m line b d s _ c (all_scoped m line b ds (meaning.with_declared p s b d) rest c h)
 
-  declared_then : (m : Option Making) (line : ℕ) (b : Base) (ds : List Declarator) (s : Scope) (rest : Stmts) → MakesPlain p m → CallingStmts (table_of p) (source_of p) (special_of p) (reach_of false) rest → CallingStmts (table_of p) (source_of p) (special_of p) (reach_of false) (meaning.declared_then p m line b ds s rest)
+  declared_then : (m : Option Making) (line : ℕ) (b : Base) (ds : List Declarator) (s : Scope) (rest : Stmts) → MakesPlain p m → CallingStmts (table_of p) (source_of p) (special_of p) (reach_of false None) rest → CallingStmts (table_of p) (source_of p) (special_of p) (reach_of false None) (meaning.declared_then p m line b ds s rest)
   declared_then None line b ds s rest c h = (declared s b ds, h)
   declared_then (Some m) line b ds s rest c h = all_scoped m line b ds s rest c h
 
-  declared_alone : (m : Option Making) (line : ℕ) (b : Base) (ds : List Declarator) (s : Scope) → MakesPlain p m → CallingStmt (table_of p) (source_of p) (special_of p) NoSite (reach_of false) (meaning.declared_alone p m line b ds s)
+  declared_alone : (m : Option Making) (line : ℕ) (b : Base) (ds : List Declarator) (s : Scope) → MakesPlain p m → CallingStmt (table_of p) (source_of p) (special_of p) NoSite (reach_of false None) (meaning.declared_alone p m line b ds s)
   declared_alone None line b ds s c = declared s b ds
   declared_alone (Some m) line b ds s c = all_scoped m line b ds s src.Nil c tt
 
-  start_then : (line : ℕ) (x : stmt.ForStart) (s : Scope) (rest : Stmts) → CallingStmts (table_of p) (source_of p) (special_of p) (reach_of false) rest → CallingStmts (table_of p) (source_of p) (special_of p) (reach_of false) (meaning.start_then p line x s rest)
+  start_then : (line : ℕ) (x : stmt.ForStart) (s : Scope) (rest : Stmts) → CallingStmts (table_of p) (source_of p) (special_of p) (reach_of false None) rest → CallingStmts (table_of p) (source_of p) (special_of p) (reach_of false None) (meaning.start_then p line x s rest)
   start_then line stmt.NoFor s rest h = (tt, h)
   start_then line (stmt.ForDeclare place b ds) s rest h = declared_then (making p b) line b ds s rest (making_plain p b) h
   start_then line (stmt.ForEvaluate e) s rest h = (inl (meant s e).expr, h)
 
-  stmt_then : (t : stmt.Stmt) (s : Scope) (a : Stmt) (rest : Stmts) → CallingStmt (table_of p) (source_of p) (special_of p) (OpensFor rest) (reach_of false) a → CallingStmts (table_of p) (source_of p) (special_of p) (reach_of false) rest → CallingStmts (table_of p) (source_of p) (special_of p) (reach_of false) (meaning.stmt_then p t s a rest)
+  stmt_then : (t : stmt.Stmt) (s : Scope) (a : Stmt) (rest : Stmts) → CallingStmt (table_of p) (source_of p) (special_of p) (OpensFor (table_of p) rest) (reach_of false None) a → CallingStmts (table_of p) (source_of p) (special_of p) (reach_of false None) rest → CallingStmts (table_of p) (source_of p) (special_of p) (reach_of false None) (meaning.stmt_then p t s a rest)
   stmt_then (stmt.Declare place b ds) s a rest n h = declared_then (making p b) place.line b ds s rest (making_plain p b) h
   stmt_then t s a rest n h = (n, h)
 
   mutual
-    pub one : (t : stmt.Stmt) (s : Scope) → CallingStmt (table_of p) (source_of p) (special_of p) NoSite (reach_of false) (meaning.stmt_meant p t s)
+    pub one : (t : stmt.Stmt) (s : Scope) → CallingStmt (table_of p) (source_of p) (special_of p) NoSite (reach_of false None) (meaning.stmt_meant p t s)
     one (stmt.Block place body) s = all body s
     one (stmt.Empty place) s = tt
     one (stmt.Evaluate place e) s = inl (meant s e).expr
@@ -305,26 +359,26 @@ module _ (p : Program) (formed : IsFormed p) (u : Unbroken (program_visits p)) w
         let behind : Scope = meaning.scope_past_clauses p cs inner in
         clauses cs inner (meaning.else_meant p other behind) (otherwise other behind)
 
-    clauses : (cs : stmt.Clauses) (s : Scope) (other : Clauses) → CallingClauses (table_of p) (source_of p) (special_of p) (reach_of false) other → CallingClauses (table_of p) (source_of p) (special_of p) (reach_of false) (meaning.clauses_meant p cs s other)
+    clauses : (cs : stmt.Clauses) (s : Scope) (other : Clauses) → CallingClauses (table_of p) (source_of p) (special_of p) (reach_of false None) other → CallingClauses (table_of p) (source_of p) (special_of p) (reach_of false None) (meaning.clauses_meant p cs s other)
     clauses stmt.NoClauses s other k = k
     clauses (stmt.MoreClauses (stmt.Accepts place guard members body) rest) s other k = (test s guard, one body s, clauses rest (meaning.scope_past p body s) other k)
 
-    otherwise : (t : stmt.MaybeStmt) (s : Scope) → CallingClauses (table_of p) (source_of p) (special_of p) (reach_of false) (meaning.else_meant p t s)
+    otherwise : (t : stmt.MaybeStmt) (s : Scope) → CallingClauses (table_of p) (source_of p) (special_of p) (reach_of false None) (meaning.else_meant p t s)
     otherwise stmt.NoStmt s = tt
     otherwise (stmt.OneStmt body) s = one body s
 
-    handlers : (hs : stmt.Handlers) (s : Scope) → CallingHandlers (table_of p) (source_of p) (special_of p) (reach_of false) (meaning.handlers_meant p hs s)
+    handlers : (hs : stmt.Handlers) (s : Scope) → CallingHandlers (table_of p) (source_of p) (special_of p) (reach_of false None) (meaning.handlers_meant p hs s)
     handlers stmt.NoHandlers s = tt
     handlers (stmt.MoreHandlers (stmt.Handles place kind event param brace body) rest) s =
         let x : stmt.Handler = stmt.Handles place kind event param brace body in
         (all body (meaning.in_handler p x s), handlers rest (meaning.scope_past_handler p x s))
 
-    maybe : (t : stmt.MaybeStmt) (s : Scope) → CallingStmt (table_of p) (source_of p) (special_of p) NoSite (reach_of false) (meaning.maybe_meant p t s)
+    maybe : (t : stmt.MaybeStmt) (s : Scope) → CallingStmt (table_of p) (source_of p) (special_of p) NoSite (reach_of false None) (meaning.maybe_meant p t s)
     maybe stmt.NoStmt s = tt
     maybe (stmt.OneStmt body) s = one body s
 
-    pub all : (ts : stmt.Stmts) (s : Scope) → CallingStmts (table_of p) (source_of p) (special_of p) (reach_of false) (meaning.stmts_meant p ts s)
+    pub all : (ts : stmt.Stmts) (s : Scope) → CallingStmts (table_of p) (source_of p) (special_of p) (reach_of false None) (meaning.stmts_meant p ts s)
     all stmt.NoStmts s = tt
     all (stmt.MoreStmts t ts) s =
         let rest : Stmts = meaning.stmts_meant p ts (meaning.scope_after p t s) in
-        stmt_then t s (meaning.stmt_meant p t s) rest (stmt_more (table_of p) (source_of p) (special_of p) (reach_of false) NoSite (OpensFor rest) (λ x i z. absurd z) (meaning.stmt_meant p t s) (one t s)) (all ts (meaning.scope_after p t s))
+        stmt_then t s (meaning.stmt_meant p t s) rest (stmt_more (table_of p) (source_of p) (special_of p) (reach_of false None) NoSite (OpensFor (table_of p) rest) (λ x i z. absurd z) (meaning.stmt_meant p t s) (one t s)) (all ts (meaning.scope_after p t s))

@@ -1,6 +1,7 @@
 -- A quiet step of a state in which what is called is the execution's own leads to one.
 use Rattle.std.proofs.Common.{◌≡◌, ℕ, zero, suc, ◌<◌, ◌≤◌, ◌⊎◌, inl, inr, ◌++◌, Bool, true, false, List, [], ◌∷◌, length, drop, Option, Some, None, refl, sym, ap, ◌∙◌, subst, arith}
 use Rattle.std.specs.Prelude.{nat_eq, nat_lt, slice_set}
+use Rattle.std.proofs.lemmas.Bool.{eqb-true, eq-eqb}
 use Rattle.uc_tree.specs.declared.limits.TheConstants.{CALLS, PENDING_EVENTS}
 use Rattle.uc_tree.specs.Source as src
 use Rattle.uc_tree.specs.Source.{Shape, Expr, ObjectExpr, Stmt, Stmts, EventStmt, TaskStmt, Routine, Way, CleanUp, Handlers, Purpose}
@@ -23,7 +24,7 @@ use Rattle.uc_machine.specs.Monitors as monitors
 use Rattle.uc_machine.specs.Polls as polls
 use Rattle.uc_machine.specs.Quiet as quiet
 use Rattle.uc_machine.specs.Pieces as piece
-use Rattle.uc_machine.specs.Pieces.{Value, Number, Object, Nothing, Todo, Sort, Active, State, Env, Step, Asks, Outcome, Gives, Faults, at, in_env, goes, fault, top, below, number, loaded, written}
+use Rattle.uc_machine.specs.Pieces.{Link, Value, Number, Object, Nothing, Todo, Sort, Active, State, Env, Step, Asks, Outcome, Gives, Faults, at, in_env, goes, fault, top, below, number, loaded, written}
 use Rattle.uc_typing.specs.Typing.{Ty}
 use Rattle.uc_state_laws.specs.Counted.{params_at, params, count, CountedClean}
 use Rattle.uc_life_laws.specs.Belonging.{Belongs}
@@ -31,16 +32,21 @@ use Rattle.uc_life_laws.specs.Marks.{Outward, Free}
 use Rattle.uc_life_laws.specs.Ending.{Spot, OfVariable, OfField}
 use Rattle.uc_place_laws.proofs.AsideKeeping as kept
 use Rattle.uc_place_laws.proofs.AsideKeeping.{either}
-use Rattle.uc_putting_laws.specs.CleanedSpots.{Site, One, Each, Under, site_spot, AnySite, spot_of, Reach, reach_of, apart, IsOf, IsIn, AllBelow, IsOutermost, Ascends}
-use Rattle.uc_putting_laws.specs.ObjectsAtHand.{LiesUnder, same_place, further_on, there, BelongsBelow, in_object, OwnMarked, NoneWithin, IsSeated}
+use Rattle.uc_putting_laws.specs.CleanedSpots.{Site, One, Each, Under, site_spot, AnySite, AnyPlace, HasSome, spot_of, HoldsObjects, MayHold, IsOver, LiesInClass, Reach, reach_of, from_variable, apart, IsOf, IsIn, AllBelow, IsOutermost, Ascends}
+use Rattle.uc_putting_laws.specs.ObjectsAtHand.{LiesUnder, same_place, further_on, LiesIn, there, BelongsBelow, in_object, variable, OwnMarked, NoneWithin}
+use Rattle.uc_putting_laws.specs.Seats.{Searched, Beyond, IsSeated}
 use Rattle.uc_putting_laws.specs.Calling.{opens_object, opens_at, is_opening, PlainNew, Binds, PlaceAt, CallsAt, MakesAt, MakesEach, EndsAt, EndsEach, EndsNumber, CleansBy}
-use Rattle.uc_putting_laws.specs.Putting.{Setting, Around, around, IsHome, Mark, Any, At, Homed, rest, rests, anys, FirstUnder, FirstAt, FirstHome, IsEnding, OpensRest, Located, Enters, Loads, spot_at, StandsAt, HomedAt, Holds, LoneAt, Counts, Plain, CodeStmt, CodeStmts, CodeHandlers, CodeSweep, CodeSpine, CodeRest, CodeScope, CodeRoutine, made_marks, LeftBy, Ok, Left, Finds, Runs, Waits, PutState, PutStep}
-use Rattle.uc_putting_laws.specs.PuttingLaws.{FoundBehind}
-use Rattle.uc_putting_laws.proofs.CleanedSpots.{apart_outermost, next_mark}
+use Rattle.uc_putting_laws.specs.Putting.{Setting, Around, around, IsHome, Mark, Any, At, Homed, rest, rests, anys, FirstUnder, FirstAt, FirstHome, IsEnding, OfObjects, OpensRest, Located, Enters, Loads, spot_at, StandsAt, HomedAt, Holds, LoneAt, BehindBy, SeatAt, Counts, Plain, CodeStmt, CodeStmts, CodeHandlers, CodeSweep, CodeSpine, CodeRest, CodeScope, CodeRoutine, made_marks, LeftBy, Ok, Left, Finds, Runs, Waits, PutState, PutStep}
+use Rattle.uc_putting_laws.proofs.CleanedSpots.{apart_outermost, apart_class, next_mark}
 use Rattle.uc_putting_laws.proofs.ObjectsWithin.{in_under, in_object_home, below_own, below_more, not_standing}
+use Rattle.uc_putting_laws.proofs.VariableMarks.{variable_one}
+use Rattle.uc_putting_laws.proofs.Searches as searches
+use Rattle.uc_putting_laws.proofs.Searches.{FoundCode, PathOf}
+use Rattle.uc_putting_laws.proofs.Seats as seats
+use Rattle.uc_putting_laws.proofs.Seats.{RoundIn}
 use Rattle.uc_putting_laws.proofs.Marks as marks
-use Rattle.uc_putting_laws.proofs.Marks.{place_plain, holds_below, holds_drop, holds_anys, rests_anys, drop_set, set_top, stands_under, under_spot, site_there, OfIndex, waits_left}
-use Rattle.uc_putting_laws.proofs.OwnMarks.{FramesWithin, own_below, first_seat}
+use Rattle.uc_putting_laws.proofs.Marks.{place_plain, holds_below, holds_drop, holds_anys, rests_anys, drop_set, set_top, stands_under, under_spot, stands_some, site_there, OfIndex, waits_left}
+use Rattle.uc_putting_laws.proofs.OwnMarks.{FramesWithin, frames_below, own_below, first_seat}
 use Rattle.uc_putting_laws.proofs.PuttingTodos as todos
 
 no_both : {A : Type 0} (b : Bool) → b ≡ true → b ≡ false → A
@@ -51,7 +57,7 @@ abbrev pub here : State → Around
 here s = around s.env.exec s.run s.callers
 
 module _ (g : Setting) where
-  module _ (s : State) (callers : todos.W g s.env.exec s.callers) (env : todos.E g s.env) (made : Reach) (this : IsSeated g.table g.few made s.env.exec s.callers s.run.frame s.run.this) where
+  module _ (s : State) (callers : todos.W g s.env.exec s.callers) (env : todos.E g s.env) (made : Reach) (this : IsSeated g.table g.source g.special g.few made s.env.exec s.callers s.run.frame s.run.handles s.run.this) where
     abbrev pub O : List Mark → List Todo → Type 0
     O ms todo = Ok g (here s) made ms todo
 
@@ -112,7 +118,7 @@ module _ (g : Setting) where
         entered n k i todo v vs l b f.0 f.1 f.2
       where
         entered : (n : ℕ) (k : Shape) (i : ℕ) (todo : List Todo) (v : Value) (vs : List Value) → H ms (v ∷ vs) → i < n → (x : Site) → StandsAt g.few (here s) x v → Enters n k x (λ y. O (At y ∷ rest ms) todo) → PutStep g (piece.element_step k (Some i) todo v vs s)
-        entered n k i todo v vs l b (Under p) e h = go (At (Under p) ∷ rest ms) todo _ (further_on (piece.At k i) e, holds_below g.few (here s) ms (v ∷ vs) l) h
+        entered n k i todo v vs l b (Under o m p) e h = go (At (Under o n p) ∷ rest ms) todo _ ((omega (arith, b), further_on (piece.At k i) e.1), holds_below g.few (here s) ms (v ∷ vs) l) h
         entered n src.Binding i todo v vs l b (One p) e h = go (At (Each n p) ∷ rest ms) todo _ ((i, b, ap (piece.further (piece.At src.Binding i)) e), holds_below g.few (here s) ms (v ∷ vs) l) h
         entered n k i todo v vs l b x e h = absurd h
 
@@ -162,8 +168,8 @@ module _ (g : Setting) where
     event_step P (src.Try line body hs) todo n l h = anew _ _ (inl (n.0.0, n.1.0), ((n.0.1, n.1.1), (tt, h)))
     event_step P (src.RaiseAt line r a) todo n l h =
         anew _ _ (todos.raised g (here s) made r (piece.Eval a ∷ (piece.RaiseAtNow ∷ (piece.Within line ∷ todo))) (todos.counted_at g (here s) made r n.0.0) l (n.0.1, inl (n.1.1, (tt, (tt, h)))))
-    event_step P (src.Enable line events cell a) todo n l h = anew _ _ (tt, (tt, (todos.inner g (here s) made (OpensRest (piece.Clean (src.Restores cell) ∷ (piece.Within line ∷ todo))) a n, ((tt, tt, tt), (tt, h)))))
-    event_step P (src.Disable line events cell a) todo n l h = anew _ _ (tt, (todos.inner g (here s) made (OpensRest (piece.Clean (src.Restores cell) ∷ (piece.Within line ∷ todo))) a n, ((tt, tt, tt), (tt, h))))
+    event_step P (src.Enable line events cell a) todo n l h = anew _ _ (tt, (tt, (todos.inner g (here s) made (OpensRest g.table (piece.Clean (src.Restores cell) ∷ (piece.Within line ∷ todo))) a n, ((tt, tt, tt, (λ h i a this v e d w. absurd d)), (tt, h)))))
+    event_step P (src.Disable line events cell a) todo n l h = anew _ _ (tt, (todos.inner g (here s) made (OpensRest g.table (piece.Clean (src.Restores cell) ∷ (piece.Within line ∷ todo))) a n, ((tt, tt, tt, (λ h i a this v e d w. absurd d)), (tt, h))))
 
     task_step : (P : Site → Type 0) (a : TaskStmt) (todo : List Todo) → CodeStmt g P made (src.OfTasks a) → O [] todo → PutStep g (quiet.task_step a todo s)
     task_step P (src.Resume line) todo n h = anew _ _ (tt, (tt, (tt, h)))
@@ -177,7 +183,7 @@ module _ (g : Setting) where
 
     -- so it is behind a statement, of what opens there, and where it builds an event
     abbrev pub LoneBehind : List Todo → Type 0
-    LoneBehind todo = (x : Site) → IsIn made x → OpensRest todo x → LoneAt g.table g.few (here s) todo x
+    LoneBehind todo = (x : Site) → IsIn made x → OpensRest g.table todo x → SeatAt g (here s) made todo x
 
     abbrev pub LoneStmt : Stmt → List Todo → Type 0
     LoneStmt (src.OfEvents a) todo = LoneEvent a todo
@@ -186,11 +192,11 @@ module _ (g : Setting) where
     wide : (p : Spot) → IsOf made p → IsOf made p
     wide p i = i
 
-    pub stmt : (a : Stmt) (todo : List Todo) → CodeStmt g (OpensRest todo) made a → LoneBehind todo → LoneStmt a todo → O [] todo → PutStep g (quiet.stmt_step a todo s)
+    pub stmt : (a : Stmt) (todo : List Todo) → CodeStmt g (OpensRest g.table todo) made a → LoneBehind todo → LoneStmt a todo → O [] todo → PutStep g (quiet.stmt_step a todo s)
     stmt (src.Skip line) todo n b l h = anew _ _ h
     stmt (src.Block line body) todo n b l h = anew _ _ (inl n, (tt, h))
     stmt (src.Whole line body) todo n b l h = anew _ _ (inl n, (tt, (tt, h)))
-    stmt (src.Evaluate line a) todo n b l h = anew _ _ (todos.single g (here s) made a (piece.DropNow ∷ (piece.Within line ∷ todo)) n.0 (marks.evaluates_more g.table g.source g.special made made wide (OpensRest todo) (todos.Lones g (here s) made todo) b a n.1) (tt, (tt, h)))
+    stmt (src.Evaluate line a) todo n b l h = anew _ _ (todos.single g (here s) made a (piece.DropNow ∷ (piece.Within line ∷ todo)) n.0 (marks.evaluates_more g.table g.source g.special made made wide (OpensRest g.table todo) (todos.Lones g (here s) made todo) b a n.1) (tt, (tt, h)))
     stmt (src.Declare line ds) todo n b l h = anew _ _ (n, (tt, h))
     stmt (src.Print line items) todo n b l h = anew _ _ (n, (tt, h))
     stmt (src.PrintTogether line items) todo n b l h = anew _ _ (n, (tt, (n, (tt, (tt, h)))))
@@ -202,9 +208,9 @@ module _ (g : Setting) where
     stmt (src.Return line None) todo n b l h = anew _ _ (gone [] todo h)
     stmt (src.Return line (Some e)) todo n b l h = anew _ _ (n.0, inl (n.1, gone [] todo h))
     stmt (src.Owes line) todo n b l h = anew _ _ (tt, (tt, h))
-    stmt (src.Fill line m x e) todo n b l h = anew _ _ (tt, (((n.0.0, marks.fills_more g.table g.source g.special made made wide (OpensRest todo) (todos.Lones g (here s) made todo) b x n.1.0), (n.0.1, marks.sweeps_more g.table g.source g.special made made wide (OpensRest todo) (todos.Lones g (here s) made todo) b e n.1.1)), (tt, h)))
-    stmt (src.OfEvents a) todo n b l h = event_step (OpensRest todo) a todo n l h
-    stmt (src.OfTasks a) todo n b l h = task_step (OpensRest todo) a todo n h
+    stmt (src.Fill line m x e) todo n b l h = anew _ _ (tt, (((n.0.0, marks.fills_more g.table g.source g.special made made wide (OpensRest g.table todo) (todos.Lones g (here s) made todo) b x n.1.0), (n.0.1, marks.sweeps_more g.table g.source g.special made made wide (OpensRest g.table todo) (todos.Lones g (here s) made todo) b e n.1.1)), (tt, h)))
+    stmt (src.OfEvents a) todo n b l h = event_step (OpensRest g.table todo) a todo n l h
+    stmt (src.OfTasks a) todo n b l h = task_step (OpensRest g.table todo) a todo n h
 
     -- statements within others open a scope
     scoped : (c : CleanUp) (ss : Stmts) (todo : List Todo) → CodeStmts g (apart made) (src.Scoped c ss) → O [] todo → PutStep g (piece.turns (piece.Rest ss ∷ (piece.Clean c ∷ todo)) s)
@@ -212,35 +218,35 @@ module _ (g : Setting) where
 
     built : (c : CleanUp) (ss : Stmts) (todo : List Todo) → CodeStmts g (apart made) (src.Built c ss) → O [] todo → PutStep g (piece.turns (piece.Rest ss ∷ (piece.Part c ∷ todo)) s)
     built c ss todo n h =
-        anew _ _ (inl (n.0.1, n.1.1), ((n.0.0, marks.cleans_more g.table g.source g.special (apart made) made (marks.apart_wide made) c n.1.0, apart_outermost g.table g.source g.special made c todo n.1.0), h))
+        anew _ _ (inl (n.0.1, n.1.1), ((n.0.0, marks.cleans_more g.table g.source g.special (apart made) made (marks.apart_wide made) c n.1.0, apart_outermost g.table g.source g.special made c todo n.1.0, apart_class g.table g.source g.special made made.class c n.1.0), h))
 
     -- those of a constructor or a destructor, which puts marks for fields in order
-    own_scope : (c : CleanUp) (todo : List Todo) → CountedClean g.source c → CleansBy g.table g.source g.special made c → IsOutermost (spot_of c) todo → CodeScope g made c todo
-    own_scope src.Ends todo n k o = tt
-    own_scope (src.Frees r) todo n k o = absurd k
-    own_scope c todo n k o = (n, k, o)
+    own_scope : (c : CleanUp) (todo : List Todo) → CountedClean g.source c → CleansBy g.table g.source g.special made c → IsOutermost (spot_of c) todo → LiesInClass g.table made.class c → CodeScope g made c todo
+    own_scope src.Ends todo n k o l = tt
+    own_scope (src.Frees r) todo n k o l = absurd k
+    own_scope c todo n k o l = (n, k, o, l)
 
     own_scoped : (c : CleanUp) (ss : Stmts) (todo : List Todo) → CodeSpine g made (src.Scoped c ss) todo → O [] todo → PutStep g (piece.turns (piece.Rest ss ∷ (piece.Clean c ∷ todo)) s)
     own_scoped c ss todo n h =
         let x = next_mark (spot_of c) n.1.0 todo (λ m. Ascends m ss) n.1.2 n.1.1 in
-        anew _ _ (inr (inl ((n.0.0.1, n.0.1.1), (x.number, (x.mark, x.below), x.behind))), (own_scope c todo n.0.0.0 n.0.1.0 x.outermost, h))
+        anew _ _ (inr (inl ((n.0.0.1, n.0.1.1), (x.number, (x.mark, x.below), x.behind), n.2.1)), (own_scope c todo n.0.0.0 n.0.1.0 x.outermost n.2.0, h))
 
     own_built : (c : CleanUp) (ss : Stmts) (todo : List Todo) → CodeSpine g made (src.Built c ss) todo → O [] todo → PutStep g (piece.turns (piece.Rest ss ∷ (piece.Part c ∷ todo)) s)
     own_built c ss todo n h =
         let x = next_mark (spot_of c) n.1.0 todo (λ m. Ascends m ss) n.1.2 n.1.1 in
-        anew _ _ (inr (inl ((n.0.0.1, n.0.1.1), (x.number, (x.mark, x.below), x.behind))), ((n.0.0.0, n.0.1.0, x.outermost), h))
+        anew _ _ (inr (inl ((n.0.0.1, n.0.1.1), (x.number, (x.mark, x.below), x.behind), n.2.1)), ((n.0.0.0, n.0.1.0, x.outermost, n.2.0), h))
 
     pub rest_of : (ss : Stmts) (todo : List Todo) → CodeRest g (here s) made ss todo → O [] todo → PutStep g (quiet.rest_step ss todo s)
     rest_of src.Nil todo n h = anew _ _ h
     rest_of (src.Then a ss) todo (inl n) h =
-        anew _ _ ((n.0.0, marks.stmt_more g.table g.source g.special made (OpensRest (piece.Rest ss ∷ todo)) (OpensRest (piece.Rest ss ∷ todo)) (λ x i y. y) a n.1.0), (inl (n.0.1, n.1.1), h))
+        anew _ _ ((n.0.0, marks.stmt_more g.table g.source g.special made (OpensRest g.table (piece.Rest ss ∷ todo)) (OpensRest g.table (piece.Rest ss ∷ todo)) (λ x i y. y) a n.1.0), (inl (n.0.1, n.1.1), h))
     rest_of (src.Scoped c ss) todo (inl n) h = scoped c ss todo n h
     rest_of (src.Built c ss) todo (inl n) h = built c ss todo n h
-    rest_of (src.Then a ss) todo (inr (inl n)) h = anew _ _ ((n.0.0.0, n.0.1.0), (inr (inl ((n.0.0.1, n.0.1.1), n.1)), h))
+    rest_of (src.Then a ss) todo (inr (inl n)) h = anew _ _ ((n.0.0.0, n.0.1.0), (inr (inl ((n.0.0.1, n.0.1.1), n.1, n.2)), h))
     rest_of (src.Scoped c ss) todo (inr (inl n)) h = own_scoped c ss todo n h
     rest_of (src.Built c ss) todo (inr (inl n)) h = own_built c ss todo n h
-    rest_of (src.Scoped src.Ends ss) todo (inr (inr n)) h = anew _ _ (inr (inl ((n.1.1, n.2.0), (0, (tt, n.3), n.2.1))), (tt, h))
-    rest_of (src.Scoped (src.Frees r) ss) todo (inr (inr n)) h = anew _ _ (inr (inl ((n.1.1, n.2.1), (0, (tt, n.3), n.2.2))), (n.2.0, h))
+    rest_of (src.Scoped src.Ends ss) todo (inr (inr n)) h = anew _ _ (inr (inl ((n.1.1, n.2.0), (0, (tt, n.3), n.2.1), n.5.1)), (tt, h))
+    rest_of (src.Scoped (src.Frees r) ss) todo (inr (inr n)) h = anew _ _ (inr (inl ((n.1.1, n.2.1), (0, (tt, n.3), n.2.2), n.5.1)), (n.2.0, h))
     rest_of ss todo (inr (inr n)) h = absurd n.2
 
     pub land : (o : Option UnwindReason) (ms : List Mark) (todo : List Todo) → H ms s.run.operands → O ms todo → PutStep g (quiet.land_step o todo s)
@@ -256,18 +262,55 @@ module _ (g : Setting) where
     thrown e todo h = throws e todo (gone [] todo h)
 
     -- the activation that raised goes on without the event
-    handles : (ms : List Mark) (f : Option Found) (e : raising.Event) (todo : List Todo) → H ms s.run.operands → todos.OfFound g f → FoundBehind g f todo s → O (rests 3 ms) todo → PutStep g (raising.handle_step f e todo s)
+    abbrev Raising : List Todo → List Value → Active
+    Raising todo vs = record s.run { control = piece.DropNow ∷ todo; operands = vs }
+
+    -- what is known of a handler that is found from there on
+    record Handling (round : List Active) (f : Option Found) : Type 0 where
+      code : (x e : ℕ) → Searched g.table g.source g.special x None e round → FoundCode g.table g.source g.special x e f
+      path : (x e : ℕ) → Searched g.table g.source g.special x None e round → PathOf g.table g.source g.special x e round f
+
+    handles : (ms : List Mark) (f : Option Found) (e : raising.Event) (todo : List Todo) → H ms s.run.operands → todos.OfFound g f → Handling (Raising todo (below (below (below s.run.operands))) ∷ s.callers) f → O (rests 3 ms) todo → PutStep g (raising.handle_step f e todo s)
     handles ms None e todo k n y h = throws e todo (gone (rests 3 ms) todo h)
     handles ms (Some f) e todo k n y h = record {
-      run = record { made = record { builds = false; low = y.low }; this = record { own = λ q. absurd (cc); alone = λ q. absurd (cc); spare = y.spare }; marks = []; holds = tt; ok = todos.handled g (record { exec = s.env.exec; frame = f.frame; this = f.this; older = (record s.run { control = piece.DropNow ∷ todo; operands = below (below (below s.run.operands)) }) ∷ s.callers }) (record { builds = false; low = y.low }) f.handler [] (n, y.code) tt };
+      run = record {
+        made = from_variable (rounds f.frame).cell;
+        this = record {
+          own = λ q. absurd (cc);
+          alone = λ q. absurd (cc);
+          spare = (rounds f.frame).spare;
+          after = y.path (rounds f.frame).cell f.frame (rounds f.frame).code;
+          beyond = λ d q. record {
+            cell = (rounds d).cell;
+            spare = (rounds d).spare;
+            past = λ h. absurd h;
+            code = y.path (rounds d).cell d (rounds d).code;
+          };
+        };
+        marks = [];
+        holds = tt;
+        ok = todos.handled g (record { exec = s.env.exec; frame = f.frame; handles = Some f.visited; this = f.this; older = round }) (from_variable (rounds f.frame).cell) f.handler [] (n, y.code (rounds f.frame).cell f.frame (rounds f.frame).code refl) tt;
+      };
       callers = (finds 1 (rests 3 ms) (piece.DropNow ∷ todo) _ (holds_below g.few (here s) (rests 2 ms) _ (holds_below g.few (here s) (rests 1 ms) _ (holds_below g.few (here s) ms _ k))) (tt, h), callers);
       env = todos.likes g env refl refl refl;
     }
+      where
+        round : List Active
+        round = Raising todo (below (below (below s.run.operands))) ∷ s.callers
 
-    pub raises : (ms : List Mark) (e : raising.Event) (todo : List Todo) → H ms s.run.operands → FoundBehind g (raising.seek None e ((record s.run { control = todo }) ∷ s.callers)) todo s → O (rests 3 ms) todo → PutStep g (raising.raise_step e todo s)
-    raises ms e todo k y h =
-        let round : List Active = (record s.run { control = todo }) ∷ s.callers in
-        handles ms (raising.seek None e round) e todo k (todos.seek g s.env.exec None e round (record { made = made; rest = gone (rests 3 ms) todo h; seat = this }, waits_left g s.env.exec s.callers callers)) y h
+        rounds : (d : ℕ) → RoundIn g s.env.exec (Raising todo (below (below (below s.run.operands)))) s.callers made this (gone (rests 3 ms) todo h) d
+        rounds d = seats.round_in g s.env.exec (Raising todo (below (below (below s.run.operands)))) s.callers made this (gone (rests 3 ms) todo h) d
+
+    pub raises : (ms : List Mark) (e : raising.Event) (todo : List Todo) → H ms s.run.operands → O (rests 3 ms) todo → PutStep g (raising.raise_step e todo s)
+    raises ms e todo k h =
+        let raised : Active = record s.run { control = todo } in
+        let behind : Active = Raising todo (below (below (below s.run.operands))) in
+        let same : raising.seek None e (behind ∷ s.callers) ≡ raising.seek None e (raised ∷ s.callers) = searches.seek_like e raised behind s.callers refl refl refl refl in
+        let found : Option Found = raising.seek None e (raised ∷ s.callers) in
+        handles ms found e todo k (todos.seek g s.env.exec None e (raised ∷ s.callers) (record { made = made; rest = gone (rests 3 ms) todo h; seat = this }, waits_left g s.env.exec s.callers callers)) (record {
+          code = λ x d c. subst (FoundCode g.table g.source g.special x d) same (searches.found_code g.table g.source g.special x d None e (behind ∷ s.callers) c);
+          path = λ x d c. subst (PathOf g.table g.source g.special x d (behind ∷ s.callers)) same (searches.path g.table g.source g.special x d None e (behind ∷ s.callers) c);
+        }) h
 
     -- unwinding
 
@@ -408,39 +451,33 @@ module _ (g : Setting) where
       -- a place is bound
       binds : (a : Expr) (todo : List Todo) → Counts g a → Binds g.table g.source g.special made a → O (Any ∷ ms) todo → PutStep g (quiet.eval_step a todo s)
       binds (src.OfObject (src.Bind a e)) todo n (b, inl q) h =
-          go ms _ _ holds (n.0, inr (inr (inr (inr (inl (marks.place_more g.table g.source g.special made made same_spot AnySite (λ x. O (At x ∷ ms) (piece.Eval e ∷ (piece.BindNow ∷ todo))) (λ p i y. (n.1, inl (q, (i, h)))) a b))))))
+          go ms _ _ holds (n.0, inr (inr (inr (inr (inl (marks.place_more g.table g.source g.special made made same_spot AnyPlace (λ m p. O (At (Under None m p) ∷ ms) (piece.Eval e ∷ (piece.BindNow ∷ todo))) (λ m p i y. (n.1, inl (q, (i, h)))) a b))))))
       binds (src.OfObject (src.Bind a e)) todo n (b, inr q) h =
-          go ms _ _ holds (n.0, inr (inr (inr (inr (inl (marks.place_more g.table g.source g.special made made same_spot AnySite (λ x. O (At x ∷ ms) (piece.Eval e ∷ (piece.BindNow ∷ todo))) (λ p i y. (n.1, inr (inr (inl (q, (i, h)))))) a b))))))
+          go ms _ _ holds (n.0, inr (inr (inr (inr (inl (marks.place_more g.table g.source g.special made made same_spot AnyPlace (λ m p. O (At (Under None m p) ∷ ms) (piece.Eval e ∷ (piece.BindNow ∷ todo))) (λ m p i y. (n.1, inr (inr (inl (q, (i, h)))))) a b))))))
       binds a todo n b h = absurd b
 
       -- what is no mutex object is called where it is under a spot
-      called_fits : (p : Spot) (n r : ℕ) (todo : List Todo) → n ≡ params g.source r → is_opening g.source r ≡ false → IsOf made p → LoneAt g.table g.few (here s) todo (Under p) → todos.CallsFit g (here s) made r (anys n (At (Under p) ∷ ms)) todo
-      called_fits p n r todo e o i l = inr (inl (o, todos.under g (λ ns. FirstUnder ns (λ q. IsOf made q × LoneAt g.table g.few (here s) todo (Under q))) n r (At (Under p) ∷ ms) e (i, l)))
+      called_fits : (m : ℕ) (p : Spot) (n r : ℕ) (todo : List Todo) → n ≡ params g.source r → is_opening g.source r ≡ false → IsOf made p → todos.Lones g (here s) made todo (Under (g.table.routine r).this m p) → todos.CallsFit g (here s) made r (anys n (At (Under None m p) ∷ ms)) todo
+      called_fits m p n r todo e o i l = inr (inl (o, todos.under g (λ ns. FirstUnder ns (λ j q. IsOf made q × SeatAt g (here s) made todo (Under (g.table.routine r).this j q))) n r (At (Under None m p) ∷ ms) e (i, l)))
 
-      calls : (a : Expr) (todo : List Todo) → Counts g a → CallsAt g.table g.source g.special made (LoneAt g.table g.few (here s) todo) a → O (Any ∷ ms) todo → PutStep g (quiet.eval_step a todo s)
+      calls : (a : Expr) (todo : List Todo) → Counts g a → CallsAt g.table g.source g.special made (todos.Lones g (here s) made todo) a → O (Any ∷ ms) todo → PutStep g (quiet.eval_step a todo s)
       calls (src.OfObject (src.CallOn r a args)) todo n b h =
-          go ms _ _ holds (n.0, inr (inr (inr (inr (inl (marks.place_more g.table g.source g.special made made same_spot (LoneAt g.table g.few (here s) todo) (λ x. O (At x ∷ ms) (piece.Arguments args ∷ (piece.TickNow ∷ (piece.CallOnNow r ∷ todo)))) called_at a b.1))))))
+          go ms _ _ holds (n.0, inr (inr (inr (inr (inl (marks.place_more g.table g.source g.special made made same_spot (λ m p. todos.Lones g (here s) made todo (Under (g.table.routine r).this m p)) (λ m p. O (At (Under None m p) ∷ ms) (piece.Arguments args ∷ (piece.TickNow ∷ (piece.CallOnNow r ∷ todo)))) called_at a b.1))))))
         where
-          called_at : (p : Spot) → IsOf made p → LoneAt g.table g.few (here s) todo (Under p) → O (At (Under p) ∷ ms) (piece.Arguments args ∷ (piece.TickNow ∷ (piece.CallOnNow r ∷ todo)))
-          called_at p i l = ((n.1, b.2), (tt, (called_fits p (count args) r todo n.2 b.0 i l, on (count args) r (At (Under p)) todo n.2 h)))
+          called_at : (m : ℕ) (p : Spot) → IsOf made p → todos.Lones g (here s) made todo (Under (g.table.routine r).this m p) → O (At (Under None m p) ∷ ms) (piece.Arguments args ∷ (piece.TickNow ∷ (piece.CallOnNow r ∷ todo)))
+          called_at m p i l = ((n.1, b.2), (tt, (called_fits m p (count args) r todo n.2 b.0 i l, on (count args) r (At (Under None m p)) todo n.2 h)))
       calls (src.OfObject (src.CallUnwritten r a)) todo n b h =
-          go ms _ _ holds (n.0, inr (inr (inr (inr (inl (marks.place_more g.table g.source g.special made made same_spot (LoneAt g.table g.few (here s) todo) (λ x. O (At x ∷ ms) (piece.CallUnwrittenNow r ∷ todo)) called_at a b.1))))))
+          go ms _ _ holds (n.0, inr (inr (inr (inr (inl (marks.place_more g.table g.source g.special made made same_spot (λ m p. todos.Lones g (here s) made todo (Under (g.table.routine r).this m p)) (λ m p. O (At (Under None m p) ∷ ms) (piece.CallUnwrittenNow r ∷ todo)) called_at a b.1))))))
         where
-          called_at : (p : Spot) → IsOf made p → LoneAt g.table g.few (here s) todo (Under p) → O (At (Under p) ∷ ms) (piece.CallUnwrittenNow r ∷ todo)
-          called_at p i l = (called_fits p 0 r todo n.1 b.0 i l, on 0 r (At (Under p)) todo n.1 h)
+          called_at : (m : ℕ) (p : Spot) → IsOf made p → todos.Lones g (here s) made todo (Under (g.table.routine r).this m p) → O (At (Under None m p) ∷ ms) (piece.CallUnwrittenNow r ∷ todo)
+          called_at m p i l = (called_fits m p 0 r todo n.1 b.0 i l, on 0 r (At (Under None m p)) todo n.1 h)
       calls a todo n b h = absurd b
 
-      place : (e : Expr) (todo : List Todo) → Counts g e → PlaceAt g.table g.source g.special made (λ x. O (At x ∷ ms) todo) e → PutStep g (quiet.eval_step e todo s)
-      place (src.Variable k) todo n p = go (At (Under (OfVariable k)) ∷ ms) _ _ (same_place, holds) p.1
-      place (src.OfObject (src.OwnField k i)) todo n p = go (At (Under (OfField k i)) ∷ ms) _ _ (same_place, holds) p.1
+      place : (e : Expr) (todo : List Todo) → Counts g e → PlaceAt g.table g.source g.special made (λ m p. O (At (Under None m p) ∷ ms) todo) e → PutStep g (quiet.eval_step e todo s)
+      place (src.Variable k) todo n p = go (At (Under None 1 (OfVariable k)) ∷ ms) _ _ ((omega arith, same_place), holds) p.1
+      place (src.OfObject (src.OwnField k i)) todo n p = go (At (Under None 1 (OfField k i)) ∷ ms) _ _ ((omega arith, same_place), holds) p.1
       place (src.Element m k a i) todo n p =
-          go ms _ _ holds (n.0, inr (inr (inr (inr (inl (entered_at a p.0))))))
-        where
-          entered_at : (a : Expr) → PlaceAt g.table g.source g.special made (λ x. O (At x ∷ ms) todo) a → PlaceAt g.table g.source g.special made (λ x. O (At x ∷ ms) (piece.Eval i ∷ (piece.ElementNow m k ∷ todo))) a
-          entered_at (src.Variable v) q = (q.0, (n.1, inl (p.1, inr q.1)))
-          entered_at (src.OfObject (src.OwnField v j)) q = (q.0, (n.1, inl (p.1, inr q.1)))
-          entered_at (src.Element l v x j) q = (entered_at x q.0, q.1)
-          entered_at x q = absurd q
+          go ms _ _ holds (n.0, inr (inr (inr (inr (inl (marks.place_more g.table g.source g.special made made same_spot (λ j q. O (At (Under None m q) ∷ ms) todo) (λ j q. O (At (Under None j q) ∷ ms) (piece.Eval i ∷ (piece.ElementNow m k ∷ todo))) (λ j q y h. (n.1, inl (p.1, inr h))) a p.0))))))
       place e todo n p = absurd p
 
       -- a place at a site
@@ -460,51 +497,51 @@ module _ (g : Setting) where
 
       -- what is known of the site of an object that is made or ended
       abbrev pub LoneNamed : List Todo → Site → Type 0
-      LoneNamed todo x = IsIn made x × LoneAt g.table g.few (here s) todo x
+      LoneNamed todo x = IsIn made x × SeatAt g (here s) made todo x × OfObjects x
 
       -- its place lies below the arguments of what makes an object there
-      made_site : (x : Site) → IsIn made x → (n r : ℕ) (todo : List Todo) → n ≡ params g.source r → LoneAt g.table g.few (here s) todo x → O (Any ∷ ms) todo → FirstAt (rests (params g.source r) (anys n (At x ∷ ms))) (λ y. IsIn made y × (todos.CallsFit g (here s) made r (made_marks g r (Homed y) (anys n (At x ∷ ms))) todo × O (Any ∷ rests (suc (params g.source r)) (made_marks g r (Homed y) (anys n (At x ∷ ms)))) todo))
-      made_site x i n r todo e o h =
-          let fits : todos.CallsFit g (here s) made r (anys (params g.source r) (Homed x ∷ ms)) todo = inr (inr (subst (λ ns. FirstHome ns (LoneNamed todo)) (sym (rests_anys (params g.source r) (Homed x ∷ ms))) (i, o))) in
+      made_site : (x : Site) → OfObjects x → IsIn made x → (n r : ℕ) (todo : List Todo) → n ≡ params g.source r → SeatAt g (here s) made todo x → O (Any ∷ ms) todo → FirstAt (rests (params g.source r) (anys n (At x ∷ ms))) (λ y. IsIn made y × (todos.CallsFit g (here s) made r (made_marks g r (Homed y) (anys n (At x ∷ ms))) todo × O (Any ∷ rests (suc (params g.source r)) (made_marks g r (Homed y) (anys n (At x ∷ ms)))) todo))
+      made_site x z i n r todo e o h =
+          let fits : todos.CallsFit g (here s) made r (anys (params g.source r) (Homed x ∷ ms)) todo = inr (inr (subst (λ ns. FirstHome ns (LoneNamed todo)) (sym (rests_anys (params g.source r) (Homed x ∷ ms))) (i, o, z))) in
           todos.under g (λ ns. FirstAt ns (λ y. IsIn made y × (todos.CallsFit g (here s) made r (made_marks g r (Homed y) (anys n (At x ∷ ms))) todo × O (Any ∷ rests (suc (params g.source r)) (made_marks g r (Homed y) (anys n (At x ∷ ms)))) todo))) n r (At x ∷ ms) e (i, todos.made_on g (here s) made n r (At x) (Homed x) ms todo e fits h)
 
       -- what ends an object there finds it without arguments
-      ends_site : (x : Site) → IsIn made x → (r : ℕ) (todo : List Todo) → 0 ≡ params g.source r → LoneAt g.table g.few (here s) todo x → todos.CallsFit g (here s) made r (Homed x ∷ ms) todo
-      ends_site x i r todo e l = inr (inr (todos.under g (λ ns. FirstHome ns (LoneNamed todo)) 0 r (Homed x ∷ ms) e (i, l)))
+      ends_site : (x : Site) → OfObjects x → IsIn made x → (r : ℕ) (todo : List Todo) → 0 ≡ params g.source r → SeatAt g (here s) made todo x → todos.CallsFit g (here s) made r (Homed x ∷ ms) todo
+      ends_site x z i r todo e l = inr (inr (todos.under g (λ ns. FirstHome ns (LoneNamed todo)) 0 r (Homed x ∷ ms) e (i, l, z)))
 
       -- what makes a mutex object at a spot, and at an element
-      makes : (a : Expr) (todo : List Todo) → Counts g a → MakesAt g.table g.source g.special made (LoneAt g.table g.few (here s) todo) a → O (Any ∷ ms) todo → PutStep g (quiet.eval_step a todo s)
-      makes (src.OfObject (src.MakeOn c r true (src.Variable k) args)) todo n b h = go ms _ _ holds (n.0, inr (inr (inr (inr (inr (inl ((n.1, b.2), (tt, made_site (One (OfVariable k)) b.1 (count args) r todo n.2 b.0 h))))))))
-      makes (src.OfObject (src.MakeOn c r true (src.OfObject (src.OwnField k i)) args)) todo n b h = go ms _ _ holds (n.0, inr (inr (inr (inr (inr (inl ((n.1, b.2), (tt, made_site (One (OfField k i)) b.1 (count args) r todo n.2 b.0 h))))))))
-      makes (src.OfObject (src.MakeOn c r false (src.Variable k) args)) todo n b h = go ms _ _ holds (n.0, inr (inr (inr (inr (inr (inl ((n.1, b.2), made_site (One (OfVariable k)) b.1 (count args) r todo n.2 b.0 h)))))))
-      makes (src.OfObject (src.MakeOn c r false (src.OfObject (src.OwnField k i)) args)) todo n b h = go ms _ _ holds (n.0, inr (inr (inr (inr (inr (inl ((n.1, b.2), made_site (One (OfField k i)) b.1 (count args) r todo n.2 b.0 h)))))))
+      makes : (a : Expr) (todo : List Todo) → Counts g a → MakesAt g.table g.source g.special made (todos.Lones g (here s) made todo) a → O (Any ∷ ms) todo → PutStep g (quiet.eval_step a todo s)
+      makes (src.OfObject (src.MakeOn c r true (src.Variable k) args)) todo n b h = go ms _ _ holds (n.0, inr (inr (inr (inr (inr (inl ((n.1, b.2), (tt, made_site (One (OfVariable k)) tt b.1 (count args) r todo n.2 b.0 h))))))))
+      makes (src.OfObject (src.MakeOn c r true (src.OfObject (src.OwnField k i)) args)) todo n b h = go ms _ _ holds (n.0, inr (inr (inr (inr (inr (inl ((n.1, b.2), (tt, made_site (One (OfField k i)) tt b.1 (count args) r todo n.2 b.0 h))))))))
+      makes (src.OfObject (src.MakeOn c r false (src.Variable k) args)) todo n b h = go ms _ _ holds (n.0, inr (inr (inr (inr (inr (inl ((n.1, b.2), made_site (One (OfVariable k)) tt b.1 (count args) r todo n.2 b.0 h)))))))
+      makes (src.OfObject (src.MakeOn c r false (src.OfObject (src.OwnField k i)) args)) todo n b h = go ms _ _ holds (n.0, inr (inr (inr (inr (inr (inl ((n.1, b.2), made_site (One (OfField k i)) tt b.1 (count args) r todo n.2 b.0 h)))))))
       makes a todo n b h = absurd b
 
-      makes_each : (a : Expr) (todo : List Todo) → Counts g a → MakesEach g.table g.source g.special made (LoneAt g.table g.few (here s) todo) a → O (Any ∷ ms) todo → PutStep g (quiet.eval_step a todo s)
-      makes_each (src.OfObject (src.MakeOn c r true (src.Element m src.Binding (src.Variable k) (src.OfObject src.Counted)) args)) todo n b h = go ms _ _ holds (n.0, inr (inr (inr (inr (inr (inl ((n.1, b.2), (tt, made_site (Each m (OfVariable k)) b.1 (count args) r todo n.2 b.0 h))))))))
-      makes_each (src.OfObject (src.MakeOn c r true (src.Element m src.Binding (src.OfObject (src.OwnField k i)) (src.OfObject src.Counted)) args)) todo n b h = go ms _ _ holds (n.0, inr (inr (inr (inr (inr (inl ((n.1, b.2), (tt, made_site (Each m (OfField k i)) b.1 (count args) r todo n.2 b.0 h))))))))
-      makes_each (src.OfObject (src.MakeOn c r false (src.Element m src.Binding (src.Variable k) (src.OfObject src.Counted)) args)) todo n b h = go ms _ _ holds (n.0, inr (inr (inr (inr (inr (inl ((n.1, b.2), made_site (Each m (OfVariable k)) b.1 (count args) r todo n.2 b.0 h)))))))
-      makes_each (src.OfObject (src.MakeOn c r false (src.Element m src.Binding (src.OfObject (src.OwnField k i)) (src.OfObject src.Counted)) args)) todo n b h = go ms _ _ holds (n.0, inr (inr (inr (inr (inr (inl ((n.1, b.2), made_site (Each m (OfField k i)) b.1 (count args) r todo n.2 b.0 h)))))))
+      makes_each : (a : Expr) (todo : List Todo) → Counts g a → MakesEach g.table g.source g.special made (todos.Lones g (here s) made todo) a → O (Any ∷ ms) todo → PutStep g (quiet.eval_step a todo s)
+      makes_each (src.OfObject (src.MakeOn c r true (src.Element m src.Binding (src.Variable k) (src.OfObject src.Counted)) args)) todo n b h = go ms _ _ holds (n.0, inr (inr (inr (inr (inr (inl ((n.1, b.2), (tt, made_site (Each m (OfVariable k)) tt b.1 (count args) r todo n.2 b.0 h))))))))
+      makes_each (src.OfObject (src.MakeOn c r true (src.Element m src.Binding (src.OfObject (src.OwnField k i)) (src.OfObject src.Counted)) args)) todo n b h = go ms _ _ holds (n.0, inr (inr (inr (inr (inr (inl ((n.1, b.2), (tt, made_site (Each m (OfField k i)) tt b.1 (count args) r todo n.2 b.0 h))))))))
+      makes_each (src.OfObject (src.MakeOn c r false (src.Element m src.Binding (src.Variable k) (src.OfObject src.Counted)) args)) todo n b h = go ms _ _ holds (n.0, inr (inr (inr (inr (inr (inl ((n.1, b.2), made_site (Each m (OfVariable k)) tt b.1 (count args) r todo n.2 b.0 h)))))))
+      makes_each (src.OfObject (src.MakeOn c r false (src.Element m src.Binding (src.OfObject (src.OwnField k i)) (src.OfObject src.Counted)) args)) todo n b h = go ms _ _ holds (n.0, inr (inr (inr (inr (inr (inl ((n.1, b.2), made_site (Each m (OfField k i)) tt b.1 (count args) r todo n.2 b.0 h)))))))
       makes_each a todo n b h = absurd b
 
       -- what ends one there
-      ends_at_spot : (a : Expr) (todo : List Todo) → Counts g a → EndsAt g.table g.source g.special made (LoneAt g.table g.few (here s) todo) a → O (Any ∷ ms) todo → PutStep g (quiet.eval_step a todo s)
-      ends_at_spot (src.OfObject (src.EndOn r true (src.Load (src.Variable k)))) todo n b h = go ms _ _ holds (n.0, inr (inr (inr (inr (inr (inr (inl (refl, (tt, (tt, (ends_site (One (OfVariable k)) b.1 r todo n.1 b.0, on 0 r (Homed (One (OfVariable k))) todo n.1 h)))))))))))
-      ends_at_spot (src.OfObject (src.EndOn r true (src.Load (src.OfObject (src.OwnField k i))))) todo n b h = go ms _ _ holds (n.0, inr (inr (inr (inr (inr (inr (inl (refl, (tt, (tt, (ends_site (One (OfField k i)) b.1 r todo n.1 b.0, on 0 r (Homed (One (OfField k i))) todo n.1 h)))))))))))
-      ends_at_spot (src.OfObject (src.EndOn r false (src.Load (src.Variable k)))) todo n b h = go ms _ _ holds (n.0, inr (inr (inr (inr (inr (inr (inl (refl, (tt, (ends_site (One (OfVariable k)) b.1 r todo n.1 b.0, on 0 r (Homed (One (OfVariable k))) todo n.1 h))))))))))
-      ends_at_spot (src.OfObject (src.EndOn r false (src.Load (src.OfObject (src.OwnField k i))))) todo n b h = go ms _ _ holds (n.0, inr (inr (inr (inr (inr (inr (inl (refl, (tt, (ends_site (One (OfField k i)) b.1 r todo n.1 b.0, on 0 r (Homed (One (OfField k i))) todo n.1 h))))))))))
+      ends_at_spot : (a : Expr) (todo : List Todo) → Counts g a → EndsAt g.table g.source g.special made (todos.Lones g (here s) made todo) a → O (Any ∷ ms) todo → PutStep g (quiet.eval_step a todo s)
+      ends_at_spot (src.OfObject (src.EndOn r true (src.Load (src.Variable k)))) todo n b h = go ms _ _ holds (n.0, inr (inr (inr (inr (inr (inr (inl (refl, (tt, (tt, (ends_site (One (OfVariable k)) tt b.1 r todo n.1 b.0, on 0 r (Homed (One (OfVariable k))) todo n.1 h)))))))))))
+      ends_at_spot (src.OfObject (src.EndOn r true (src.Load (src.OfObject (src.OwnField k i))))) todo n b h = go ms _ _ holds (n.0, inr (inr (inr (inr (inr (inr (inl (refl, (tt, (tt, (ends_site (One (OfField k i)) tt b.1 r todo n.1 b.0, on 0 r (Homed (One (OfField k i))) todo n.1 h)))))))))))
+      ends_at_spot (src.OfObject (src.EndOn r false (src.Load (src.Variable k)))) todo n b h = go ms _ _ holds (n.0, inr (inr (inr (inr (inr (inr (inl (refl, (tt, (ends_site (One (OfVariable k)) tt b.1 r todo n.1 b.0, on 0 r (Homed (One (OfVariable k))) todo n.1 h))))))))))
+      ends_at_spot (src.OfObject (src.EndOn r false (src.Load (src.OfObject (src.OwnField k i))))) todo n b h = go ms _ _ holds (n.0, inr (inr (inr (inr (inr (inr (inl (refl, (tt, (ends_site (One (OfField k i)) tt b.1 r todo n.1 b.0, on 0 r (Homed (One (OfField k i))) todo n.1 h))))))))))
       ends_at_spot a todo n b h = absurd b
 
-      ends_each : (a : Expr) (todo : List Todo) → Counts g a → EndsEach g.table g.source g.special made (LoneAt g.table g.few (here s) todo) a → O (Any ∷ ms) todo → PutStep g (quiet.eval_step a todo s)
-      ends_each (src.OfObject (src.EndOn r true (src.Load (src.Element m src.Binding (src.Variable k) (src.OfObject src.Counted))))) todo n b h = go ms _ _ holds (n.0, inr (inr (inr (inr (inr (inr (inl (refl, (tt, (tt, (ends_site (Each m (OfVariable k)) b.1 r todo n.1 b.0, on 0 r (Homed (Each m (OfVariable k))) todo n.1 h)))))))))))
-      ends_each (src.OfObject (src.EndOn r true (src.Load (src.Element m src.Binding (src.OfObject (src.OwnField k i)) (src.OfObject src.Counted))))) todo n b h = go ms _ _ holds (n.0, inr (inr (inr (inr (inr (inr (inl (refl, (tt, (tt, (ends_site (Each m (OfField k i)) b.1 r todo n.1 b.0, on 0 r (Homed (Each m (OfField k i))) todo n.1 h)))))))))))
-      ends_each (src.OfObject (src.EndOn r false (src.Load (src.Element m src.Binding (src.Variable k) (src.OfObject src.Counted))))) todo n b h = go ms _ _ holds (n.0, inr (inr (inr (inr (inr (inr (inl (refl, (tt, (ends_site (Each m (OfVariable k)) b.1 r todo n.1 b.0, on 0 r (Homed (Each m (OfVariable k))) todo n.1 h))))))))))
-      ends_each (src.OfObject (src.EndOn r false (src.Load (src.Element m src.Binding (src.OfObject (src.OwnField k i)) (src.OfObject src.Counted))))) todo n b h = go ms _ _ holds (n.0, inr (inr (inr (inr (inr (inr (inl (refl, (tt, (ends_site (Each m (OfField k i)) b.1 r todo n.1 b.0, on 0 r (Homed (Each m (OfField k i))) todo n.1 h))))))))))
+      ends_each : (a : Expr) (todo : List Todo) → Counts g a → EndsEach g.table g.source g.special made (todos.Lones g (here s) made todo) a → O (Any ∷ ms) todo → PutStep g (quiet.eval_step a todo s)
+      ends_each (src.OfObject (src.EndOn r true (src.Load (src.Element m src.Binding (src.Variable k) (src.OfObject src.Counted))))) todo n b h = go ms _ _ holds (n.0, inr (inr (inr (inr (inr (inr (inl (refl, (tt, (tt, (ends_site (Each m (OfVariable k)) tt b.1 r todo n.1 b.0, on 0 r (Homed (Each m (OfVariable k))) todo n.1 h)))))))))))
+      ends_each (src.OfObject (src.EndOn r true (src.Load (src.Element m src.Binding (src.OfObject (src.OwnField k i)) (src.OfObject src.Counted))))) todo n b h = go ms _ _ holds (n.0, inr (inr (inr (inr (inr (inr (inl (refl, (tt, (tt, (ends_site (Each m (OfField k i)) tt b.1 r todo n.1 b.0, on 0 r (Homed (Each m (OfField k i))) todo n.1 h)))))))))))
+      ends_each (src.OfObject (src.EndOn r false (src.Load (src.Element m src.Binding (src.Variable k) (src.OfObject src.Counted))))) todo n b h = go ms _ _ holds (n.0, inr (inr (inr (inr (inr (inr (inl (refl, (tt, (ends_site (Each m (OfVariable k)) tt b.1 r todo n.1 b.0, on 0 r (Homed (Each m (OfVariable k))) todo n.1 h))))))))))
+      ends_each (src.OfObject (src.EndOn r false (src.Load (src.Element m src.Binding (src.OfObject (src.OwnField k i)) (src.OfObject src.Counted))))) todo n b h = go ms _ _ holds (n.0, inr (inr (inr (inr (inr (inr (inl (refl, (tt, (ends_site (Each m (OfField k i)) tt b.1 r todo n.1 b.0, on 0 r (Homed (Each m (OfField k i))) todo n.1 h))))))))))
       ends_each a todo n b h = absurd b
 
-      ends_number : (a : Expr) (todo : List Todo) → Counts g a → EndsNumber g.table g.source g.special made a → O (Any ∷ ms) todo → PutStep g (quiet.eval_step a todo s)
-      ends_number (src.OfObject (src.EndCluster (src.Load p))) todo n b h = go ms _ _ holds (n, inl (place_plain g made AnySite p b, (tt, h)))
-      ends_number (src.OfObject (src.EndProcessor (src.Load p))) todo n b h = go ms _ _ holds (n, inl (place_plain g made AnySite p b, (tt, h)))
+      ends_number : (a : Expr) (todo : List Todo) → Counts g a → EndsNumber g.table g.source g.special made AnySite a → O (Any ∷ ms) todo → PutStep g (quiet.eval_step a todo s)
+      ends_number (src.OfObject (src.EndCluster (src.Load p))) todo n b h = go ms _ _ holds (n, inl (place_plain g made AnyPlace p b, (tt, h)))
+      ends_number (src.OfObject (src.EndProcessor (src.Load p))) todo n b h = go ms _ _ holds (n, inl (place_plain g made AnyPlace p b, (tt, h)))
       ends_number a todo n b h = absurd b
 
       pub evals : (e : Expr) (todo : List Todo) → O ms (piece.Eval e ∷ todo) → PutStep g (quiet.eval_step e todo s)
@@ -536,19 +573,27 @@ module _ (g : Setting) where
       dropped_one : (n : ℕ) → H (rests (suc n) ms) (below (drop n s.run.operands))
       dropped_one n = holds_below g.few (here s) (rests n ms) (drop n s.run.operands) (dropped n)
 
-      -- what is known where the routine x is called, of special ones if b
-      abbrev pub FitsFor : Bool → Option Routine → List Todo → Type 0
-      FitsFor b x todo = (b ≡ false) ⊎ (((opens_at x ≡ false) × FirstUnder (rests (params_at x) ms) (λ p. IsOf made p × LoneAt g.table g.few (here s) todo (Under p))) ⊎ FirstHome (rests (params_at x) ms) (LoneNamed todo))
+      -- what is known where the routine x is called, of special ones if b, at an object of the class o
+      abbrev pub FitsFor : Bool → Option ℕ → Option Routine → List Todo → Type 0
+      FitsFor b o x todo = (b ≡ false) ⊎ (((opens_at x ≡ false) × FirstUnder (rests (params_at x) ms) (λ n p. IsOf made p × SeatAt g (here s) made todo (Under o n p))) ⊎ FirstHome (rests (params_at x) ms) (LoneNamed todo))
 
       -- an object is at home in what is the own of this execution, where nothing is cleaned up by what is to do and by activations that wait
       abbrev LoneIn : ℕ → List Todo → Type 0
       LoneIn o todo = Belongs g.few s.env.exec (g.few.home o) × Free g.table g.few o (Outward g.table s.env.exec s.run.frame s.run.this s.callers todo)
 
-      -- it finds its object the execution's own, and nothing around that, nor around mutex objects in it
-      record Finding (b : Bool) (x : Routine) (v : Value) (todo : List Todo) : Type 0 where
+      -- the activation, as it waits for what is called
+      abbrev Waiting : List Todo → List Value → Active
+      Waiting todo vs = record s.run { control = todo; operands = vs }
+
+      abbrev SeatBeyond : Bool → Option ℕ → Value → List Todo → List Value → ℕ → Type 0
+      SeatBeyond b o v todo vs f = Beyond g.table g.source g.special g.few (reach_of b o) s.env.exec (Waiting todo vs ∷ s.callers) None v f
+
+      -- it finds its object the execution's own, nothing around that, nor around mutex objects in it, and handlers behind it
+      record Finding (b : Bool) (o : Option ℕ) (x : Routine) (v : Value) (todo : List Todo) : Type 0 where
         own : b ≡ true → BelongsBelow g.few s.env.exec (length s.env.frames) v
         alone : b ≡ true → NoneWithin g.table g.few (Outward g.table s.env.exec s.run.frame s.run.this s.callers todo) v
         lone : b ≡ true → opens_object x.body ≡ true → LoneIn (piece.object_in v) todo
+        beyond : L todo → (vs : List Value) (f : ℕ) → SeatBeyond b o v todo vs f
 
       -- the frame is one of those of the execution
       pub record InFrames : Type 0 where
@@ -559,42 +604,108 @@ module _ (g : Setting) where
       below_next : InFrames → s.run.frame < length s.env.frames
       below_next z = let c = z.count in let l = z.low in omega (arith, c, l)
 
-      plain_finding : (z : InFrames) (b : Bool) (x : Routine) (v : Value) (todo : List Todo) → opens_at (Some x) ≡ false → (p : Spot) → LiesUnder (spot_at g.few (here s) p) v → IsOf made p → LoneAt g.table g.few (here s) todo (Under p) → Finding b x v todo
-      plain_finding z b x v todo e p u i l = record {
-        own = λ q. under_spot g.few (here s) made this.own (length s.env.frames) (below_next z) p i v u;
-        alone = λ q k w c h. l w c (in_under g.few (spot_at g.few (here s) p) (piece.further k v) (further_on k u) w h);
-        lone = λ q o. no_both (opens_object x.body) o e;
+      -- in frames
+
+      rounds : (todo : List Todo) (vs : List Value) (l : L todo) (f : ℕ) → RoundIn g s.env.exec (Waiting todo vs) s.callers made this l f
+      rounds todo vs l f = seats.round_in g s.env.exec (Waiting todo vs) s.callers made this l f
+
+      -- what holds no objects has none in its fields
+      class_of : (b : Bool) (o : Option ℕ) → HoldsObjects g.table (reach_of b o).class → HoldsObjects g.table o
+      class_of true o h = h
+      class_of false o h = absurd h
+
+      plain_beyond : (b : Bool) (o : Option ℕ) (v : Value) (todo : List Todo) → b ≡ false → L todo → (vs : List Value) (f : ℕ) → SeatBeyond b o v todo vs f
+      plain_beyond true o v todo e l vs f = no_both true refl e
+      plain_beyond false o v todo e l vs f = record {
+        cell = (rounds todo vs l f).cell;
+        spare = (rounds todo vs l f).spare;
+        past = λ h. absurd h;
+        code = (rounds todo vs l f).code;
       }
 
-      homed_finding : (z : InFrames) (b : Bool) (x : Routine) (v : Value) (todo : List Todo) (y : Site) → HomedAt g.few (here s) y v → IsIn made y → LoneAt g.table g.few (here s) todo y → Finding b x v todo
-      homed_finding z b x v todo y h i l =
+      -- what lies in the object that is found lies at the spot
+      abbrev LiesAt : Spot → Value → Type 0
+      LiesAt p v = (k : Link) (w : Value) → LiesIn g.few (piece.further k v) w → LiesIn g.few (spot_at g.few (here s) p) w
+
+      beyond_at : (b : Bool) (o : Option ℕ) (x : Site) (p : Spot) (v : Value) (todo : List Todo) → BehindBy g (here s) made todo p x → IsOf made p → (HoldsObjects g.table o → MayHold g.table x) → HasSome x → LiesAt p v → L todo → (vs : List Value) (f : ℕ) → SeatBeyond b o v todo vs f
+      beyond_at b o x (OfVariable j) v todo y i may some lies l vs f = by (nat_eq f s.run.frame) refl
+        where
+          own_frame : SeatBeyond b o v todo vs s.run.frame
+          own_frame = record {
+            cell = y.0;
+            spare = λ k w e q st. let a : k < made.low = seats.frame_spare g s.env.exec (Waiting todo vs) s.callers made this l k w e q st in let c : made.low ≤ y.0 = y.1 in omega (arith, a, c);
+            past = λ h k m w q u. let a : k ≡ j = (variable_one g.few s.env.exec s.run.frame k s.run.frame j w q (lies m w u)).1 in let c : j < y.0 = y.4 (may (class_of b o h)) some in omega (arith, a, c);
+            code = (λ e. y.2, y.3);
+          }
+
+          other : (f ≡ s.run.frame → ⊥) → SeatBeyond b o v todo vs f
+          other ne = record {
+            cell = (rounds todo vs l f).cell;
+            spare = (rounds todo vs l f).spare;
+            past = λ h k m w q u. absurd (ne (variable_one g.few s.env.exec f k s.run.frame j w q (lies m w u)).0);
+            code = (rounds todo vs l f).code;
+          }
+
+          by : (c : Bool) → nat_eq f s.run.frame ≡ c → SeatBeyond b o v todo vs f
+          by true e = subst (SeatBeyond b o v todo vs) (sym (eqb-true f s.run.frame e)) own_frame
+          by false e = other (λ q. no_both (nat_eq f s.run.frame) (eq-eqb f s.run.frame q) e)
+      beyond_at b o x (OfField h j) v todo y i may some lies l vs f = record {
+        cell = (rounds todo vs l f).cell;
+        spare = (rounds todo vs l f).spare;
+        past = λ c k m w q u. (rounds todo vs l f).past i (y (may (class_of b o c)) some) k (piece.FieldAt h j) w q (lies m w u);
+        code = (rounds todo vs l f).code;
+      }
+
+      plain_finding : (z : InFrames) (b : Bool) (o : Option ℕ) (x : Routine) (v : Value) (todo : List Todo) → opens_at (Some x) ≡ false → (n : ℕ) (p : Spot) → (0 < n) × LiesUnder (spot_at g.few (here s) p) v → IsOf made p → SeatAt g (here s) made todo (Under o n p) → Finding b o x v todo
+      plain_finding z b o x v todo e n p u i l = record {
+        own = λ q. under_spot g.few (here s) made this.own (length s.env.frames) (below_next z) p i v u.1;
+        alone = λ q k w c h. l.0 w c (in_under g.few (spot_at g.few (here s) p) (piece.further k v) (further_on k u.1) w h);
+        lone = λ q o. no_both (opens_object x.body) o e;
+        beyond = beyond_at b o (Under o n p) p v todo l.1 i (λ h. h) u.0 (λ k w h. in_under g.few (spot_at g.few (here s) p) (piece.further k v) (further_on k u.1) w h);
+      }
+
+      holds_some : (y : Site) → OfObjects y → MayHold g.table y
+      holds_some (One p) z = tt
+      holds_some (Each n p) z = tt
+      holds_some (Under o n p) z = absurd z
+
+      homed_finding : (z : InFrames) (b : Bool) (c : Option ℕ) (x : Routine) (v : Value) (todo : List Todo) (y : Site) → HomedAt g.few (here s) y v → IsIn made y → SeatAt g (here s) made todo y → OfObjects y → Finding b c x v todo
+      homed_finding z b c x v todo y h i l m =
           let p : Spot = site_spot y in
           let o : ℕ = h.2.number in
           let u : LiesUnder (spot_at g.few (here s) p) (g.few.home o) = subst (LiesUnder (spot_at g.few (here s) p)) (sym h.2.home) (stands_under g.few (here s) y h.0 h.1) in
           let below : BelongsBelow g.few s.env.exec (length s.env.frames) (g.few.home o) = under_spot g.few (here s) made this.own (length s.env.frames) (below_next z) p i (g.few.home o) u in
-          let none : NoneWithin g.table g.few (Outward g.table s.env.exec s.run.frame s.run.this s.callers todo) (Object o) = λ k w c j. l w c (in_object_home g.few (spot_at g.few (here s) p) o (there u) k w j) in
-          let lone : LoneIn o todo = (below_own g.few s.env.exec (length s.env.frames) (g.few.home o) below, (λ c m. l (g.few.home o) c (there u) m)) in
+          let none : NoneWithin g.table g.few (Outward g.table s.env.exec s.run.frame s.run.this s.callers todo) (Object o) = λ k w c j. l.0 w c (in_object_home g.few (spot_at g.few (here s) p) o (there u) k w j) in
+          let lone : LoneIn o todo = (below_own g.few s.env.exec (length s.env.frames) (g.few.home o) below, (λ c m. l.0 (g.few.home o) c (there u) m)) in
+          let lies : LiesAt p v = subst (LiesAt p) (sym h.2.object) (λ k w j. in_object_home g.few (spot_at g.few (here s) p) o (there u) k w j) in
           record {
             own = λ q. subst (BelongsBelow g.few s.env.exec (length s.env.frames)) (sym h.2.object) (in_object below);
             alone = λ q. subst (NoneWithin g.table g.few (Outward g.table s.env.exec s.run.frame s.run.this s.callers todo)) (sym h.2.object) none;
             lone = λ q e. subst (λ w. LoneIn (piece.object_in w) todo) (sym h.2.object) lone;
+            beyond = beyond_at b c y p v todo l.1 i (λ h. holds_some y m) (stands_some g.few (here s) y h.0 h.1) lies;
           }
 
-      finding : (z : InFrames) (b : Bool) (x : Routine) (todo : List Todo) → FitsFor b (Some x) todo → Finding b x (top (drop x.params s.run.operands)) todo
-      finding z b x todo (inl e) = record { own = λ q. no_both b q e; alone = λ q. no_both b q e; lone = λ q o. no_both b q e }
-      finding z b x todo (inr (inl k)) =
-          let h = marks.under_of g.few (here s) (rests x.params ms) (drop x.params s.run.operands) (dropped x.params) (λ p. IsOf made p × LoneAt g.table g.few (here s) todo (Under p)) k.1 in
-          plain_finding z b x (top (drop x.params s.run.operands)) todo k.0 h.0 h.1 h.2.0 h.2.1
-      finding z b x todo (inr (inr k)) =
+      no_finding : (b : Bool) (o : Option ℕ) (x : Routine) (v : Value) (todo : List Todo) → b ≡ false → Finding b o x v todo
+      no_finding b o x v todo e =
+          record { own = λ q. no_both b q e; alone = λ q. no_both b q e; lone = λ q o. no_both b q e; beyond = plain_beyond b o v todo e }
+
+      finding : (z : InFrames) (b : Bool) (o : Option ℕ) (x : Routine) (todo : List Todo) → FitsFor b o (Some x) todo → Finding b o x (top (drop x.params s.run.operands)) todo
+      finding z b o x todo (inl e) = no_finding b o x (top (drop x.params s.run.operands)) todo e
+      finding z b o x todo (inr (inl k)) =
+          let h = marks.under_of g.few (here s) (rests x.params ms) (drop x.params s.run.operands) (dropped x.params) (λ n p. IsOf made p × SeatAt g (here s) made todo (Under o n p)) k.1 in
+          plain_finding z b o x (top (drop x.params s.run.operands)) todo k.0 h.0 h.1 h.2 h.3.0 h.3.1
+      finding z b o x todo (inr (inr k)) =
           let h = marks.home_of g.few (here s) (rests x.params ms) (drop x.params s.run.operands) (dropped x.params) (LoneNamed todo) k in
-          homed_finding z b x (top (drop x.params s.run.operands)) todo h.0 h.1 h.2.0 h.2.1
+          homed_finding z b o x (top (drop x.params s.run.operands)) todo h.0 h.1 h.2.0 h.2.1 h.2.2
 
       -- a routine begins in a frame of its own, in which no field stands that is to be cleaned up
-      next_seat : (z : InFrames) (b : Bool) (x : Routine) (v : Value) (ns : List Mark) (todo : List Todo) (vs : List Value) → O (Any ∷ ns) todo → Finding b x v todo → IsSeated g.table g.few (reach_of b) s.env.exec ((record s.run { control = todo; operands = vs }) ∷ s.callers) (length s.env.frames) v
-      next_seat z b x v ns todo vs h f = record {
+      next_seat : (z : InFrames) (b : Bool) (o : Option ℕ) (x : Routine) (v : Value) (ns : List Mark) (todo : List Todo) (vs : List Value) → O (Any ∷ ns) todo → Finding b o x v todo → IsSeated g.table g.source g.special g.few (reach_of b o) s.env.exec ((record s.run { control = todo; operands = vs }) ∷ s.callers) (length s.env.frames) None v
+      next_seat z b o x v ns todo vs h f = record {
         own = f.own;
         alone = f.alone;
         spare = λ k w e i st. absurd (not_standing g.few s.env.exec g.table (length s.env.frames) (piece.Slot k ∷ []) (OwnMarked g.table s.env.exec round) below _ w i st);
+        after = searches.fresh g.table g.source g.special 0 None (length s.env.frames) round (frames_below (length s.env.frames) round (let c = z.count in omega (arith, c)) (z.low, z.within));
+        beyond = λ d q. f.beyond (gone (Any ∷ ns) todo h) vs d;
       }
         where
           round : List Active
@@ -605,15 +716,15 @@ module _ (g : Setting) where
               let c = z.count in
               below_more g.few s.env.exec (length round) (length s.env.frames) (omega (arith, c)) w (own_below g s.env.exec round (record { made = made; rest = gone (Any ∷ ns) todo h; seat = this }, waits_left g s.env.exec s.callers callers) (z.low, z.within) w a m)
 
-      begun : (z : InFrames) (b : Bool) (x : Routine) (v : Value) (counts : Bool) (ns : List Mark) (todo : List Todo) (vs : List Value) → CodeRoutine g b (Some x) → Finding b x v todo → H ns vs → O (Any ∷ ns) todo → PutStep g (quiet.begun_step x v counts todo vs s)
-      begun z b x v counts ns todo vs n f k h = record {
-        run = record { made = reach_of b; this = next_seat z b x v ns todo vs h f; marks = []; holds = tt; ok = (body b n f.lone, todos.behind g A (reach_of b) x.purpose x.line) };
+      begun : (z : InFrames) (b : Bool) (o : Option ℕ) (x : Routine) (v : Value) (counts : Bool) (ns : List Mark) (todo : List Todo) (vs : List Value) → CodeRoutine g b o (Some x) → Finding b o x v todo → H ns vs → O (Any ∷ ns) todo → PutStep g (quiet.begun_step x v counts todo vs s)
+      begun z b o x v counts ns todo vs n f k h = record {
+        run = record { made = reach_of b o; this = next_seat z b o x v ns todo vs h f; marks = []; holds = tt; ok = (body b n f.lone, todos.behind g A (reach_of b o) x.purpose x.line) };
         callers = (finds 1 ns todo vs k h, callers);
         env = todos.likes g env refl refl refl;
       }
         where
           A : Around
-          A = record { exec = s.env.exec; frame = length s.env.frames; this = v; older = (record s.run { control = todo; operands = vs }) ∷ s.callers }
+          A = record { exec = s.env.exec; frame = length s.env.frames; handles = None; this = v; older = (record s.run { control = todo; operands = vs }) ∷ s.callers }
 
           none_behind : (p : Purpose) (line : ℕ) → AllBelow 0 (quiet.behind_body p line)
           none_behind src.TaskMain line = (tt, (tt, tt))
@@ -622,36 +733,36 @@ module _ (g : Setting) where
           none_behind src.Function line = (tt, (tt, tt))
           none_behind src.Builder line = tt
 
-          body : (b : Bool) → CodeRoutine g b (Some x) → (b ≡ true → opens_object x.body ≡ true → LoneIn (piece.object_in v) todo) → CodeRest g A (reach_of b) x.body (quiet.behind_body x.purpose x.line)
-          body false n lone = inl n
-          body true (c, inl k) lone = inr (inl ((c, k.0), (0, none_behind x.purpose x.line, k.1)))
-          body true (c, inr k) lone =
-              let l = lone refl (marks.opening_opens g (reach_of true) x.body k) in
-              inr (inr (refl, c, k, none_behind x.purpose x.line, (l.0, marks.free_begun g.table g.few s.env.exec s.run s.callers todo vs v (length s.env.frames) x.purpose x.line (piece.object_in v) l.1)))
+          body : (b : Bool) → CodeRoutine g b o (Some x) → (b ≡ true → opens_object x.body ≡ true → LoneIn (piece.object_in v) todo) → CodeRest g A (reach_of b o) x.body (quiet.behind_body x.purpose x.line)
+          body false n lone = inl (n.0, n.1)
+          body true (c, inl k, q) lone = inr (inl ((c, k.0), (0, none_behind x.purpose x.line, k.1), q))
+          body true (c, inr k, q) lone =
+              let l = lone refl (marks.opening_opens g (reach_of true o) x.body k) in
+              inr (inr (refl, c, k, none_behind x.purpose x.line, (l.0, marks.free_begun g.table g.few s.env.exec s.run s.callers todo vs v (length s.env.frames) x.purpose x.line (piece.object_in v) l.1), q))
 
-      pub call : (z : InFrames) (b : Bool) (x : Option Routine) (todo : List Todo) → b ≡ false → CodeRoutine g b x → O (Any ∷ rests (params_at x) ms) todo → PutStep g (quiet.call_step x todo s)
-      call z b None todo e n h = ends _ _
-      call z b (Some x) todo e n h = either (PutStep g) (nat_lt s.env.links.calls CALLS) _ _ (begun z b x _ true (rests x.params ms) todo _ n (record { own = λ q. no_both b q e; alone = λ q. no_both b q e; lone = λ q o. no_both b q e }) (dropped x.params) h) (stop Depth todo _)
+      pub call : (z : InFrames) (b : Bool) (o : Option ℕ) (x : Option Routine) (todo : List Todo) → b ≡ false → CodeRoutine g b o x → O (Any ∷ rests (params_at x) ms) todo → PutStep g (quiet.call_step x todo s)
+      call z b o None todo e n h = ends _ _
+      call z b o (Some x) todo e n h = either (PutStep g) (nat_lt s.env.links.calls CALLS) _ _ (begun z b o x _ true (rests x.params ms) todo _ n (no_finding b o x _ todo e) (dropped x.params) h) (stop Depth todo _)
 
-      pub call_on : (z : InFrames) (b : Bool) (x : Option Routine) (todo : List Todo) → CodeRoutine g b x → FitsFor b x todo → O (Any ∷ rests (suc (params_at x)) ms) todo → PutStep g (quiet.call_on_step x todo s)
-      call_on z b None todo n k h = ends _ _
-      call_on z b (Some x) todo n k h =
-          either (PutStep g) (nat_lt s.env.links.calls CALLS) _ _ (begun z b x _ true (rests (suc x.params) ms) todo _ n (finding z b x todo k) (dropped_one x.params) h) (stop Depth todo _)
+      pub call_on : (z : InFrames) (b : Bool) (o : Option ℕ) (x : Option Routine) (todo : List Todo) → CodeRoutine g b o x → FitsFor b o x todo → O (Any ∷ rests (suc (params_at x)) ms) todo → PutStep g (quiet.call_on_step x todo s)
+      call_on z b o None todo n k h = ends _ _
+      call_on z b o (Some x) todo n k h =
+          either (PutStep g) (nat_lt s.env.links.calls CALLS) _ _ (begun z b o x _ true (rests (suc x.params) ms) todo _ n (finding z b o x todo k) (dropped_one x.params) h) (stop Depth todo _)
 
-      pub call_unwritten : (z : InFrames) (b : Bool) (x : Option Routine) (todo : List Todo) → CodeRoutine g b x → FitsFor b x todo → O (Any ∷ rests (suc (params_at x)) ms) todo → PutStep g (quiet.call_unwritten_step x todo s)
-      call_unwritten z b None todo n k h = ends _ _
-      call_unwritten z b (Some x) todo n k h = begun z b x _ false (rests (suc x.params) ms) todo _ n (finding z b x todo k) (dropped_one x.params) h
+      pub call_unwritten : (z : InFrames) (b : Bool) (o : Option ℕ) (x : Option Routine) (todo : List Todo) → CodeRoutine g b o x → FitsFor b o x todo → O (Any ∷ rests (suc (params_at x)) ms) todo → PutStep g (quiet.call_unwritten_step x todo s)
+      call_unwritten z b o None todo n k h = ends _ _
+      call_unwritten z b o (Some x) todo n k h = begun z b o x _ false (rests (suc x.params) ms) todo _ n (finding z b o x todo k) (dropped_one x.params) h
 
       pub live : (r : Option Routine) (todo : List Todo) → O ms todo → PutStep g (quiet.live_step r todo s)
       live None todo h = ends _ _
       live (Some r) todo h = either (PutStep g) (sw.is_live (piece.exec_at (top (drop r.params s.run.operands)) s.env) s.env) _ _ (go ms _ _ holds h) (stop NotLive todo _)
 
-      pub set_up : (b : Bool) (r : Option Routine) (todo : List Todo) → b ≡ false → CodeRoutine g b r → O [] todo → PutStep g (quiet.set_up_step r todo s)
-      set_up b None todo e n h = anew _ _ h
-      set_up true (Some r) todo e n h = no_both true refl e
-      set_up false (Some r) todo e n h =
+      pub set_up : (b : Bool) (o : Option ℕ) (r : Option Routine) (todo : List Todo) → b ≡ false → CodeRoutine g b o r → O [] todo → PutStep g (quiet.set_up_step r todo s)
+      set_up b o None todo e n h = anew _ _ h
+      set_up true o (Some r) todo e n h = no_both true refl e
+      set_up false o (Some r) todo e n h =
           let at_home = quiet.home_at s.run.this s.env in
-          let b : todos.K g s.env (sw.born at_home (quiet.fresh r s.run.this) s.env) = kept.born_keeps (Runs g) (Waits g) (todos.calm g) at_home (quiet.fresh r s.run.this) s.env (λ k. record { run = record { made = reach_of false; this = first_seat g.table g.few (record { home = at_home; serial = k }) 0 s.run.this; marks = []; holds = tt; ok = todos.routine g (record { exec = record { home = at_home; serial = k }; frame = 0; this = s.run.this; older = [] }) (reach_of false) r n }; callers = tt }) env in
+          let b : todos.K g s.env (sw.born at_home (quiet.fresh r s.run.this) s.env) = kept.born_keeps (Runs g) (Waits g) (todos.calm g) at_home (quiet.fresh r s.run.this) s.env (λ k. record { run = record { made = reach_of false o; this = first_seat g (record { home = at_home; serial = k }) 0 s.run.this o; marks = []; holds = tt; ok = todos.routine g (record { exec = record { home = at_home; serial = k }; frame = 0; handles = None; this = s.run.this; older = [] }) (reach_of false o) r (n.0, n.1) }; callers = tt }) env in
           go_in [] _ _ _ tt h (kept.keeps_both (Runs g) (Waits g) (todos.calm g) b (kept.written_keeps (Runs g) (Waits g) (todos.calm g) s.run.this _ _ b.env))
 
       -- mutex objects

@@ -1,5 +1,5 @@
 -- Marks of variables that lie before a cell: none stands around a mutex object in what is at a variable there.
-use Rattle.std.proofs.Common.{◌≡◌, ℕ, ◌+◌, ◌*◌, ◌≤◌, inl, inr, List, [], ◌∷◌, refl, sym, subst, arith}
+use Rattle.std.proofs.Common.{◌≡◌, ℕ, ◌+◌, ◌*◌, ◌≤◌, ◌<◌, inl, inr, List, [], ◌∷◌, refl, sym, subst, arith}
 use Rattle.std.proofs.lemmas.Nat.{mul-le}
 use Rattle.uc_tree.specs.Source as src
 use Rattle.uc_tree.specs.Source.{Expr, CleanUp, shape_cells}
@@ -15,8 +15,28 @@ use Rattle.uc_life_laws.specs.Things.{Few, Within, itself, field, element, AtVar
 use Rattle.uc_life_laws.specs.LifeRuns.{span, IsFlat, IsLaidOut}
 use Rattle.uc_putting_laws.specs.ObjectsAtHand as hand
 use Rattle.uc_putting_laws.specs.ObjectsAtHand.{OwnedBy, LiesUnder, there, at_home, variable}
-use Rattle.uc_putting_laws.proofs.ObjectsWithin.{owner_one, owned_under, no_frame, within_under}
+use Rattle.uc_putting_laws.proofs.ObjectsWithin.{owner_one, owned_under, one_object, no_frame, within_under}
 use Rattle.uc_putting_laws.proofs.Fields.{one_tail, path_of, tail_under}
+
+module _ (few : Few) (n : Exec) where
+  frame_same : (g f : ℕ) → Frame n g ≡ Frame n f → g ≡ f
+  frame_same g f e = cc
+
+  slot_same : (j k : ℕ) → Slot j ≡ Slot k → j ≡ k
+  slot_same j k e = cc
+
+  -- two variables in which one place lies, or is at home further in, are one
+  pub variable_one : (f k g j : ℕ) (v : Value) → hand.LiesIn few (variable n f k) v → hand.LiesIn few (variable n g j) v → (f ≡ g) × (k ≡ j)
+  variable_one f k g j v (there h) (there i) =
+      let a : OwnedBy (Frame n f) v = owned_under (Frame n f) (variable n f k) refl v h in
+      let b : OwnedBy (Frame n g) v = owned_under (Frame n g) (variable n g j) refl v i in
+      (frame_same f g (owner_one (Frame n f) (Frame n g) v a b), slot_same k j (one_tail (Slot k) (Slot j) [] [] (path_of v) refl (tail_under (Frame n f) (variable n f k) refl v h) (tail_under (Frame n g) (variable n g j) refl v i)))
+  variable_one f k g j v (there h) (at_home {o = x} i q) =
+      absurd (no_frame n f x (owner_one (Frame n f) (Fields x) v (owned_under (Frame n f) (variable n f k) refl v h) q))
+  variable_one f k g j v (at_home {o = x} h q) (there i) =
+      absurd (no_frame n g x (owner_one (Frame n g) (Fields x) v (owned_under (Frame n g) (variable n g j) refl v i) q))
+  variable_one f k g j v (at_home {o = x} h q) (at_home {o = y} i r) =
+      variable_one f k g j (few.home x) h (subst (λ z. hand.LiesIn few (variable n g j) (few.home z)) (one_object y x (owner_one (Fields y) (Fields x) v r q)) i)
 
 module _ (Z : ℕ → ℕ → Type 0) (t : Table) (l : IsLaidOut Z t) where
   -- cells of what lies within
@@ -80,28 +100,32 @@ module _ (Z : ℕ → ℕ → Type 0) (t : Table) (l : IsLaidOut Z t) where
       record { cells = 1; lies_there = subst (lies 1) (sym d) h; own = omega arith; each = omega arith; flat = λ m. tt }
   counted lies place a e d h = absurd d
 
-  -- what begins at a cell before which it ends has no cells, so no mutex object lies in it
-  empty : (a : Ty) → IsFlat a → span t a ≤ 0 → (w v : Value) (e : ℕ) → Within t w a v (Cell (Obj e)) → ⊥
-  empty a f none w v e h =
-      let s = spanned w a v (Cell (Obj e)) f h in
+  -- where a mutex object lies in it, it ends behind the cell at which it begins
+  pub behind_cell : (low high k : ℕ) (a : Ty) (c : CleanUp) → Lies Z low high c → CleansAt t a (src.Variable k) c → (w v : Value) (e : ℕ) → Within t w a v (Cell (Obj e)) → k < high
+  behind_cell low high k a (src.Destroys x) h d w v e i =
+      let n = counted (LiesAt Z low high 1) (src.Variable k) a x d h in
+      let s = spanned w a v (Cell (Obj e)) (element_flat 0 a (n.flat 0)) i in
       let cells : 1 ≤ span t a = s.cells in
-      omega (arith, cells, none)
-
-  ends_at_cell : (k : ℕ) (a : Ty) (c : CleanUp) → Lies Z 0 k c → CleansAt t a (src.Variable k) c → (w v : Value) (e : ℕ) → Within t w a v (Cell (Obj e)) → ⊥
-  ends_at_cell k a (src.Destroys x) h d w v e i =
-      let n = counted (LiesAt Z 0 k 1) (src.Variable k) a x d h in
       let own = n.own in
-      let fits : k + 1 * n.cells ≤ k = n.lies_there.1 in
-      empty a (element_flat 0 a (n.flat 0)) (omega (arith, own, fits)) w v e i
-  ends_at_cell k (Row m a) (src.DestroysAll j x) h d w v e i =
-      let n = counted (LiesIn Z 0 k j) (src.Element m (element_shape t a) (src.Variable k) (src.OfObject src.Counted)) a x d.1 h in
+      let fits : k + 1 * n.cells ≤ high = n.lies_there.1 in
+      omega (arith, cells, own, fits)
+  behind_cell low high k (Row m a) (src.DestroysAll j x) h d w v e i =
+      let n = counted (LiesIn Z low high j) (src.Element m (element_shape t a) (src.Variable k) (src.OfObject src.Counted)) a x d.1 h in
+      let s = spanned w (Row m a) v (Cell (Obj e)) (n.flat m) i in
+      let cells : 1 ≤ m * shape_cells (element_shape t a) = s.cells in
       let each = n.each in
-      let fits : k + j * n.cells ≤ k = n.lies_there.1.1 in
+      let fits : k + j * n.cells ≤ high = n.lies_there.1.1 in
       let same : m ≡ j = d.0 in
       let all : m * shape_cells (element_shape t a) ≤ j * n.cells = mul-le m (shape_cells (element_shape t a)) j n.cells (omega (arith, same)) each in
-      empty (Row m a) (n.flat m) (omega (arith, fits, all)) w v e i
-  ends_at_cell k a (src.DestroysAll j x) h d w v e i = absurd d
-  ends_at_cell k a c h d w v e i = absurd d
+      omega (arith, cells, all, fits)
+  behind_cell low high k a (src.DestroysAll j x) h d w v e i = absurd d
+  behind_cell low high k a c h d w v e i = absurd d
+
+  -- so none lies in what begins at a cell before which it ends
+  ends_at_cell : (k : ℕ) (a : Ty) (c : CleanUp) → Lies Z 0 k c → CleansAt t a (src.Variable k) c → (w v : Value) (e : ℕ) → Within t w a v (Cell (Obj e)) → ⊥
+  ends_at_cell k a c h d w v e i =
+      let less : k < k = behind_cell 0 k k a c h d w v e i in
+      omega (arith, less)
 
   module _ (few : Few) (n : Exec) (f k : ℕ) where
     -- two variables around one place are one

@@ -11,6 +11,7 @@ use Rattle.uc_machine.specs.declared.exec.Home.{Home}
 use Rattle.uc_machine.specs.declared.exec.Home.TheVariants as home
 use Rattle.uc_machine.specs.Executions.{values_cleared}
 use Rattle.uc_machine.specs.Raising as raising
+use Rattle.uc_machine.specs.Raising.{Found}
 use Rattle.uc_machine.specs.Monitors as monitors
 use Rattle.uc_machine.specs.Quiet as quiet
 use Rattle.uc_machine.specs.Quiet.{first_state}
@@ -24,19 +25,22 @@ use Rattle.uc_life_laws.specs.LifeRuns.{IsLaidOut}
 use Rattle.uc_place_laws.specs.OlderResting.{AllWait, NamedParked, NamedHand, NamedEnv}
 use Rattle.uc_place_laws.proofs.AsideKeeping as kept
 use Rattle.uc_place_laws.proofs.AsideKeeping.{either}
-use Rattle.uc_putting_laws.specs.CleanedSpots.{NoSite, Reach, reach_of, apart}
-use Rattle.uc_putting_laws.specs.ObjectsAtHand.{IsSeated}
-use Rattle.uc_putting_laws.specs.Putting.{Setting, Around, Mark, Any, Holds, rest, OpensRest, Counts, Plain, CodeStmt, CodeRoutine, Ok, Left, Finds, FindsFor, Runs, Waits, PutMembers, PutState, PutStep}
+use Rattle.uc_putting_laws.specs.CleanedSpots.{NoSite, Reach, reach_of, from_variable, apart}
+use Rattle.uc_putting_laws.specs.Seats.{Searched, IsSeated}
+use Rattle.uc_putting_laws.specs.Calling.{CallingStmts}
+use Rattle.uc_putting_laws.specs.Putting.{Setting, Around, Mark, Any, Holds, rest, rests, OpensRest, Counts, Plain, CodeStmt, CodeRoutine, Ok, Left, Finds, FindsFor, Runs, Waits, PutMembers, PutState, PutStep}
 use Rattle.uc_putting_laws.specs.PuttingLaws.{FairAt, Fair}
 use Rattle.uc_putting_laws.proofs.Marks.{holds_below, holds_spread, index_below, left}
 use Rattle.uc_putting_laws.proofs.OwnMarks.{frames_within, first_seat}
 use Rattle.uc_putting_laws.proofs.PuttingTodos as todos
+use Rattle.uc_putting_laws.proofs.Searches.{FoundCode, found_code}
+use Rattle.uc_putting_laws.proofs.Seats.{RoundIn, round_in}
 use Rattle.uc_putting_laws.proofs.Steps as steps
 use Rattle.uc_putting_laws.proofs.Steps.{here}
 use Rattle.uc_putting_laws.proofs.Lone.{scope_lone, part_lone, lone_behind, lone_stmt}
 
-module _ (program : Program) (g : Setting) (laid : IsLaidOut (Sized program) g.table) (known : (n : ℕ) → CodeRoutine g (g.special n) (slice_get g.source.routines n)) where
-  module _ (s : State) (st : StackState (Sized program) s) (fair : Fair g s) (callers : AllWait (Runs g) (Waits g) s.env.exec s.callers) (env : NamedEnv (Runs g) (Waits g) s.env) (made : Reach) (this : IsSeated g.table g.few made s.env.exec s.callers s.run.frame s.run.this) (ms : List Mark) (holds : Holds g.few (here s) ms s.run.operands) where
+module _ (program : Program) (g : Setting) (laid : IsLaidOut (Sized program) g.table) (known : (n : ℕ) → CodeRoutine g (g.special n) (g.table.routine n).this (slice_get g.source.routines n)) where
+  module _ (s : State) (st : StackState (Sized program) s) (fair : Fair g s) (callers : AllWait (Runs g) (Waits g) s.env.exec s.callers) (env : NamedEnv (Runs g) (Waits g) s.env) (made : Reach) (this : IsSeated g.table g.source g.special g.few made s.env.exec s.callers s.run.frame s.run.handles s.run.this) (ms : List Mark) (holds : Holds g.few (here s) ms s.run.operands) where
     abbrev H : List Mark → List Value → Type 0
     H ns vs = Holds g.few (here s) ns vs
 
@@ -92,14 +96,14 @@ module _ (program : Program) (g : Setting) (laid : IsLaidOut (Sized program) g.t
     acts (piece.SetNow k) todo c h = steps.go_in g s callers env made this ms _ _ _ holds h.1 (steps.write g s callers env made this (piece.variable_at k s) (piece.Number (number (top s.run.operands))))
     acts piece.BindNow todo c h = steps.go_in g s callers env made this (Any ∷ rest (rest ms)) _ _ _ (tt, two) h.1 (steps.write g s callers env made this (top (below s.run.operands)) (top s.run.operands))
     acts (piece.Choose e f) todo c h = go (rest ms) _ _ one (either (Counts g) (piece.is_zero (number (top s.run.operands))) f e h.0.1.0 h.0.0.0, inl (either (Plain g) (piece.is_zero (number (top s.run.operands))) f e h.0.1.1 h.0.0.1, h.1))
-    acts (piece.Branch a b) todo c h = anew _ _ (todos.inner g (here s) made (OpensRest todo) (if piece.is_zero (number (top s.run.operands)) then b else a) (either (CodeStmt g NoSite (apart made)) (piece.is_zero (number (top s.run.operands))) b a h.0.1 h.0.0), h.1)
+    acts (piece.Branch a b) todo c h = anew _ _ (todos.inner g (here s) made (OpensRest g.table todo) (if piece.is_zero (number (top s.run.operands)) then b else a) (either (CodeStmt g NoSite (apart made)) (piece.is_zero (number (top s.run.operands))) b a h.0.1 h.0.0), h.1)
     acts piece.TickNow todo c h = go ms _ _ holds h.1
-    acts (piece.TurnNow o t e b) todo c h = anew _ _ (todos.inner g (here s) made (OpensRest (piece.InLoop o t e b ∷ todo)) b h.0.2, (h.0, h.1))
+    acts (piece.TurnNow o t e b) todo c h = anew _ _ (todos.inner g (here s) made (OpensRest g.table (piece.InLoop o t e b ∷ todo)) b h.0.2, (h.0, h.1))
     acts (piece.Arguments src.NoExprs) todo c h = go ms _ _ holds h.1
     acts (piece.Arguments (src.MoreExprs e es)) todo c h = go ms _ _ holds (h.0.0.0, inl (h.0.1.0, ((h.0.0.1, h.0.1.1), h.1)))
-    acts (piece.CallNow r) todo c h = steps.call g s callers env made this ms holds frames (g.special r) (slice_get g.source.routines r) todo h.0 (known r) h.1
-    acts (piece.CallOnNow r) todo c h = steps.call_on g s callers env made this ms holds frames (g.special r) (slice_get g.source.routines r) todo (known r) h.0 h.1
-    acts (piece.CallUnwrittenNow r) todo c h = steps.call_unwritten g s callers env made this ms holds frames (g.special r) (slice_get g.source.routines r) todo (known r) h.0 h.1
+    acts (piece.CallNow r) todo c h = steps.call g s callers env made this ms holds frames (g.special r) (g.table.routine r).this (slice_get g.source.routines r) todo h.0 (known r) h.1
+    acts (piece.CallOnNow r) todo c h = steps.call_on g s callers env made this ms holds frames (g.special r) (g.table.routine r).this (slice_get g.source.routines r) todo (known r) h.0 h.1
+    acts (piece.CallUnwrittenNow r) todo c h = steps.call_unwritten g s callers env made this ms holds frames (g.special r) (g.table.routine r).this (slice_get g.source.routines r) todo (known r) h.0 h.1
     acts (piece.CountNow m) todo c h = record { run = record { made = made; this = this; marks = []; holds = tt; ok = h.1 }; callers = callers; env = env }
     acts piece.MoreNow todo c h = record { run = record { made = made; this = this; marks = []; holds = tt; ok = h.1 }; callers = callers; env = env }
     acts (piece.FillNow m b d) todo c h = anew _ _ (todos.filled g (here s) made (nat_lt s.run.elements m) m b d todo h.0.0 h.0.1 h.1)
@@ -120,7 +124,7 @@ module _ (program : Program) (g : Setting) (laid : IsLaidOut (Sized program) g.t
     acts (piece.Targets (t ∷ ts)) todo c h = anew _ _ (h.0.0.0, inl (h.0.1.0, (tt, (tt, ((h.0.0.1, h.0.1.1), h.1)))))
     acts (piece.Variables []) todo c h = anew _ _ h.1
     acts (piece.Variables (d ∷ ds)) todo c h = anew _ _ (tt, todos.starts g (here s) made d.cell d.value (piece.Variables ds ∷ todo) (h.0.0.0, h.0.1.0) ((h.0.0.1, h.0.1.1), h.1))
-    acts (piece.Do a) todo c h = steps.stmt g s callers env made this a todo h.0 (lone_behind (Sized program) g laid s st callers env made this a todo c h.1) (lone_stmt (Sized program) g laid s st callers env made this (OpensRest todo) a todo c h.0 (left g (here s) made [] todo h.1)) h.1
+    acts (piece.Do a) todo c h = steps.stmt g s callers env made this a todo h.0 (lone_behind (Sized program) g laid s st callers env made this a todo c h.1) (lone_stmt (Sized program) g laid s st callers env made this (OpensRest g.table todo) a todo c h.0 (left g (here s) made [] todo h.1)) h.1
     acts (piece.Rest ss) todo c h = steps.rest_of g s callers env made this ss todo h.0 h.1
     acts (piece.Within line) todo c h = anew _ _ h.1
     acts (piece.Exit w) todo c h = steps.exits g s callers env made this w todo h
@@ -133,8 +137,8 @@ module _ (program : Program) (g : Setting) (laid : IsLaidOut (Sized program) g.t
     acts (piece.Guard hs) todo c h = anew _ _ h.1
     acts piece.Unwind todo c h = steps.unwinds g s callers env made this todo h (λ p ps e. past p ps (subst (λ l. s.run.control ≡ piece.Unwind ∷ l) e c) (subst (Left g (here s) made) e h))
     acts piece.ThrowNow todo c h = steps.thrown g s callers env made this (raising.event_in s.run.operands) todo h.1
-    acts piece.RaiseNow todo c h = steps.raises g s callers env made this ms (raising.event_in s.run.operands) todo holds (fair_at (piece.RaiseNow ∷ todo) c) h.1
-    acts (piece.SetUpNow r) todo c h = steps.set_up g s callers env made this ms holds (g.special r) (slice_get g.source.routines r) todo h.0.1 (known r) h.1
+    acts piece.RaiseNow todo c h = steps.raises g s callers env made this ms (raising.event_in s.run.operands) todo holds h.1
+    acts (piece.SetUpNow r) todo c h = steps.set_up g s callers env made this ms holds (g.special r) (g.table.routine r).this (slice_get g.source.routines r) todo h.0.1 (known r) h.1
     acts piece.EnlivenNow todo c h = steps.go_in g s callers env made this [] _ _ _ tt h.1 (kept.enlivened_keeps (Runs g) (Waits g) (todos.calm g) (piece.own_exec s) s.env env)
     acts piece.TakeDownNow todo c h = steps.moved g s callers env made this _ todo _ (kept.take_down_rests (Runs g) (Waits g) (todos.calm g) (piece.own_exec s) (at todo s.run.operands s) (anew _ _ h.1))
     acts piece.ForgetNow todo c h = steps.go_in g s callers env made this [] _ _ _ tt h.1 (kept.forgotten_keeps (Runs g) (Waits g) (todos.calm g) (piece.own_exec s) s.env env)
@@ -185,14 +189,32 @@ module _ (program : Program) (g : Setting) (laid : IsLaidOut (Sized program) g.t
       by [] e = steps.returned g s h.callers h.env h.run.made h.run.this _ s.callers h.callers
       by (p ∷ todo) e = acts s st fair h.callers h.env h.run.made h.run.this h.run.marks h.run.holds p todo e (subst (Ok g (here s) h.run.made h.run.marks) e h.run.ok)
 
-module _ (g : Setting) (known : (n : ℕ) → CodeRoutine g (g.special n) (slice_get g.source.routines n)) where
-  begins : (o : ℕ) (r : Option Routine) → CodeRoutine g false r → PutState g (first_state (routine_or_none r) o)
-  begins o None h = record { run = record { made = reach_of false; this = first_seat g.table g.few _ 0 _; marks = []; holds = tt; ok = (inl (tt, tt), (tt, tt)) }; callers = tt; env = record { house = (tt, tt); hand = tt } }
-  begins o (Some r) h = record { run = record { made = reach_of false; this = first_seat g.table g.few _ 0 _; marks = []; holds = tt; ok = todos.routine g (here (first_state r o)) (reach_of false) r h }; callers = tt; env = record { house = (tt, tt); hand = tt } }
+-- a handler that is found where an event is resumed names variables alone, from one on
+abbrev pub HandlerFound : Setting → Option Found → Type 0
+HandlerFound g None = Unit {0}
+HandlerFound g (Some y) = (x : ℕ) × CallingStmts g.table g.source g.special (from_variable x) y.handler.body
+
+module _ (g : Setting) (s : State) (put : PutState g s) where
+  -- its code is known by what is known of its frame
+  found_by : (todo : List Todo) → Left g (here s) put.run.made todo → (o : Option Found) → ((x f : ℕ) → Searched g.table g.source g.special x None f (record s.run { control = todo } ∷ s.callers) → FoundCode g.table g.source g.special x f o) → HandlerFound g o
+  found_by todo l None c = tt
+  found_by todo l (Some y) c =
+      let r : RoundIn g s.env.exec (record s.run { control = todo }) s.callers put.run.made put.run.this l y.frame = round_in g s.env.exec (record s.run { control = todo }) s.callers put.run.made put.run.this l y.frame in
+      (r.cell, c r.cell y.frame r.code refl)
+
+  pub handler_found : (e : raising.Event) (todo : List Todo) → s.run.control ≡ piece.RaiseNow ∷ todo → HandlerFound g (raising.seek None e (record s.run { control = todo } ∷ s.callers))
+  handler_found e todo q =
+      let ok : Ok g (here s) put.run.made put.run.marks (piece.RaiseNow ∷ todo) = subst (Ok g (here s) put.run.made put.run.marks) q put.run.ok in
+      found_by todo (left g (here s) put.run.made (rests 3 put.run.marks) todo ok.1) (raising.seek None e (record s.run { control = todo } ∷ s.callers)) (λ x f c. found_code g.table g.source g.special x f None e (record s.run { control = todo } ∷ s.callers) c)
+
+module _ (g : Setting) (known : (n : ℕ) → CodeRoutine g (g.special n) (g.table.routine n).this (slice_get g.source.routines n)) where
+  begins : (o : ℕ) (c : Option ℕ) (r : Option Routine) → CodeRoutine g false c r → PutState g (first_state (routine_or_none r) o)
+  begins o c None h = record { run = record { made = reach_of false c; this = first_seat g _ 0 _ c; marks = []; holds = tt; ok = (inl (tt, tt), (tt, tt)) }; callers = tt; env = record { house = (tt, tt); hand = tt } }
+  begins o c (Some r) h = record { run = record { made = reach_of false c; this = first_seat g _ 0 _ c; marks = []; holds = tt; ok = todos.routine g (here (first_state r o)) (reach_of false c) r (h.0, h.1) }; callers = tt; env = record { house = (tt, tt); hand = tt } }
 
   -- a task begins so
   pub first_put : (r o : ℕ) → g.special r ≡ false → PutState g (first_state (routine_of g.source r) o)
-  first_put r o e = begins o (slice_get g.source.routines r) (subst (λ b. CodeRoutine g b (slice_get g.source.routines r)) e (known r))
+  first_put r o e = begins o (g.table.routine r).this (slice_get g.source.routines r) (subst (λ b. CodeRoutine g b (g.table.routine r).this (slice_get g.source.routines r)) e (known r))
 
 module _ (g : Setting) where
   -- what is spawned begins with a main

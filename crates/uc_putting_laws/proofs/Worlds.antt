@@ -133,7 +133,7 @@ pub record Stands (p : Program) (g : Setting) (s : State) : Type 0 where
   pub put : PutState g s
   pub stack : StackState (Sized p) s
 
-module _ (p : Program) (g : Setting) (laid : IsLaidOut (Sized p) g.table) (in_rooms : SourceIn (Sized p) g.source) (known : (n : ℕ) → CodeRoutine g (g.special n) (slice_get g.source.routines n)) where
+module _ (p : Program) (g : Setting) (laid : IsLaidOut (Sized p) g.table) (in_rooms : SourceIn (Sized p) g.source) (known : (n : ℕ) → CodeRoutine g (g.special n) (g.table.routine n).this (slice_get g.source.routines n)) where
   puts : (s : State) → Stands p g s → Puts g.table g.few s
   puts s n = law_puts g s n.put
 
@@ -163,7 +163,7 @@ module _ (p : Program) (g : Setting) (laid : IsLaidOut (Sized p) g.table) (in_ro
   led (rooms.goes {s} {u} e l) f n = (puts s n, led l f.1 (goes s u e n f.0))
   led (rooms.ticks {s} {u} e l) f n = (puts s n, led l f.1 (ticks s u e n f.0))
 
-module _ (p : Program) (accepted : breaks_of p ≡ []) (few : Few) (laid : IsLaidOut (Sized p) (table_of p)) (main : special_of p (source_of p).main ≡ false) (known : (n : ℕ) → CodeRoutine (setting_of p few) (special_of p n) (slice_get (source_of p).routines n)) (input : List ℕ) (opts : Options) (range : InRange opts) where
+module _ (p : Program) (accepted : breaks_of p ≡ []) (few : Few) (laid : IsLaidOut (Sized p) (table_of p)) (main : special_of p (source_of p).main ≡ false) (known : (n : ℕ) → CodeRoutine (setting_of p few) (special_of p n) ((table_of p).routine n).this (slice_get (source_of p).routines n)) (input : List ℕ) (opts : Options) (range : InRange opts) where
   abbrev g : Setting
   g = setting_of p few
 

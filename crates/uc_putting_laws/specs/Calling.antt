@@ -4,8 +4,8 @@ use Rattle.std.specs.Prelude.{◌≡◌, ℕ, ◌⊎◌, Bool, true, false, List
 use Rattle.uc_tree.specs.Source.{Binding, Expr, Exprs, ObjectExpr, Variable, Element, Load, OfObject, OwnField, Counted, CallOn, CallLive, CallUnwritten, EnterOn, EndOn, Bind, MakeOn, NewCluster, NewProcessor, EndCluster, EndProcessor, Item, Target, Declared, CleanUp, Destroys, DestroysAll, Forgets, Ends, Frees, Stmt, Stmts, Skip, Block, Whole, Evaluate, Declare, Print, PrintTogether, Read, If, Loop, Break, Continue, Return, Owes, Fill, OfEvents, OfTasks, Nil, Then, Scoped, Built, Raised, Plainly, BuiltAt, AgainFrom, EventStmt, Throw, Raise, Try, RaiseAt, Enable, Disable, TaskStmt, SetUp, Migrate, Accept, Handlers, NoHandlers, MoreHandlers, Clauses, NoClauses, Otherwise, MoreClauses, Routine, Source}
 use Rattle.uc_typing.specs.Typing.{Table}
 use Rattle.uc_inner_laws.specs.Walks as walk
-use Rattle.uc_life_laws.specs.Ending.{OfVariable, OfField}
-use Rattle.uc_putting_laws.specs.CleanedSpots.{Site, One, Each, Under, NoSite, AnySite, IsAtVariable, IsSpotOf, OpensFor, Reach, reach_of, apart, IsOf, Ascends}
+use Rattle.uc_life_laws.specs.Ending.{Spot, OfVariable, OfField}
+use Rattle.uc_putting_laws.specs.CleanedSpots.{Site, One, Each, Under, NoSite, AnyPlace, IsOver, OpensFor, IsHollow, AllInClass, Reach, reach_of, apart, IsOf, Ascends}
 
 -- whether a clean-up is of the mutex object at hand, as that is destroyed or built; and whether such a scope opens next
 abbrev pub of_object : CleanUp → Bool
@@ -84,22 +84,22 @@ module _ (t : Table) (source : Source) (special : ℕ → Bool) where
   PlainNew (OfObject (NewProcessor e)) = PlainExpr e
   PlainNew e = ⊥
 
-  -- a place of a site of which this holds: a variable; a field of the object at hand; an element of one of these
-  abbrev pub PlaceAt : Reach → (Site → Type 0) → Expr → Type 0
-  PlaceAt r P (Variable k) = IsOf r (OfVariable k) × P (Under (OfVariable k))
-  PlaceAt r P (OfObject (OwnField h i)) = IsOf r (OfField h i) × P (Under (OfField h i))
-  PlaceAt r P (Element n s e i) = PlaceAt r P e × PlainExpr i
+  -- a place at a spot of which this holds, or further, one of so many: a variable; a field of the object at hand; an element of one of these
+  abbrev pub PlaceAt : Reach → (ℕ → Spot → Type 0) → Expr → Type 0
+  PlaceAt r P (Variable k) = IsOf r (OfVariable k) × P 1 (OfVariable k)
+  PlaceAt r P (OfObject (OwnField h i)) = IsOf r (OfField h i) × P 1 (OfField h i)
+  PlaceAt r P (Element n s e i) = PlaceAt r (λ m p. P n p) e × PlainExpr i
   PlaceAt r P e = ⊥
 
   -- such a place is bound, also to what is new
   abbrev pub Binds : Reach → Expr → Type 0
-  Binds r (OfObject (Bind p e)) = PlaceAt r AnySite p × (PlainExpr e ⊎ PlainNew e)
+  Binds r (OfObject (Bind p e)) = PlaceAt r AnyPlace p × (PlainExpr e ⊎ PlainNew e)
   Binds r e = ⊥
 
   -- what builds or destroys an object that is no mutex one, at such a place
   abbrev pub CallsAt : Reach → (Site → Type 0) → Expr → Type 0
-  CallsAt r P (OfObject (CallOn q p args)) = (is_opening source q ≡ false) × PlaceAt r P p × PlainExprs args
-  CallsAt r P (OfObject (CallUnwritten q p)) = (is_opening source q ≡ false) × PlaceAt r P p
+  CallsAt r P (OfObject (CallOn q p args)) = (is_opening source q ≡ false) × PlaceAt r (λ n x. P (Under (t.routine q).this n x)) p × PlainExprs args
+  CallsAt r P (OfObject (CallUnwritten q p)) = (is_opening source q ≡ false) × PlaceAt r (λ n x. P (Under (t.routine q).this n x)) p
   CallsAt r P e = ⊥
 
   -- what makes a mutex object at a variable or a field of which this holds; and at an element of such an array
@@ -124,11 +124,11 @@ module _ (t : Table) (source : Source) (special : ℕ → Bool) where
   EndsEach r P (OfObject (EndOn q written (Load (Element n Binding (OfObject (OwnField h i)) (OfObject Counted))))) = P (Each n (OfField h i)) × IsOf r (OfField h i) × EndsWhole t q
   EndsEach r P e = ⊥
 
-  -- what ends a cluster or a processor
-  abbrev pub EndsNumber : Reach → Expr → Type 0
-  EndsNumber r (OfObject (EndCluster (Load p))) = PlaceAt r AnySite p
-  EndsNumber r (OfObject (EndProcessor (Load p))) = PlaceAt r AnySite p
-  EndsNumber r e = ⊥
+  -- what ends a cluster or a processor there
+  abbrev pub EndsNumber : Reach → (Site → Type 0) → Expr → Type 0
+  EndsNumber r P (OfObject (EndCluster (Load p))) = PlaceAt r (λ n x. P (Under None n x)) p
+  EndsNumber r P (OfObject (EndProcessor (Load p))) = PlaceAt r (λ n x. P (Under None n x)) p
+  EndsNumber r P e = ⊥
 
   -- what a statement evaluates by itself, where the scope of what is at a site opens behind it
   abbrev pub Evaluates : Reach → (Site → Type 0) → Expr → Type 0
@@ -139,21 +139,21 @@ module _ (t : Table) (source : Source) (special : ℕ → Bool) where
   FillsBy r P e = Binds r e ⊎ (CallsAt r P e ⊎ MakesEach r P e)
 
   abbrev pub SweepsBy : Reach → (Site → Type 0) → Expr → Type 0
-  SweepsBy r P e = EndsNumber r e ⊎ (CallsAt r P e ⊎ EndsEach r P e)
+  SweepsBy r P e = EndsNumber r P e ⊎ (CallsAt r P e ⊎ EndsEach r P e)
 
-  -- a clean-up at its spot, but for those of the mutex object at hand; an execution is forgotten by what builds or destroys its coroutine
+  -- a clean-up of what is at its spot, but for those of the mutex object at hand; an execution is forgotten by what builds or destroys its coroutine
   abbrev pub CleansBy : Reach → CleanUp → Type 0
-  CleansBy r (Destroys e) = EndsNumber r e ⊎ (CallsAt r (IsSpotOf (Destroys e)) e ⊎ EndsAt r (IsSpotOf (Destroys e)) e)
-  CleansBy r (DestroysAll n e) = SweepsBy r (IsSpotOf (DestroysAll n e)) e
+  CleansBy r (Destroys e) = EndsNumber r (IsOver t (Destroys e)) e ⊎ (CallsAt r (IsOver t (Destroys e)) e ⊎ EndsAt r (IsOver t (Destroys e)) e)
+  CleansBy r (DestroysAll n e) = SweepsBy r (IsOver t (DestroysAll n e)) e
   CleansBy r Forgets = r.builds ≡ true
   CleansBy r Ends = ⊥
   CleansBy r (Frees q) = ⊥
   CleansBy r c = Unit {0}
 
-  -- an event is built in the hidden cells of its statement
+  -- an event is built in the hidden cells of its statement; it holds no mutex object
   abbrev pub RaisesBy : Reach → Raised → Type 0
   RaisesBy r (Plainly n) = Unit {0}
-  RaisesBy r (BuiltAt n k e) = CallsAt r (IsAtVariable k) e
+  RaisesBy r (BuiltAt n k e) = CallsAt r (IsHollow t k) e
   RaisesBy r (AgainFrom k) = Unit {0}
 
   -- a statement behind which the scope of what is at such a site opens. Statements within others name no fields of the object at hand
@@ -179,7 +179,7 @@ module _ (t : Table) (source : Source) (special : ℕ → Bool) where
 
     pub CallingStmts : Reach → Stmts → Type 0
     CallingStmts r Nil = Unit {0}
-    CallingStmts r (Then a rest) = CallingStmt (OpensFor rest) r a × CallingStmts r rest
+    CallingStmts r (Then a rest) = CallingStmt (OpensFor t rest) r a × CallingStmts r rest
     CallingStmts r (Scoped c rest) = CleansBy r c × CallingStmts r rest
     CallingStmts r (Built c rest) = CleansBy r c × CallingStmts r rest
 
@@ -219,16 +219,22 @@ module _ (t : Table) (source : Source) (special : ℕ → Bool) where
   Opening r (Scoped (Frees q) rest) = Begins q × CallingStmts r rest × Ascends 0 rest
   Opening r ss = ⊥
 
-  -- in a constructor and a destructor fields get their marks in order
-  abbrev pub CallingBody : Bool → Stmts → Type 0
-  CallingBody true ss = (CallingStmts (reach_of true) ss × Ascends 0 ss) ⊎ Opening (reach_of true) ss
-  CallingBody false ss = CallingStmts (reach_of false) ss
+  -- in a constructor and a destructor fields get their marks in order; the object at hand is of this class
+  abbrev pub CallingBody : Bool → Option ℕ → Stmts → Type 0
+  CallingBody true o ss = (CallingStmts (reach_of true o) ss × Ascends 0 ss) ⊎ Opening (reach_of true o) ss
+  CallingBody false o ss = CallingStmts (reach_of false o) ss
 
-  abbrev pub CallingRoutine : Bool → Option Routine → Type 0
-  CallingRoutine b None = Unit {0}
-  CallingRoutine b (Some r) = CallingBody b r.body
+  abbrev pub CallingRoutine : Bool → Option ℕ → Option Routine → Type 0
+  CallingRoutine b o None = Unit {0}
+  CallingRoutine b o (Some r) = CallingBody b o r.body
+
+  -- mutex objects lie in fields of its object alone in which they may
+  abbrev pub FieldsInClass : Option ℕ → Option Routine → Type 0
+  FieldsInClass o None = Unit {0}
+  FieldsInClass o (Some r) = AllInClass t o r.body
 
   -- the routines of a source
   pub record CallingSource : Type 0 where
-    pub routines : (n : ℕ) → CallingRoutine (special n) (slice_get source.routines n)
+    pub routines : (n : ℕ) → CallingRoutine (special n) (t.routine n).this (slice_get source.routines n)
+    pub fields : (n : ℕ) → FieldsInClass (t.routine n).this (slice_get source.routines n)
     pub main : special source.main ≡ false

@@ -1,6 +1,7 @@
 pub mod CleanedSpots
 pub mod ObjectsAtHand
 pub mod Calling
+pub mod Seats
 pub mod Putting
 pub mod PuttingLaws
 pub mod PuttingRuns

@@ -1,6 +1,6 @@
 -- Of the object that a constructor or a destructor has at hand: it is the execution's own, in a frame below that of the activation, and nothing that
 -- older activations have to clean up stands around a mutex object in it.
-use Rattle.std.specs.Prelude.{◌≡◌, ℕ, ◌<◌, true, List, [], ◌∷◌}
+use Rattle.std.specs.Prelude.{◌≡◌, ℕ, ◌<◌, List, [], ◌∷◌}
 use Rattle.uc_machine.specs.declared.exec.Exec.{Exec}
 use Rattle.uc_machine.specs.declared.exec.Owner.{Owner}
 use Rattle.uc_machine.specs.declared.exec.Owner.TheVariants.{Frame, Fields}
@@ -8,7 +8,6 @@ use Rattle.uc_machine.specs.Pieces.{Link, Slot, Value, Number, Place, Running, O
 use Rattle.uc_typing.specs.Typing.{Ty, Cell, Obj, Table}
 use Rattle.uc_life_laws.specs.Things.{Few, AtField, NoBase, InStack, Stands}
 use Rattle.uc_life_laws.specs.Marks.{Marked}
-use Rattle.uc_putting_laws.specs.CleanedSpots.{Reach}
 
 -- a place of an owner, or an object of which the fields have it
 abbrev pub OwnedBy : Owner → Value → Type 0
@@ -47,11 +46,3 @@ module _ (t : Table) where
     -- none of these things stands around a mutex object that lies in an object, or in one that is at home in that
     abbrev pub NoneWithin : (Value → Ty → Type 0) → Value → Type 0
     NoneWithin K this = (l : Link) (v : Value) (e : ℕ) → LiesIn few (further l this) v → Stands t few K (Cell (Obj e)) v → ⊥
-
-    -- of an activation of the execution n with this frame and this object, before these older ones: the object, where it builds or destroys that; and
-    -- that variables of its frame in which a field stands that older ones have to clean up are none of those that it names
-    pub record IsSeated (r : Reach) (n : Exec) (older : List Active) (frame : ℕ) (this : Value) : Type 0 where
-      pub own : r.builds ≡ true → BelongsBelow few n frame this
-      pub alone : r.builds ≡ true → NoneWithin (Marked t n older) this
-      pub spare : (k : ℕ) (v : Value) (e : ℕ) → LiesIn few (variable n frame k) v →
-          Stands t few (OwnMarked n older) (Cell (Obj e)) v → k < r.low

@@ -1,6 +1,6 @@
 -- To-do lists before which the places of the objects that are built and destroyed lie among the operands: what is called there is the execution's
 -- own, and nothing that is to be cleaned up stands around mutex objects in it.
-use Rattle.std.specs.Prelude.{◌≡◌, ℕ, zero, suc, ◌<◌, ◌⊎◌, Bool, true, false, List, [], ◌∷◌, Option, Some, None}
+use Rattle.std.specs.Prelude.{◌≡◌, ℕ, zero, suc, ◌<◌, ◌≤◌, ◌⊎◌, Bool, true, false, List, [], ◌∷◌, Option, Some, None}
 use Rattle.uc_tree.specs.declared.limits.TheConstants.{DESTRUCTOR}
 use Rattle.uc_tree.specs.Source.{Shape, Binding, Expr, Exprs, Variable, Element, Load, OfObject, OwnField, Counted, Item, Target, Declared, CleanUp, Ends, Frees, Stmt, Stmts, Handlers, Clauses, Routine, Source}
 use Rattle.uc_entry.specs.declared.request.Request.{Request}
@@ -8,6 +8,7 @@ use Rattle.uc_entry.specs.declared.request.Request.TheVariants as ask
 use Rattle.uc_machine.specs.declared.exec.Exec.{Exec}
 use Rattle.uc_machine.specs.declared.exec.Home.{Home}
 use Rattle.uc_machine.specs.declared.exec.Owner.TheVariants.{Frame}
+use Rattle.uc_machine.specs.declared.exec.Visited.{Visited}
 use Rattle.uc_machine.specs.Pieces as piece
 use Rattle.uc_machine.specs.Pieces.{Slot, FieldAt, Value, Place, Object, further, Todo, Sort, sort, Active, State, Members, Step, Goes, Ticks, Asks, top, below}
 use Rattle.uc_answer_laws.specs.Suiting.{Form, form_of_request}
@@ -18,8 +19,9 @@ use Rattle.uc_life_laws.specs.Things.{Few, Stands}
 use Rattle.uc_life_laws.specs.Marks.{Outward, Lone}
 use Rattle.uc_life_laws.specs.Ending.{Spot, OfVariable, OfField}
 use Rattle.uc_place_laws.specs.OlderResting.{AllWait, NamedMembers, NamedEnv, NamedState}
-use Rattle.uc_putting_laws.specs.CleanedSpots.{Site, One, Each, Under, site_spot, NoSite, spot_of, OpensFor, Reach, apart, IsOf, IsIn, AllBelow, IsOutermost, Ascends}
-use Rattle.uc_putting_laws.specs.ObjectsAtHand.{LiesUnder, LiesIn, IsSeated}
+use Rattle.uc_putting_laws.specs.CleanedSpots.{Site, One, Each, Under, site_spot, NoSite, AnySite, HasSome, spot_of, HoldsObjects, MayHold, OpensFor, LiesInClass, AllInClass, Reach, apart, IsOf, IsIn, AllBelow, IsOutermost, Ascends}
+use Rattle.uc_putting_laws.specs.ObjectsAtHand.{LiesUnder, LiesIn}
+use Rattle.uc_putting_laws.specs.Seats.{GuardsCode, Searched, IsSeated}
 use Rattle.uc_putting_laws.specs.Calling.{is_opening, PlainExpr, PlainExprs, PlainMaybe, PlainItems, PlainTargets, PlainDeclared, PlainNew, Binds, PlaceAt, CallsAt, MakesAt, MakesEach, EndsAt, EndsEach, EndsNumber, FillsBy, SweepsBy, CleansBy, CallingStmt, CallingStmts, CallingHandlers, CallingClauses, Begins, Opening, CallingRoutine}
 
 -- a source with the table of its types, what there is, and which routines are constructors and destructors
@@ -29,15 +31,16 @@ pub record Setting : Type 0 where
   pub source : Source
   pub special : ℕ → Bool
 
--- whose activation it is, with which frame and which object at hand, and the activations that wait for it
+-- whose activation it is, with which frame, as which handler, with which object at hand, and the activations that wait for it
 pub record Around : Type 0 where
   pub exec : Exec
   pub frame : ℕ
+  pub handles : Option Visited
   pub this : Value
   pub older : List Active
 
 abbrev pub around : Exec → Active → List Active → Around
-around n a older = record { exec = n; frame = a.frame; this = a.this; older = older }
+around n a older = record { exec = n; frame = a.frame; handles = a.handles; this = a.this; older = older }
 
 -- a value is an object that is at home at this place
 pub record IsHome (few : Few) (v place : Value) : Type 0 where
@@ -65,9 +68,9 @@ abbrev pub anys : ℕ → List Mark → List Mark
 anys zero ms = ms
 anys (suc n) ms = anys n (Any ∷ ms)
 
--- the first lies at a spot of which this holds, or further
-abbrev pub FirstUnder : List Mark → (Spot → Type 0) → Type 0
-FirstUnder (At (Under p) ∷ ms) next = next p
+-- the first lies at a spot of which this holds, or further, one of so many
+abbrev pub FirstUnder : List Mark → (ℕ → Spot → Type 0) → Type 0
+FirstUnder (At (Under o n p) ∷ ms) next = next n p
 FirstUnder ms next = ⊥
 
 -- it is a place at a site of which this holds; so is it of the object that is at home there
@@ -85,10 +88,16 @@ IsEnding (piece.EnterNow m r ∷ todo) = m ≡ DESTRUCTOR
 IsEnding (piece.TickNow ∷ (piece.EnterNow m r ∷ todo)) = m ≡ DESTRUCTOR
 IsEnding todo = ⊥
 
+-- a site of mutex objects
+abbrev pub OfObjects : Site → Type 0
+OfObjects (One p) = Unit {0}
+OfObjects (Each n p) = Unit {0}
+OfObjects (Under o n p) = ⊥
+
 -- the scope of what is at a site opens next, or that is a part from then on
-abbrev pub OpensRest : List Todo → Site → Type 0
-OpensRest (piece.Rest ss ∷ todo) x = OpensFor ss x
-OpensRest todo x = ⊥
+abbrev pub OpensRest : Table → List Todo → Site → Type 0
+OpensRest t (piece.Rest ss ∷ todo) x = OpensFor t ss x
+OpensRest t todo x = ⊥
 
 -- a place at a site is found
 abbrev pub Located : Expr → (Site → Type 0) → Type 0
@@ -100,7 +109,7 @@ Located e next = ⊥
 
 -- that of an element, behind that of its array, or of what is no mutex object there
 abbrev pub Enters : ℕ → Shape → Site → (Site → Type 0) → Type 0
-Enters n s (Under p) next = next (Under p)
+Enters n s (Under o m p) next = next (Under o n p)
 Enters n Binding (One p) next = next (Each n p)
 Enters n s x next = ⊥
 
@@ -118,7 +127,7 @@ module _ (few : Few) (A : Around) where
   abbrev pub StandsAt : Site → Value → Type 0
   StandsAt (One p) v = v ≡ spot_at p
   StandsAt (Each n p) v = (j : ℕ) × (j < n) × (v ≡ further (piece.At Binding j) (spot_at p))
-  StandsAt (Under p) v = LiesUnder (spot_at p) v
+  StandsAt (Under o n p) v = (0 < n) × LiesUnder (spot_at p) v
 
   -- an object that is at home there
   abbrev pub HomedAt : Site → Value → Type 0
@@ -141,6 +150,21 @@ LoneAt t few A todo x = (v : Value) (e : ℕ) → LiesIn few (spot_at few A (sit
     Stands t few (Outward t A.exec A.frame A.this A.older todo) (Cell (Obj e)) v → ⊥
 
 module _ (g : Setting) where
+  -- behind what is at this variable: handlers that a search finds which goes out from what is to do name variables from this one on, which lies behind all
+  -- variables that the activation does not name, and behind that one, where a mutex object may lie in what is there
+  abbrev pub IsPast : Around → Reach → List Todo → ℕ → Site → Type 0
+  IsPast A r todo k x = (cell : ℕ) × (r.low ≤ cell) × GuardsCode g.table g.source g.special cell todo ×
+      Searched g.table g.source g.special cell A.handles A.frame A.older × (MayHold g.table x → HasSome x → k < cell)
+
+  -- a mutex object may lie in the object at hand, where one may lie in what is at a field of that
+  abbrev pub BehindBy : Around → Reach → List Todo → Spot → Site → Type 0
+  BehindBy A r todo (OfVariable k) x = IsPast A r todo k x
+  BehindBy A r todo (OfField h i) x = MayHold g.table x → HasSome x → HoldsObjects g.table r.class
+
+  -- where something may be built or destroyed
+  abbrev pub SeatAt : Around → Reach → List Todo → Site → Type 0
+  SeatAt A r todo x = LoneAt g.table g.few A todo x × BehindBy A r todo (site_spot x) x
+
   abbrev pub Counts : Expr → Type 0
   Counts e = CountedExpr g.source e
 
@@ -189,12 +213,12 @@ module _ (g : Setting) where
 
   -- statements of a constructor or a destructor, which put marks for fields in order, with this to do behind them
   abbrev pub CodeSpine : Reach → Stmts → List Todo → Type 0
-  CodeSpine r ss todo = CodeStmts r ss × ((n : ℕ) × AllBelow n todo × Ascends n ss)
+  CodeSpine r ss todo = CodeStmts r ss × ((n : ℕ) × AllBelow n todo × Ascends n ss) × AllInClass g.table r.class ss
 
   -- the mutex object at hand is destroyed, or built
   abbrev pub CodeOpening : Around → Reach → Stmts → List Todo → Type 0
   CodeOpening A r ss todo = (r.builds ≡ true) × CountedStmts g.source ss × Opening g.table g.source g.special r ss ×
-      AllBelow 0 todo × Lone g.table g.few A.exec A.frame A.this A.older todo
+      AllBelow 0 todo × Lone g.table g.few A.exec A.frame A.this A.older todo × AllInClass g.table r.class ss
 
   -- statements within others, or all of what is no constructor and no destructor; those of one; or all of what has a mutex object at hand
   abbrev pub CodeRest : Around → Reach → Stmts → List Todo → Type 0
@@ -204,14 +228,18 @@ module _ (g : Setting) where
   abbrev pub CodeScope : Reach → CleanUp → List Todo → Type 0
   CodeScope r Ends todo = Unit {0}
   CodeScope r (Frees q) todo = Begins g.table g.source g.special q
-  CodeScope r c todo = CountedClean g.source c × CleansBy g.table g.source g.special r c × IsOutermost (spot_of c) todo
+  CodeScope r c todo = CountedClean g.source c × CleansBy g.table g.source g.special r c × IsOutermost (spot_of c) todo ×
+      LiesInClass g.table r.class c
 
   abbrev pub CodePart : Reach → CleanUp → List Todo → Type 0
-  CodePart r c todo = CountedClean g.source c × CleansBy g.table g.source g.special r c × IsOutermost (spot_of c) todo
+  CodePart r c todo = CountedClean g.source c × CleansBy g.table g.source g.special r c × IsOutermost (spot_of c) todo ×
+      LiesInClass g.table r.class c
 
-  abbrev pub CodeRoutine : Bool → Option Routine → Type 0
-  CodeRoutine b None = Unit {0}
-  CodeRoutine b (Some r) = CountedStmts g.source r.body × CallingRoutine g.table g.source g.special b (Some r)
+  -- a routine, at an object of this class
+  abbrev pub CodeRoutine : Bool → Option ℕ → Option Routine → Type 0
+  CodeRoutine b o None = Unit {0}
+  CodeRoutine b o (Some r) = CountedStmts g.source r.body × CallingRoutine g.table g.source g.special b o (Some r) ×
+      AllInClass g.table o r.body
 
   -- the marks behind a piece; behind one of statements nothing is known
   abbrev pub after : Todo → List Mark → List Mark
@@ -266,8 +294,8 @@ module _ (g : Setting) where
     -- at home at a site. Nothing stands around mutex objects there
     abbrev pub CallFits : ℕ → List Mark → List Todo → Type 0
     CallFits r ms todo = (g.special r ≡ false) ⊎
-        (((is_opening g.source r ≡ false) × FirstUnder (rests (params g.source r) ms) (λ p. IsOf made p × LoneAt g.table g.few A todo (Under p))) ⊎
-        FirstHome (rests (params g.source r) ms) (λ x. IsIn made x × LoneAt g.table g.few A todo x))
+        (((is_opening g.source r ≡ false) × FirstUnder (rests (params g.source r) ms) (λ n p. IsOf made p × SeatAt A made todo (Under (g.table.routine r).this n p))) ⊎
+        FirstHome (rests (params g.source r) ms) (λ x. IsIn made x × SeatAt A made todo x × OfObjects x))
 
     -- the code of a piece, with what is to do behind it, but for those of which more is asked
     abbrev pub CodePiece : Todo → List Mark → List Todo → Type 0
@@ -277,7 +305,7 @@ module _ (g : Setting) where
     CodePiece (piece.CallNow r) ms todo = g.special r ≡ false
     CodePiece (piece.CallOnNow r) ms todo = CallFits r ms todo
     CodePiece (piece.CallUnwrittenNow r) ms todo = CallFits r ms todo
-    CodePiece (piece.FillNow n b d) ms todo = CodeFill made (LoneAt g.table g.few A todo) b × CodeSweep made (LoneAt g.table g.few A todo) d
+    CodePiece (piece.FillNow n b d) ms todo = CodeFill made (SeatAt A made todo) b × CodeSweep made (SeatAt A made todo) d
     CodePiece (piece.TurnNow o t e b) ms todo = CodeLoop made t e b
     CodePiece (piece.Again o t e b) ms todo = CodeLoop made t e b
     CodePiece (piece.Items is) ms todo = CodeItems is
@@ -285,16 +313,16 @@ module _ (g : Setting) where
     CodePiece (piece.Pieces is) ms todo = CodeItems is
     CodePiece (piece.Targets xs) ms todo = CodeTargets xs
     CodePiece (piece.Variables ds) ms todo = CodeDeclared ds
-    CodePiece (piece.Do a) ms todo = CodeStmt (OpensRest todo) made a
+    CodePiece (piece.Do a) ms todo = CodeStmt (OpensRest g.table todo) made a
     CodePiece (piece.Rest ss) ms todo = CodeRest A made ss todo
     CodePiece (piece.InLoop o t e b) ms todo = CodeLoop made t e b
     CodePiece (piece.Clean c) ms todo = CodeScope made c todo
-    CodePiece (piece.Sweep e) ms todo = CodeSweep made (LoneAt g.table g.few A todo) e
+    CodePiece (piece.Sweep e) ms todo = CodeSweep made (SeatAt A made todo) e
     CodePiece (piece.Part c) ms todo = CodePart made c todo
     CodePiece (piece.Guard hs) ms todo = CodeHandlers (apart made) hs
     CodePiece (piece.Guards cs) ms todo = CodeClauses (apart made) cs
     CodePiece (piece.ChooseNow cs) ms todo = CodeClauses (apart made) cs
-    CodePiece piece.BindNow ms todo = FirstUnder (rest ms) (λ p. IsOf made p)
+    CodePiece piece.BindNow ms todo = FirstUnder (rest ms) (λ n p. IsOf made p)
     CodePiece piece.ForgetNow ms todo = made.builds ≡ true
     CodePiece (piece.SetUpNow r) ms todo = (made.builds ≡ true) × (g.special r ≡ false)
     CodePiece (piece.SpawnNow r) ms todo = g.special r ≡ false
@@ -307,8 +335,8 @@ module _ (g : Setting) where
     LeftBy (piece.IsLoop o t e b) todo left ok = CodeLoop made t e b × ok
     LeftBy piece.IsWhole todo left ok = ok
     LeftBy (piece.IsClean c) todo left ok = CodeScope made c todo × ok
-    LeftBy (piece.IsFill n b d) todo left ok = (CodeFill made (LoneAt g.table g.few A todo) b × CodeSweep made (LoneAt g.table g.few A todo) d) × ok
-    LeftBy (piece.IsSweep e) todo left ok = CodeSweep made (LoneAt g.table g.few A todo) e × ok
+    LeftBy (piece.IsFill n b d) todo left ok = (CodeFill made (SeatAt A made todo) b × CodeSweep made (SeatAt A made todo) d) × ok
+    LeftBy (piece.IsSweep e) todo left ok = CodeSweep made (SeatAt A made todo) e × ok
     LeftBy (piece.IsPart c) todo left ok = CodePart made c todo × ok
     LeftBy (piece.IsGuard hs) todo left ok = CodeHandlers (apart made) hs × ok
     LeftBy piece.IsFinish todo left ok = ok
@@ -323,13 +351,13 @@ module _ (g : Setting) where
           ((Plain e × Ok (Any ∷ ms) todo) ⊎
           ((Binds g.table g.source g.special made e × Ok (Any ∷ ms) todo) ⊎
           ((PlainNew g.table g.source g.special e × Ok (Any ∷ ms) todo) ⊎
-          ((CallsAt g.table g.source g.special made (LoneAt g.table g.few A todo) e × Ok (Any ∷ ms) todo) ⊎
-          (PlaceAt g.table g.source g.special made (λ x. Ok (At x ∷ ms) todo) e ⊎
+          ((CallsAt g.table g.source g.special made (SeatAt A made todo) e × Ok (Any ∷ ms) todo) ⊎
+          (PlaceAt g.table g.source g.special made (λ n p. Ok (At (Under None n p) ∷ ms) todo) e ⊎
           (Located e (λ x. Ok (At x ∷ ms) todo) ⊎
           ((IsEnding todo × Loads e (λ x. Ok (Homed x ∷ ms) todo)) ⊎
-          (((MakesAt g.table g.source g.special made (LoneAt g.table g.few A todo) e ⊎ MakesEach g.table g.source g.special made (LoneAt g.table g.few A todo) e) × Ok (Any ∷ ms) todo) ⊎
-          (((EndsAt g.table g.source g.special made (LoneAt g.table g.few A todo) e ⊎ EndsEach g.table g.source g.special made (LoneAt g.table g.few A todo) e) × Ok (Any ∷ ms) todo) ⊎
-          (EndsNumber g.table g.source g.special made e × Ok (Any ∷ ms) todo))))))))))
+          (((MakesAt g.table g.source g.special made (SeatAt A made todo) e ⊎ MakesEach g.table g.source g.special made (SeatAt A made todo) e) × Ok (Any ∷ ms) todo) ⊎
+          (((EndsAt g.table g.source g.special made (SeatAt A made todo) e ⊎ EndsEach g.table g.source g.special made (SeatAt A made todo) e) × Ok (Any ∷ ms) todo) ⊎
+          (EndsNumber g.table g.source g.special made AnySite e × Ok (Any ∷ ms) todo))))))))))
       Ok ms (piece.LoadNow ∷ todo) = Ok (Any ∷ rest ms) todo ⊎
           (IsEnding todo × FirstAt ms (λ x. Ok (Homed x ∷ rest ms) todo))
       Ok ms (piece.ElementNow n k ∷ todo) = Ok (Any ∷ rest (rest ms)) todo ⊎
@@ -350,7 +378,7 @@ module _ (g : Setting) where
   -- an activation of the execution n, before these older ones, that is to find so many operands in front of its own
   pub record Finds (many : ℕ) (n : Exec) (older : List Active) (a : Active) : Type 0 where
     pub made : Reach
-    pub this : IsSeated g.table g.few made n older a.frame a.this
+    pub this : IsSeated g.table g.source g.special g.few made n older a.frame a.handles a.this
     pub marks : List Mark
     pub holds : Holds g.few (around n a older) marks a.operands
     pub ok : Ok (around n a older) made (anys many marks) a.control

@@ -1,14 +1,12 @@
--- Marks are put for what is the execution's own, and nothing stands around fields, as long as homes are right where objects are bound and loaded, and
--- handlers of resumptions have their variables behind those in which fields stand that are still to be cleaned up.
-use Rattle.std.specs.Prelude.{◌≡◌, ℕ, ◌<◌, Bool, true, false, List, [], ◌∷◌, drop, Option, Some, None, slice_get}
+-- Marks are put for what is the execution's own, and nothing stands around fields, as long as homes are right where objects are bound and loaded.
+use Rattle.std.specs.Prelude.{◌≡◌, ℕ, Bool, true, false, List, [], ◌∷◌, drop, Option, Some, None, slice_get}
 use Rattle.uc_tree.specs.declared.kinds.Role.{Role}
 use Rattle.uc_tree.specs.declared.kinds.Role.TheVariants as role
 use Rattle.uc_tree.specs.Programs.{Program}
 use Rattle.uc_tree.specs.Source.{routine_of}
 use Rattle.uc_entry.specs.declared.request.Answer.{Answer}
 use Rattle.uc_machine.specs.Pieces as piece
-use Rattle.uc_machine.specs.Pieces.{Value, Todo, State, loaded, top, below}
-use Rattle.uc_machine.specs.Raising.{Found, event_in, seek}
+use Rattle.uc_machine.specs.Pieces.{Todo, State, loaded, top, below}
 use Rattle.uc_machine.specs.Quiet.{quiet, first_state}
 use Rattle.uc_machine.specs.Answering.{answered}
 use Rattle.uc_answer_laws.specs.Suiting.{Form, IsForm}
@@ -20,13 +18,11 @@ use Rattle.uc_state_laws.specs.Layout.{Sized}
 use Rattle.uc_state_laws.specs.RoomStacks.{StackState}
 use Rattle.uc_state_laws.specs.Makers.{roles}
 use Rattle.uc_state_laws.specs.Counted.{params, CountedSource}
-use Rattle.uc_typing.specs.Typing.{Cell, Obj}
-use Rattle.uc_life_laws.specs.Things.{Few, Stands}
+use Rattle.uc_life_laws.specs.Things.{Few}
 use Rattle.uc_life_laws.specs.LifeRuns.{IsLaidOut}
 use Rattle.uc_life_laws.specs.Marks.{Puts}
 use Rattle.uc_place_laws.specs.OlderResting.{AllWait, NamedEnv}
-use Rattle.uc_putting_laws.specs.ObjectsAtHand.{LiesIn, variable, OwnMarked}
-use Rattle.uc_putting_laws.specs.Calling.{CallingStmts, CallingSource}
+use Rattle.uc_putting_laws.specs.Calling.{CallingSource}
 use Rattle.uc_putting_laws.specs.Putting.{Setting, IsHome, IsEnding, FindsFor, Runs, Waits, PutState, PutStep}
 
 -- a constructor or a destructor, by its role
@@ -48,24 +44,10 @@ LawCalling = (p : Program) → IsFormed p → breaks_of p ≡ [] →
     CallingSource (table_of p) (source_of p) (special_of p)
 
 module _ (g : Setting) where
-  -- the handler of a resumption, of which the statements are in order from a variable on, behind those in which a field stands that this activation or
-  -- an older one has to clean up, with this to do
-  pub record IsBehind (y : Found) (todo : List Todo) (s : State) : Type 0 where
-    pub low : ℕ
-    pub code : CallingStmts g.table g.source g.special (record { builds = false; low = low }) y.handler.body
-    pub spare : (k : ℕ) (v : Value) (e : ℕ) → LiesIn g.few (variable s.env.exec y.frame k) v →
-        Stands g.table g.few (OwnMarked g.table s.env.exec (record s.run { control = todo } ∷ s.callers)) (Cell (Obj e)) v → k < low
-
-  abbrev pub FoundBehind : Option Found → List Todo → State → Type 0
-  FoundBehind None todo s = Unit {0}
-  FoundBehind (Some y) todo s = IsBehind y todo s
-
-  -- what is left to find for a step: where an object is bound, and where one that is to be destroyed is loaded, it is at home at that place; and where
-  -- an event is resumed, a handler that is found is so
+  -- what is left to find for a step: where an object is bound, and where one that is to be destroyed is loaded, it is at home at that place
   abbrev pub FairAt : List Todo → State → Type 0
   FairAt (piece.LoadNow ∷ todo) s = IsEnding todo → IsHome g.few (loaded (top s.run.operands) s.env) (top s.run.operands)
   FairAt (piece.BindMadeNow c r ∷ todo) s = IsHome g.few (top s.run.operands) (top (drop (params g.source r) (below s.run.operands)))
-  FairAt (piece.RaiseNow ∷ todo) s = FoundBehind (seek None (event_in s.run.operands) (record s.run { control = todo } ∷ s.callers)) todo s
   FairAt todo s = Unit {0}
 
   abbrev pub Fair : State → Type 0

@@ -1,3 +1,4 @@
+pub mod Bare
 pub mod Children
 pub mod Falling
 pub mod Leading

@@ -37,6 +37,7 @@ use uc_except::found::Found;
 use uc_except::handling::{handle, throw};
 use uc_except::seeking::{catching_row, propagate};
 use uc_frames::event::Event;
+use uc_frames::search::is_covered;
 use uc_frames::work::Work;
 use uc_machine::exec::UnwindReason;
 use uc_step::effect::Stop;
@@ -244,6 +245,10 @@ fn unwind_once(code: &Code, work: &mut Work, asked: &mut Asked) -> Result<Unwind
 {
     // A number of elements that is a `u32` bounds what is left of the activation.
     let _ = work.elements();
+    if !is_covered(code, work.next()) {
+        let left = leave_on(code, work, asked)?;
+        return Ok(left);
+    }
     let frame = work.level();
     let caught = catcher(code, work);
     if unwind(code, work, frame, row_in(caught)) {

@@ -51,16 +51,18 @@ use Rattle.uc_rooted_runs.specs.Births.{made_now, with_birth, makers_by, makers_
 pub record Keeps (serials : Home → ℕ) (b c : Makers) : Type 0 where
   pub parents : (m : Exec) → IsBelow serials m → c.parent m ≡ b.parent m
   pub seats : (m : Exec) → IsBelow serials m → (c.seat m).place ≡ (b.seat m).place
+  pub tasks : (m : Exec) → IsBelow serials m → (c.seat m).task ≡ (b.seat m).task
   pub befores : (m : Exec) → IsBelow serials m → c.before m ≡ b.before m
   pub ranks : (m : Exec) → IsBelow serials m → c.rank m ≡ b.rank m
 
 keeps_same : (serials : Home → ℕ) (b : Makers) → Keeps serials b b
-keeps_same serials b = record { parents = λ m h. refl; seats = λ m h. refl; befores = λ m h. refl; ranks = λ m h. refl }
+keeps_same serials b = record { parents = λ m h. refl; seats = λ m h. refl; tasks = λ m h. refl; befores = λ m h. refl; ranks = λ m h. refl }
 
 keeps_on : (before behind : Home → ℕ) → ((h : Home) → before h ≤ behind h) → (a b c : Makers) → Keeps before a b → Keeps behind b c → Keeps before a c
 keeps_on before behind le a b c h k = record {
   parents = λ m x. k.parents m (below_more before behind le m x) ∙ h.parents m x;
   seats = λ m x. k.seats m (below_more before behind le m x) ∙ h.seats m x;
+  tasks = λ m x. k.tasks m (below_more before behind le m x) ∙ h.tasks m x;
   befores = λ m x. k.befores m (below_more before behind le m x) ∙ h.befores m x;
   ranks = λ m x. k.ranks m (below_more before behind le m x) ∙ h.ranks m x;
 }
@@ -69,11 +71,12 @@ keeps_less : (before behind : Home → ℕ) → ((h : Home) → before h ≤ beh
 keeps_less before behind le b c k = record {
   parents = λ m x. k.parents m (below_more before behind le m x);
   seats = λ m x. k.seats m (below_more before behind le m x);
+  tasks = λ m x. k.tasks m (below_more before behind le m x);
   befores = λ m x. k.befores m (below_more before behind le m x);
   ranks = λ m x. k.ranks m (below_more before behind le m x);
 }
 
-module _ (serials : Home → ℕ) (b : Makers) (n by : Exec) (v : Value) (ps : List Placed) (new : IsBelow serials n → ⊥) where
+module _ (serials : Home → ℕ) (b : Makers) (n by : Exec) (v : Value) (main : Bool) (ps : List Placed) (new : IsBelow serials n → ⊥) where
   apart : (m : Exec) → IsBelow serials m → exec_eq m n ≡ false
   apart m h = at (exec_eq m n) refl
     where
@@ -81,32 +84,34 @@ module _ (serials : Home → ℕ) (b : Makers) (n by : Exec) (v : Value) (ps : L
       at true e = absurd (new (subst (IsBelow serials) (same_exec m n e) h))
       at false e = e
 
-  made_keeps : Keeps serials b (made_now b n by v ps)
+  made_keeps : Keeps serials b (made_now b n by v main ps)
   made_keeps = record {
     parents = λ m h. ap (λ c. if c then by else b.parent m) (apart m h);
     seats = λ m h. ap (λ c. if c then v else (b.seat m).place) (apart m h);
+    tasks = λ m h. ap (λ c. if c then main else (b.seat m).task) (apart m h);
     befores = λ m h. ap (λ c. if c then ps else b.before m) (apart m h);
     ranks = λ m h. ap (λ c. if c then suc (b.rank by) else b.rank m) (apart m h);
   }
 
-  made_by : IsBelow serials by → MadeBy (made_now b n by v ps) n by v ps
+  made_by : IsBelow serials by → MadeBy (made_now b n by v main ps) n by v main ps
   made_by h =
-      let new_rank : (made_now b n by v ps).rank n ≡ suc (b.rank by) = ap (λ c. if c then suc (b.rank by) else b.rank n) (exec_self n) in
-      let old_rank : (made_now b n by v ps).rank by ≡ b.rank by = ap (λ c. if c then suc (b.rank by) else b.rank by) (apart by h) in
+      let new_rank : (made_now b n by v main ps).rank n ≡ suc (b.rank by) = ap (λ c. if c then suc (b.rank by) else b.rank n) (exec_self n) in
+      let old_rank : (made_now b n by v main ps).rank by ≡ b.rank by = ap (λ c. if c then suc (b.rank by) else b.rank by) (apart by h) in
       record {
         parent = ap (λ c. if c then by else b.parent n) (exec_self n);
         seat = ap (λ c. if c then v else (b.seat n).place) (exec_self n);
+        task = ap (λ c. if c then main else (b.seat n).task) (exec_self n);
         before = ap (λ c. if c then ps else b.before n) (exec_self n);
         later = omega (arith, new_rank, old_rank);
       }
 
 -- what is told of one that was made goes on to be
-later_kept : (serials : Home → ℕ) (b c : Makers) → Keeps serials b c → (n by : Exec) (v : Value) (ps : List Placed) → IsBelow serials n → IsBelow serials by → MadeBy b n by v ps → MadeBy c n by v ps
-later_kept serials b c k n by v ps h i y =
+later_kept : (serials : Home → ℕ) (b c : Makers) → Keeps serials b c → (n by : Exec) (v : Value) (main : Bool) (ps : List Placed) → IsBelow serials n → IsBelow serials by → MadeBy b n by v main ps → MadeBy c n by v main ps
+later_kept serials b c k n by v main ps h i y =
     let p = k.ranks n h in
     let q = k.ranks by i in
     let l = y.later in
-    record { parent = k.parents n h ∙ y.parent; seat = k.seats n h ∙ y.seat; before = k.befores n h ∙ y.before; later = omega (arith, p, q, l) }
+    record { parent = k.parents n h ∙ y.parent; seat = k.seats n h ∙ y.seat; task = k.tasks n h ∙ y.task; before = k.befores n h ∙ y.before; later = omega (arith, p, q, l) }
 
 -- all that a state makes, by one that was made
 pub record MakesBelow (source : Source) (serials : Home → ℕ) (b : Makers) (s : State) : Type 0 where
@@ -118,7 +123,7 @@ pub makes_more : (source : Source) (before behind : Home → ℕ) → ((h : Home
 makes_more source before behind le b c k s h = record {
   running = below_more before behind le s.env.exec h.running;
   born = λ n x. below_more before behind le n (h.born n x);
-  later = λ n x. later_kept before b c k n s.env.exec s.run.this (outermost s.callers) (h.born n x) h.running (h.later n x);
+  later = λ n x. later_kept before b c k n s.env.exec s.run.this false (outermost s.callers) (h.born n x) h.running (h.later n x);
 }
 
 grows_on : (here : Home → Bool) (a b c : Home → ℕ) → Grows here a b → Grows here b c → Grows here a c
@@ -153,14 +158,14 @@ module _ (source : Source) (here : Home → Bool) where
     makes_none : ((n : Exec) → IsBorn source s n → ⊥) → Tells b
     makes_none f = (keeps_same serials b, record { running = running; born = h.born; later = λ n x. absurd (f n x) })
 
-    makes_one : (m : Members) → members_at (home_at s.run.this s.env) s.env ≡ Some m → Tells (made_now b (new_exec (home_at s.run.this s.env) s.env) s.env.exec s.run.this (outermost s.callers))
+    makes_one : (m : Members) → members_at (home_at s.run.this s.env) s.env ≡ Some m → Tells (made_now b (new_exec (home_at s.run.this s.env) s.env) s.env.exec s.run.this false (outermost s.callers))
     makes_one m e =
         let new : IsBelow serials (new_exec (home_at s.run.this s.env) s.env) → ⊥ = law_new.unnamed here false serials s k (home_at s.run.this s.env) m e in (
-          made_keeps serials b (new_exec (home_at s.run.this s.env) s.env) s.env.exec s.run.this (outermost s.callers) new,
+          made_keeps serials b (new_exec (home_at s.run.this s.env) s.env) s.env.exec s.run.this false (outermost s.callers) new,
           record {
             running = running;
             born = h.born;
-            later = λ n x. subst (λ q. MadeBy (made_now b (new_exec (home_at s.run.this s.env) s.env) s.env.exec s.run.this (outermost s.callers)) q s.env.exec s.run.this (outermost s.callers)) (sym x.named) (made_by serials b (new_exec (home_at s.run.this s.env) s.env) s.env.exec s.run.this (outermost s.callers) new k.names.env_named.exec_below);
+            later = λ n x. subst (λ q. MadeBy (made_now b (new_exec (home_at s.run.this s.env) s.env) s.env.exec s.run.this false (outermost s.callers)) q s.env.exec s.run.this false (outermost s.callers)) (sym x.named) (made_by serials b (new_exec (home_at s.run.this s.env) s.env) s.env.exec s.run.this false (outermost s.callers) new k.names.env_named.exec_below);
           },
         )
 
@@ -248,10 +253,10 @@ module _ (source : Source) (input : List ℕ) (opts : Options) (range : InRange 
       let none = f o refl in
       let new : IsBelow now (main_of o) → ⊥ = λ l. omega (arith, l, none) in
       record {
-        keeps = made_keeps now b (main_of o) s.env.exec (piece.Object o) (outermost s.callers) new;
+        keeps = made_keeps now b (main_of o) s.env.exec (piece.Object o) true (outermost s.callers) new;
         running = below_more now (after_by (ask.Spawn o) now) (after_more (ask.Spawn o) now) s.env.exec h;
         main = λ k e. let one = one_main (ask.Spawn o) now k e in omega (arith, one);
-        later = made_by now b (main_of o) s.env.exec (piece.Object o) (outermost s.callers) new h;
+        later = made_by now b (main_of o) s.env.exec (piece.Object o) true (outermost s.callers) new h;
       }
   spawned now q s h f b = record {
     keeps = keeps_same now b;
@@ -274,7 +279,7 @@ module _ (source : Source) (input : List ℕ) (opts : Options) (range : InRange 
   }
     where
       by : (q : Request) → ((o : ℕ) → q ≡ ask.Spawn o → IsBelow before (main_of o)) → SpawnsLater b q s → SpawnsLater c q s
-      by (ask.Spawn o) m l = later_kept before b c k (main_of o) s.env.exec (piece.Object o) (outermost s.callers) (m o refl) h.running l
+      by (ask.Spawn o) m l = later_kept before b c k (main_of o) s.env.exec (piece.Object o) true (outermost s.callers) (m o refl) h.running l
       by q m l = tt
 
   abbrev pub MaySpawnBelow : (serials : Home → ℕ) (b : Makers) {j : Journal} {w : World} {a : List Entry} {v : World} → May source opts input j w a v → Type 0

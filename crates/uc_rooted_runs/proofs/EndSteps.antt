@@ -25,9 +25,9 @@ use Rattle.uc_machine.specs.Quiet as quiet
 use Rattle.uc_machine.specs.Pieces as piece
 use Rattle.uc_machine.specs.Pieces.{Value, Number, Place, Running, Object, Nothing, Todo, Sort, Active, State, Env, Members, Step, Goes, Ticks, Asks, Outcome, Gives, Faults, at, top, below, number, nought, written}
 use Rattle.uc_life_laws.proofs.Cells.{either}
-use Rattle.uc_life_laws.specs.Placed.{placed, stacked}
+use Rattle.uc_life_laws.specs.Placed.{placed}
 use Rattle.uc_life_laws.specs.Held.{AreLines}
-use Rattle.uc_rooted_runs.specs.Mains.{MainIn, FindsBy, FindsAll}
+use Rattle.uc_rooted_runs.specs.Mains.{FindsBy, FindsAll}
 
 -- lines alone have no marks
 pub bare_none : (f : ℕ) (this : Value) (todo : List Todo) → AreLines todo → placed f this todo [] ≡ []
@@ -35,86 +35,97 @@ bare_none f this [] h = refl
 bare_none f this (piece.Within line ∷ todo) h = bare_none f this todo h
 bare_none f this (p ∷ todo) h = absurd h
 
--- where an end is asked no marks are left
-abbrev EndAsk : Request → State → Type 0
-EndAsk ask.End s = stacked (s.run ∷ s.callers) ≡ []
-EndAsk r s = Unit {0}
+-- what holds of the state where an end is asked
+abbrev EndAsk : (State → Type 0) → Request → State → Type 0
+EndAsk Q ask.End s = Q s
+EndAsk Q r s = Unit {0}
 
-abbrev pub EndStep : Step → Type 0
-EndStep (Goes s) = Unit {0}
-EndStep (Ticks s) = Unit {0}
-EndStep (Asks r s) = EndAsk r s
+abbrev pub EndStep : (State → Type 0) → Step → Type 0
+EndStep Q (Goes s) = Unit {0}
+EndStep Q (Ticks s) = Unit {0}
+EndStep Q (Asks r s) = EndAsk Q r s
 
-module _ (source : Source) (s : State) where
+-- nothing is left to do in an activation, but for what leaves it, or for the end of a main
+abbrev pub IsOver : List Todo → Type 0
+IsOver [] = Unit {0}
+IsOver (piece.Exit w ∷ []) = Unit {0}
+IsOver (piece.Unwind ∷ []) = Unit {0}
+IsOver (piece.Finish ∷ todo) = Unit {0}
+IsOver todo = ⊥
+
+module _ (Q : State → Type 0) (source : Source) (s : State) where
+  abbrev EStep : Step → Type 0
+  EStep step = EndStep Q step
+
   -- the end of an activation
 
-  -- where nobody waits, nothing is left
-  abbrev IsLast : List Active → Type 0
-  IsLast cs = cs ≡ [] → stacked (s.run ∷ s.callers) ≡ []
+  -- so it is where nobody waits
+  abbrev pub IsLast : List Active → Type 0
+  IsLast cs = cs ≡ [] → Q s
 
-  returned : (given : Value) (cs : List Active) → IsLast cs → EndStep (piece.return_step given cs s)
+  returned : (given : Value) (cs : List Active) → IsLast cs → EStep (piece.return_step given cs s)
   returned given [] f = f refl
   returned given (a ∷ cs) f = tt
 
-  past : (v : Visited) (given : Value) (cs : List Active) → IsLast cs → EndStep (raising.return_past v given cs s)
+  past : (v : Visited) (given : Value) (cs : List Active) → IsLast cs → EStep (raising.return_past v given cs s)
   past v given [] f = f refl
   past v given (a ∷ cs) f = tt
 
-  end_by : (v : Option Visited) (given : Value) → IsLast s.callers → EndStep (raising.end_by v given s)
+  end_by : (v : Option Visited) (given : Value) → IsLast s.callers → EStep (raising.end_by v given s)
   end_by None given f = returned given s.callers f
   end_by (Some v) given f = past v given s.callers f
 
-  end_step : (w : Way) → IsLast s.callers → EndStep (quiet.end_step w s)
+  end_step : (w : Way) → IsLast s.callers → EStep (quiet.end_step w s)
   end_step src.ToReturn f = end_by s.run.handles _ f
   end_step src.ToEnd f = end_by s.run.handles _ f
   end_step src.ToBreak f = returned _ s.callers f
   end_step src.ToContinue f = returned _ s.callers f
 
-  pass_on : (w : Option UnwindReason) (c : Active) (cs : List Active) → (w ≡ None → ⊥) → EndStep (raising.pass_on w c cs s)
+  pass_on : (w : Option UnwindReason) (c : Active) (cs : List Active) → (w ≡ None → ⊥) → EStep (raising.pass_on w c cs s)
   pass_on None c cs g = absurd (g refl)
   pass_on (Some why) c cs g = tt
 
-  leave_for : (b : Bool) (c : Active) (cs : List Active) → (s.run.raised ≡ None → ⊥) → EndStep (raising.leave_for b c cs s)
+  leave_for : (b : Bool) (c : Active) (cs : List Active) → (s.run.raised ≡ None → ⊥) → EStep (raising.leave_for b c cs s)
   leave_for true c cs g = tt
   leave_for false c cs g = pass_on s.run.raised c cs g
 
-  leaves : (cs : List Active) → IsLast cs → (s.run.raised ≡ None → ⊥) → EndStep (raising.leave_step cs s)
+  leaves : (cs : List Active) → IsLast cs → (s.run.raised ≡ None → ⊥) → EStep (raising.leave_step cs s)
   leaves [] f g = f refl
   leaves (c ∷ cs) f g =
-      either EndStep (raising.arrives s.run.raised (length (c ∷ cs))) _ _ (returned s.run.result (c ∷ cs) f) (leave_for _ c cs g)
+      either EStep (raising.arrives s.run.raised (length (c ∷ cs))) _ _ (returned s.run.result (c ∷ cs) f) (leave_for _ c cs g)
 
-  moved : (m : Moved (List Todo) Value) (todo : List Todo) (vs : List Value) → EndStep (piece.moves m (at todo vs s))
+  moved : (m : Moved (List Todo) Value) (todo : List Todo) (vs : List Value) → EStep (piece.moves m (at todo vs s))
   moved (To u) todo vs = tt
   moved (Stops f) todo vs = tt
 
-  outcome : (x : Outcome) (todo : List Todo) (vs : List Value) → EndStep (piece.outcome_step x todo vs s)
+  outcome : (x : Outcome) (todo : List Todo) (vs : List Value) → EStep (piece.outcome_step x todo vs s)
   outcome (Gives n) todo vs = tt
   outcome (Faults f) todo vs = tt
 
-  element : (n : Shape) (i : Option ℕ) (todo : List Todo) (v : Value) (vs : List Value) → EndStep (piece.element_step n i todo v vs s)
+  element : (n : Shape) (i : Option ℕ) (todo : List Todo) (v : Value) (vs : List Value) → EStep (piece.element_step n i todo v vs s)
   element n None todo v vs = tt
   element n (Some i) todo v vs = tt
 
   -- expressions
 
-  object : (x : ObjectExpr) (todo : List Todo) → EndStep (quiet.object_step x todo s)
+  object : (x : ObjectExpr) (todo : List Todo) → EStep (quiet.object_step x todo s)
   object (src.EndOn r false a) todo = tt
   object (src.EndOn r true a) todo = tt
   object (src.MakeOn c r false a args) todo = tt
   object (src.MakeOn c r true a args) todo = tt
   object x todo = tt
 
-  eval : (a : Expr) (todo : List Todo) → EndStep (quiet.eval_step a todo s)
+  eval : (a : Expr) (todo : List Todo) → EStep (quiet.eval_step a todo s)
   eval (src.OfObject x) todo = object x todo
   eval a todo = tt
 
   -- statements
 
-  swept : (n : ℕ) (e : Expr) (todo : List Todo) → EndStep (quiet.sweep_step n e todo s)
+  swept : (n : ℕ) (e : Expr) (todo : List Todo) → EStep (quiet.sweep_step n e todo s)
   swept zero e todo = tt
   swept (suc m) e todo = tt
 
-  event_step : (a : EventStmt) (todo : List Todo) → EndStep (quiet.event_step a todo s)
+  event_step : (a : EventStmt) (todo : List Todo) → EStep (quiet.event_step a todo s)
   event_step (src.Throw line r) todo = tt
   event_step (src.Raise line r) todo = tt
   event_step (src.RaiseAt line r a) todo = tt
@@ -122,18 +133,18 @@ module _ (source : Source) (s : State) where
   event_step (src.Enable line events cell a) todo = tt
   event_step (src.Disable line events cell a) todo = tt
 
-  task_step : (a : TaskStmt) (todo : List Todo) → EndStep (quiet.task_step a todo s)
+  task_step : (a : TaskStmt) (todo : List Todo) → EStep (quiet.task_step a todo s)
   task_step (src.Resume line) todo = tt
   task_step a todo = tt
 
-  stmt : (a : Stmt) (todo : List Todo) → EndStep (quiet.stmt_step a todo s)
+  stmt : (a : Stmt) (todo : List Todo) → EStep (quiet.stmt_step a todo s)
   stmt (src.Return line None) todo = tt
   stmt (src.Return line (Some e)) todo = tt
   stmt (src.OfEvents a) todo = event_step a todo
   stmt (src.OfTasks a) todo = task_step a todo
   stmt a todo = tt
 
-  rests : (ss : Stmts) (todo : List Todo) → EndStep (quiet.rest_step ss todo s)
+  rests : (ss : Stmts) (todo : List Todo) → EStep (quiet.rest_step ss todo s)
   rests src.Nil todo = tt
   rests (src.Then a ss) todo = tt
   rests (src.Scoped c ss) todo = tt
@@ -141,139 +152,139 @@ module _ (source : Source) (s : State) where
 
   -- calls
 
-  begun : (r : Routine) (this : Value) (counts : Bool) (todo : List Todo) (vs : List Value) → EndStep (quiet.begun_step r this counts todo vs s)
+  begun : (r : Routine) (this : Value) (counts : Bool) (todo : List Todo) (vs : List Value) → EStep (quiet.begun_step r this counts todo vs s)
   begun r this counts todo vs = tt
 
-  call : (r : Option Routine) → (r ≡ None → ⊥) → (todo : List Todo) → EndStep (quiet.call_step r todo s)
+  call : (r : Option Routine) → (r ≡ None → ⊥) → (todo : List Todo) → EStep (quiet.call_step r todo s)
   call None g todo = absurd (g refl)
-  call (Some r) g todo = either EndStep (nat_lt s.env.links.calls CALLS) _ _ (begun r Nothing true todo (drop r.params s.run.operands)) tt
+  call (Some r) g todo = either EStep (nat_lt s.env.links.calls CALLS) _ _ (begun r Nothing true todo (drop r.params s.run.operands)) tt
 
-  call_on : (r : Option Routine) → (r ≡ None → ⊥) → (todo : List Todo) → EndStep (quiet.call_on_step r todo s)
+  call_on : (r : Option Routine) → (r ≡ None → ⊥) → (todo : List Todo) → EStep (quiet.call_on_step r todo s)
   call_on None g todo = absurd (g refl)
   call_on (Some r) g todo =
-      either EndStep (nat_lt s.env.links.calls CALLS) _ _ (begun r (top (drop r.params s.run.operands)) true todo (below (drop r.params s.run.operands))) tt
+      either EStep (nat_lt s.env.links.calls CALLS) _ _ (begun r (top (drop r.params s.run.operands)) true todo (below (drop r.params s.run.operands))) tt
 
-  call_unwritten : (r : Option Routine) → (r ≡ None → ⊥) → (todo : List Todo) → EndStep (quiet.call_unwritten_step r todo s)
+  call_unwritten : (r : Option Routine) → (r ≡ None → ⊥) → (todo : List Todo) → EStep (quiet.call_unwritten_step r todo s)
   call_unwritten None g todo = absurd (g refl)
   call_unwritten (Some r) g todo = begun r (top (drop r.params s.run.operands)) false todo (below (drop r.params s.run.operands))
 
   -- coroutines
 
-  set_up : (r : Option Routine) (todo : List Todo) → EndStep (quiet.set_up_step r todo s)
+  set_up : (r : Option Routine) (todo : List Todo) → EStep (quiet.set_up_step r todo s)
   set_up None todo = tt
   set_up (Some r) todo = tt
 
-  live : (r : Option Routine) → (r ≡ None → ⊥) → (todo : List Todo) → EndStep (quiet.live_step r todo s)
+  live : (r : Option Routine) → (r ≡ None → ⊥) → (todo : List Todo) → EStep (quiet.live_step r todo s)
   live None g todo = absurd (g refl)
-  live (Some r) g todo = either EndStep (sw.is_live (piece.exec_at (top (drop r.params s.run.operands)) s.env) s.env) _ _ tt tt
+  live (Some r) g todo = either EStep (sw.is_live (piece.exec_at (top (drop r.params s.run.operands)) s.env) s.env) _ _ tt tt
 
-  land : (w : Option UnwindReason) (todo : List Todo) → EndStep (quiet.land_step w todo s)
+  land : (w : Option UnwindReason) (todo : List Todo) → EStep (quiet.land_step w todo s)
   land None todo = tt
   land (Some why) todo = tt
 
   -- mutex objects
 
-  unless : (q : ℕ) (step : Step) (todo : List Todo) → EndStep step → EndStep (monitors.unless_held_up q step todo s)
-  unless q step todo k = either EndStep (inside.is_held_up q s.env) _ step tt k
+  unless : (q : ℕ) (step : Step) (todo : List Todo) → EStep step → EStep (monitors.unless_held_up q step todo s)
+  unless q step todo k = either EStep (inside.is_held_up q s.env) _ step tt k
 
-  enter_at : (d : Option ℕ) (q m : ℕ) (todo : List Todo) → EndStep (monitors.enter_at d q m todo s)
+  enter_at : (d : Option ℕ) (q m : ℕ) (todo : List Todo) → EStep (monitors.enter_at d q m todo s)
   enter_at (Some d) q m todo = tt
   enter_at None q m todo = tt
 
-  enter : (m : ℕ) (r : Option Routine) → (r ≡ None → ⊥) → (todo : List Todo) → EndStep (monitors.enter_step m r todo s)
+  enter : (m : ℕ) (r : Option Routine) → (r ≡ None → ⊥) → (todo : List Todo) → EStep (monitors.enter_step m r todo s)
   enter m None g todo = absurd (g refl)
   enter m (Some r) g todo =
       let q = piece.object_in (top (drop r.params s.run.operands)) in
-      either EndStep (monitors.may_call r.written s) _ _ (enter_at (find q s.env.depths) q m todo) tt
+      either EStep (monitors.may_call r.written s) _ _ (enter_at (find q s.env.depths) q m todo) tt
 
-  leave : (b : Bool) (q : ℕ) (todo : List Todo) → EndStep (monitors.leave_at b q todo s)
+  leave : (b : Bool) (q : ℕ) (todo : List Todo) → EStep (monitors.leave_at b q todo s)
   leave false q todo = tt
   leave true q todo = unless q _ todo tt
 
-  make : (c n : ℕ) (r : Option Routine) → (r ≡ None → ⊥) → (todo : List Todo) → EndStep (monitors.make_step c n r todo s)
+  make : (c n : ℕ) (r : Option Routine) → (r ≡ None → ⊥) → (todo : List Todo) → EStep (monitors.make_step c n r todo s)
   make c n None g todo = absurd (g refl)
-  make c n (Some r) g todo = either EndStep (monitors.may_call r.written s) _ _ tt tt
+  make c n (Some r) g todo = either EStep (monitors.may_call r.written s) _ _ tt tt
 
-  bind : (r : Option Routine) → (r ≡ None → ⊥) → (todo : List Todo) → EndStep (monitors.bind_step r todo s)
+  bind : (r : Option Routine) → (r ≡ None → ⊥) → (todo : List Todo) → EStep (monitors.bind_step r todo s)
   bind None g todo = absurd (g refl)
   bind (Some r) g todo = tt
 
-  condition : (n : ℕ) (i : Option ℕ) (todo : List Todo) → EndStep (monitors.condition_step n i todo s)
+  condition : (n : ℕ) (i : Option ℕ) (todo : List Todo) → EStep (monitors.condition_step n i todo s)
   condition n None todo = tt
   condition n (Some i) todo = tt
 
-  accept_by : (mask q site : ℕ) (todo : List Todo) (vs : List Value) → EndStep (monitors.accept_by mask q site todo vs s)
+  accept_by : (mask q site : ℕ) (todo : List Todo) (vs : List Value) → EStep (monitors.accept_by mask q site todo vs s)
   accept_by zero q site todo vs = tt
   accept_by (suc mask) q site todo vs = unless q _ todo tt
 
-  failed : (b : Bool) (todo : List Todo) (vs : List Value) → EndStep (monitors.failed_step b todo vs s)
+  failed : (b : Bool) (todo : List Todo) (vs : List Value) → EStep (monitors.failed_step b todo vs s)
   failed true todo vs = tt
   failed false todo vs = tt
 
   -- events
 
-  pend : (n : Exec) (e : Event) (todo : List Todo) (vs : List Value) → EndStep (polls.pend_step n e todo vs s)
+  pend : (n : Exec) (e : Event) (todo : List Todo) (vs : List Value) → EStep (polls.pend_step n e todo vs s)
   pend n e todo vs =
-      either EndStep (nat_lt (length (inside.pending_at n s.env)) PENDING_EVENTS) _ _ tt tt
+      either EStep (nat_lt (length (inside.pending_at n s.env)) PENDING_EVENTS) _ _ tt tt
 
-  pend_at : (x : Option Exec) (e : Event) (todo : List Todo) (vs : List Value) → EndStep (polls.pend_at x e todo vs s)
+  pend_at : (x : Option Exec) (e : Event) (todo : List Todo) (vs : List Value) → EStep (polls.pend_at x e todo vs s)
   pend_at None e todo vs = tt
-  pend_at (Some n) e todo vs = either EndStep (sw.is_live (Some n) s.env) _ _ (pend n e todo vs) tt
+  pend_at (Some n) e todo vs = either EStep (sw.is_live (Some n) s.env) _ _ (pend n e todo vs) tt
 
-  raise_at : (v : Value) (e : Event) (todo : List Todo) (vs : List Value) → EndStep (polls.raise_at_step v e todo vs s)
+  raise_at : (v : Value) (e : Event) (todo : List Todo) (vs : List Value) → EStep (polls.raise_at_step v e todo vs s)
   raise_at (Object q) e todo vs = tt
   raise_at v e todo vs = pend_at (piece.exec_at v s.env) e todo vs
 
-  quiet_poll : (x : Option Pending) (todo : List Todo) → EndStep (polls.quiet_poll x todo s)
+  quiet_poll : (x : Option Pending) (todo : List Todo) → EStep (polls.quiet_poll x todo s)
   quiet_poll None todo = tt
   quiet_poll (Some p) todo = tt
 
-  poll_by : (b : Bool) (todo : List Todo) → EndStep (polls.poll_by b todo s)
+  poll_by : (b : Bool) (todo : List Todo) → EStep (polls.poll_by b todo s)
   poll_by true todo = tt
   poll_by false todo = quiet_poll (inside.oldest_enabled s.env.links) todo
 
-  poll : (todo : List Todo) → EndStep (polls.poll_step todo s)
-  poll todo = either EndStep (nat_eq s.env.links.enabled 0) _ _ tt (poll_by (inside.is_own s.env) todo)
+  poll : (todo : List Todo) → EStep (polls.poll_step todo s)
+  poll todo = either EStep (nat_eq s.env.links.enabled 0) _ _ tt (poll_by (inside.is_own s.env) todo)
 
-  deliver : (v : Value) (todo : List Todo) → EndStep (polls.deliver_step v todo s)
+  deliver : (v : Value) (todo : List Todo) → EStep (polls.deliver_step v todo s)
   deliver Nothing todo = tt
   deliver v todo = tt
 
-  handles : (o : Option Found) (e : Event) (todo : List Todo) → EndStep (raising.handle_step o e todo s)
+  handles : (o : Option Found) (e : Event) (todo : List Todo) → EStep (raising.handle_step o e todo s)
   handles None e todo = tt
   handles (Some x) e todo = tt
 
-  raises : (e : Event) (todo : List Todo) → EndStep (raising.raise_step e todo s)
+  raises : (e : Event) (todo : List Todo) → EStep (raising.raise_step e todo s)
   raises e todo = handles (raising.seek None e (record s.run { control = todo } ∷ s.callers)) e todo
 
   -- unwinding
 
-  catches : (x : Option Handler) (e : Event) (todo : List Todo) → EndStep (raising.catch_step x e todo s)
+  catches : (x : Option Handler) (e : Event) (todo : List Todo) → EStep (raising.catch_step x e todo s)
   catches None e todo = tt
   catches (Some x) e todo = tt
 
-  guarded : (hs : Handlers) (w : Option UnwindReason) (todo : List Todo) → EndStep (raising.guard_left hs w todo s)
+  guarded : (hs : Handlers) (w : Option UnwindReason) (todo : List Todo) → EStep (raising.guard_left hs w todo s)
   guarded hs (Some (reason.Event n y z)) todo = catches (raising.handler_for false (record { number = n; x = y; y = z }) hs) (record { number = n; x = y; y = z }) todo
   guarded hs w todo = tt
 
-  whole : (b : Bool) (todo : List Todo) → EndStep (raising.whole_left b todo s)
+  whole : (b : Bool) (todo : List Todo) → EStep (raising.whole_left b todo s)
   whole true todo = tt
   whole false todo = tt
 
-  scope : (c : CleanUp) (b : Bool) (todo : List Todo) → EndStep (raising.scope_left c b todo s)
+  scope : (c : CleanUp) (b : Bool) (todo : List Todo) → EStep (raising.scope_left c b todo s)
   scope src.Leaves true todo = tt
   scope c b todo = tt
 
-  main_left : (w : Option UnwindReason) (todo : List Todo) → EndStep (raising.main_left w todo s)
+  main_left : (w : Option UnwindReason) (todo : List Todo) → EStep (raising.main_left w todo s)
   main_left (Some (reason.ReturnTo n)) todo = tt
   main_left w todo = tt
 
-  coroutine_left : (w : Option UnwindReason) (todo : List Todo) → EndStep (raising.coroutine_left w todo s)
+  coroutine_left : (w : Option UnwindReason) (todo : List Todo) → EStep (raising.coroutine_left w todo s)
   coroutine_left (Some (reason.ReturnTo n)) todo = tt
   coroutine_left (Some reason.Destroyed) todo = moved _ todo _
   coroutine_left w todo = moved _ todo _
 
-  unwind_past : (k : Sort) (todo : List Todo) → EndStep (raising.unwind_past k todo s)
+  unwind_past : (k : Sort) (todo : List Todo) → EStep (raising.unwind_past k todo s)
   unwind_past piece.Simple todo = tt
   unwind_past (piece.IsLoop order c e b) todo = tt
   unwind_past piece.IsWhole todo = whole _ todo
@@ -285,110 +296,98 @@ module _ (source : Source) (s : State) where
   unwind_past piece.IsFinish todo = main_left s.run.raised todo
   unwind_past piece.IsFinishCoroutine todo = coroutine_left s.run.raised todo
 
-  unwinds : (todo : List Todo) → (todo ≡ [] → IsLast s.callers) → FindsBy source (piece.Unwind ∷ todo) s → EndStep (raising.unwind_step todo s)
+  unwinds : (todo : List Todo) → (todo ≡ [] → IsLast s.callers) → FindsBy source (piece.Unwind ∷ todo) s → EStep (raising.unwind_step todo s)
   unwinds [] f g = leaves s.callers (f refl) g
   unwinds (p ∷ ps) f g = unwind_past (piece.sort p) ps
 
-  exits : (w : Way) (todo : List Todo) → (todo ≡ [] → IsLast s.callers) → EndStep (quiet.exit_step w todo s)
+  exits : (w : Way) (todo : List Todo) → (todo ≡ [] → IsLast s.callers) → EStep (quiet.exit_step w todo s)
   exits w [] f = end_step w (f refl)
   exits w (p ∷ ps) f = tt
 
   -- printing
 
-  prints : (x : Option (List Piece)) (p : Piece) (todo : List Todo) (vs : List Value) → EndStep (piece.print_step x p todo vs s)
+  prints : (x : Option (List Piece)) (p : Piece) (todo : List Todo) (vs : List Value) → EStep (piece.print_step x p todo vs s)
   prints None p todo vs = tt
   prints (Some ps) p todo vs = tt
 
-  flushes : (x : Option (List Piece)) (todo : List Todo) (vs : List Value) → EndStep (piece.flush_step x todo vs s)
+  flushes : (x : Option (List Piece)) (todo : List Todo) (vs : List Value) → EStep (piece.flush_step x todo vs s)
   flushes None todo vs = tt
   flushes (Some []) todo vs = tt
   flushes (Some (p ∷ ps)) todo vs = tt
 
-  -- a list without marks, where nobody waits
-  only : (l : List Todo) → s.run.control ≡ l → placed s.run.frame s.run.this l [] ≡ [] → IsLast s.callers
-  only l e n f =
-      subst (λ (cs : List Active). placed s.run.frame s.run.this s.run.control (stacked cs) ≡ []) (sym f) (subst (λ l. placed s.run.frame s.run.this l [] ≡ []) (sym e) n)
+  acts : (p : Todo) (todo : List Todo) → (IsOver (p ∷ todo) → IsLast s.callers) → FindsBy source (p ∷ todo) s → EStep (quiet.act source p todo s)
+  acts (piece.Eval a) todo y o = eval a todo
+  acts (piece.ElementNow m k) todo y o = element k _ todo _ _
+  acts piece.NegateNow todo y o = outcome _ todo _
+  acts (piece.OperateNow op) todo y o = outcome _ todo _
+  acts piece.StoreNow todo y o = tt
+  acts piece.KeepNow todo y o = tt
+  acts (piece.SetNow k) todo y o = tt
+  acts piece.BindNow todo y o = tt
+  acts (piece.Arguments src.NoExprs) todo y o = tt
+  acts (piece.Arguments (src.MoreExprs a es)) todo y o = tt
+  acts (piece.CallNow r) todo y o = call (slice_get source.routines r) o todo
+  acts (piece.CallOnNow r) todo y o = call_on (slice_get source.routines r) o todo
+  acts (piece.CallUnwrittenNow r) todo y o = call_unwritten (slice_get source.routines r) o todo
+  acts (piece.PrintNow form) todo y o = prints s.env.gathered _ todo _
+  acts (piece.TextNow k) todo y o = prints s.env.gathered _ todo _
+  acts piece.GatherNow todo y o = tt
+  acts piece.FlushNow todo y o = flushes s.env.gathered todo _
+  acts (piece.ClearNow k m) todo y o = tt
+  acts (piece.Items []) todo y o = tt
+  acts (piece.Items (i ∷ is)) todo y o = tt
+  acts (piece.Values []) todo y o = tt
+  acts (piece.Values (i ∷ is)) todo y o = tt
+  acts (piece.Pieces []) todo y o = tt
+  acts (piece.Pieces (i ∷ is)) todo y o = tt
+  acts (piece.Targets []) todo y o = tt
+  acts (piece.Targets (x ∷ xs)) todo y o = tt
+  acts (piece.Variables []) todo y o = tt
+  acts (piece.Variables (d ∷ ds)) todo y o = tt
+  acts (piece.Do a) todo y o = stmt a todo
+  acts (piece.Rest ss) todo y o = rests ss todo
+  acts (piece.Exit w) todo y o = exits w todo (λ q. y (subst (λ l. IsOver (piece.Exit w ∷ l)) (sym q) tt))
+  acts (piece.Sweep a) todo y o = swept s.run.elements a todo
+  acts piece.Unwind todo y o = unwinds todo (λ q. y (subst (λ l. IsOver (piece.Unwind ∷ l)) (sym q) tt)) o
+  acts piece.ThrowNow todo y o = tt
+  acts piece.RaiseNow todo y o = raises (raising.event_in s.run.operands) todo
+  acts (piece.SetUpNow r) todo y o = set_up (slice_get source.routines r) todo
+  acts piece.EnlivenNow todo y o = tt
+  acts piece.TakeDownNow todo y o = moved _ todo _
+  acts piece.ForgetNow todo y o = tt
+  acts (piece.LiveNow r) todo y o = live (slice_get source.routines r) o todo
+  acts piece.ResumeNow todo y o = moved _ (piece.Land ∷ todo) _
+  acts piece.SuspendNow todo y o = moved _ (piece.Land ∷ todo) _
+  acts piece.Land todo y o = land s.run.raised todo
+  acts (piece.EnterNow m r) todo y o = enter m (slice_get source.routines r) o todo
+  acts piece.LeaveNow todo y o = leave _ (monitors.this_object s) todo
+  acts (piece.MakeNow k r) todo y o = make k r (slice_get source.routines r) o todo
+  acts (piece.BindMadeNow k r) todo y o = bind (slice_get source.routines r) o todo
+  acts piece.MadeNow todo y o = unless (monitors.this_object s) _ todo tt
+  acts (piece.SpawnNow r) todo y o = unless (monitors.this_object s) _ (piece.ChildNow r ∷ todo) tt
+  acts piece.GoneNow todo y o = tt
+  acts piece.GiveUpNow todo y o = tt
+  acts (piece.ConditionNow k m) todo y o = condition k _ todo
+  acts piece.WaitNow todo y o = unless (monitors.this_object s) _ todo tt
+  acts piece.SignalBlockNow todo y o = unless (monitors.this_object s) _ todo tt
+  acts (piece.Guards src.NoClauses) todo y o = tt
+  acts (piece.Guards (src.Otherwise b)) todo y o = tt
+  acts (piece.Guards (src.MoreClauses guard b cs)) todo y o = tt
+  acts (piece.AcceptNow site m) todo y o = accept_by (monitors.mask_of (take_operands piece.Nothing m s.run.operands [])) (monitors.this_object s) site todo (drop m s.run.operands)
+  acts piece.FailedNow todo y o = failed _ todo _
+  acts piece.RaiseAtNow todo y o = raise_at _ _ todo _
+  acts (piece.EnableNow events cell) todo y o = tt
+  acts (piece.DisableNow events cell) todo y o = tt
+  acts (piece.RestoreNow cell) todo y o = tt
+  acts piece.PollNow todo y o = poll todo
+  acts piece.DeliverNow todo y o = deliver _ todo
+  acts piece.Finish todo y o = unless s.env.own _ todo (returned _ s.callers (y tt))
+  acts piece.FinishCoroutine todo y o = moved _ todo _
+  acts p todo y o = tt
 
-  -- an exit or an unwinding with nothing behind it
-  last : (p : Todo) {todo : List Todo} → todo ≡ [] → s.run.control ≡ p ∷ todo → placed s.run.frame s.run.this (p ∷ []) [] ≡ [] → IsLast s.callers
-  last p q e n = only (p ∷ []) (subst (λ l. s.run.control ≡ p ∷ l) q e) n
-
-  at_finish : (todo : List Todo) → s.run.control ≡ piece.Finish ∷ todo → MainIn s.callers (piece.Finish ∷ todo) → IsLast s.callers
-  at_finish todo e m = only (piece.Finish ∷ todo) e (bare_none s.run.frame s.run.this todo m.1)
-
-  acts : (p : Todo) (todo : List Todo) → s.run.control ≡ p ∷ todo → MainIn s.callers (p ∷ todo) → FindsBy source (p ∷ todo) s → EndStep (quiet.act source p todo s)
-  acts (piece.Eval a) todo z y o = eval a todo
-  acts (piece.ElementNow m k) todo z y o = element k _ todo _ _
-  acts piece.NegateNow todo z y o = outcome _ todo _
-  acts (piece.OperateNow op) todo z y o = outcome _ todo _
-  acts piece.StoreNow todo z y o = tt
-  acts piece.KeepNow todo z y o = tt
-  acts (piece.SetNow k) todo z y o = tt
-  acts piece.BindNow todo z y o = tt
-  acts (piece.Arguments src.NoExprs) todo z y o = tt
-  acts (piece.Arguments (src.MoreExprs a es)) todo z y o = tt
-  acts (piece.CallNow r) todo z y o = call (slice_get source.routines r) o todo
-  acts (piece.CallOnNow r) todo z y o = call_on (slice_get source.routines r) o todo
-  acts (piece.CallUnwrittenNow r) todo z y o = call_unwritten (slice_get source.routines r) o todo
-  acts (piece.PrintNow form) todo z y o = prints s.env.gathered _ todo _
-  acts (piece.TextNow k) todo z y o = prints s.env.gathered _ todo _
-  acts piece.GatherNow todo z y o = tt
-  acts piece.FlushNow todo z y o = flushes s.env.gathered todo _
-  acts (piece.ClearNow k m) todo z y o = tt
-  acts (piece.Items []) todo z y o = tt
-  acts (piece.Items (i ∷ is)) todo z y o = tt
-  acts (piece.Values []) todo z y o = tt
-  acts (piece.Values (i ∷ is)) todo z y o = tt
-  acts (piece.Pieces []) todo z y o = tt
-  acts (piece.Pieces (i ∷ is)) todo z y o = tt
-  acts (piece.Targets []) todo z y o = tt
-  acts (piece.Targets (x ∷ xs)) todo z y o = tt
-  acts (piece.Variables []) todo z y o = tt
-  acts (piece.Variables (d ∷ ds)) todo z y o = tt
-  acts (piece.Do a) todo z y o = stmt a todo
-  acts (piece.Rest ss) todo z y o = rests ss todo
-  acts (piece.Exit w) todo z y o = exits w todo (λ q. last (piece.Exit w) q z refl)
-  acts (piece.Sweep a) todo z y o = swept s.run.elements a todo
-  acts piece.Unwind todo z y o = unwinds todo (λ q. last piece.Unwind q z refl) o
-  acts piece.ThrowNow todo z y o = tt
-  acts piece.RaiseNow todo z y o = raises (raising.event_in s.run.operands) todo
-  acts (piece.SetUpNow r) todo z y o = set_up (slice_get source.routines r) todo
-  acts piece.EnlivenNow todo z y o = tt
-  acts piece.TakeDownNow todo z y o = moved _ todo _
-  acts piece.ForgetNow todo z y o = tt
-  acts (piece.LiveNow r) todo z y o = live (slice_get source.routines r) o todo
-  acts piece.ResumeNow todo z y o = moved _ (piece.Land ∷ todo) _
-  acts piece.SuspendNow todo z y o = moved _ (piece.Land ∷ todo) _
-  acts piece.Land todo z y o = land s.run.raised todo
-  acts (piece.EnterNow m r) todo z y o = enter m (slice_get source.routines r) o todo
-  acts piece.LeaveNow todo z y o = leave _ (monitors.this_object s) todo
-  acts (piece.MakeNow k r) todo z y o = make k r (slice_get source.routines r) o todo
-  acts (piece.BindMadeNow k r) todo z y o = bind (slice_get source.routines r) o todo
-  acts piece.MadeNow todo z y o = unless (monitors.this_object s) _ todo tt
-  acts (piece.SpawnNow r) todo z y o = unless (monitors.this_object s) _ (piece.ChildNow r ∷ todo) tt
-  acts piece.GoneNow todo z y o = tt
-  acts piece.GiveUpNow todo z y o = tt
-  acts (piece.ConditionNow k m) todo z y o = condition k _ todo
-  acts piece.WaitNow todo z y o = unless (monitors.this_object s) _ todo tt
-  acts piece.SignalBlockNow todo z y o = unless (monitors.this_object s) _ todo tt
-  acts (piece.Guards src.NoClauses) todo z y o = tt
-  acts (piece.Guards (src.Otherwise b)) todo z y o = tt
-  acts (piece.Guards (src.MoreClauses guard b cs)) todo z y o = tt
-  acts (piece.AcceptNow site m) todo z y o = accept_by (monitors.mask_of (take_operands piece.Nothing m s.run.operands [])) (monitors.this_object s) site todo (drop m s.run.operands)
-  acts piece.FailedNow todo z y o = failed _ todo _
-  acts piece.RaiseAtNow todo z y o = raise_at _ _ todo _
-  acts (piece.EnableNow events cell) todo z y o = tt
-  acts (piece.DisableNow events cell) todo z y o = tt
-  acts (piece.RestoreNow cell) todo z y o = tt
-  acts piece.PollNow todo z y o = poll todo
-  acts piece.DeliverNow todo z y o = deliver _ todo
-  acts piece.Finish todo z y o = unless s.env.own _ todo (returned _ s.callers (at_finish todo z y))
-  acts piece.FinishCoroutine todo z y o = moved _ todo _
-  acts p todo z y o = tt
-
-  pub walk : MainIn s.callers s.run.control → FindsAll source s → EndStep (quiet.quiet source s)
-  walk m o = by s.run.control refl m o
+  pub walk : (IsOver s.run.control → IsLast s.callers) → FindsAll source s → EStep (quiet.quiet source s)
+  walk m o = by s.run.control m o
     where
-      by : (l : List Todo) → s.run.control ≡ l → MainIn s.callers l → FindsBy source l s → EndStep (quiet.act_todo source l s)
-      by [] e m o = returned _ s.callers (only [] e refl)
-      by (p ∷ todo) e m o = acts p todo e m o
+      by : (l : List Todo) → (IsOver l → IsLast s.callers) → FindsBy source l s → EStep (quiet.act_todo source l s)
+      by [] m o = returned _ s.callers (m tt)
+      by (p ∷ todo) m o = acts p todo m o

@@ -14,8 +14,10 @@ use Rattle.uc_machine.specs.declared.exec.Exec.{Exec}
 use Rattle.uc_machine.specs.declared.exec.Home.{Home}
 use Rattle.uc_machine.specs.declared.exec.Home.TheVariants as home
 use Rattle.uc_machine.specs.Executions.{Execution}
-use Rattle.uc_machine.specs.Pieces.{Value, Todo, SetUpNow, TakeDownNow, Finish, Active, State, Members}
-use Rattle.uc_machine.specs.Quiet.{first_state}
+use Rattle.uc_machine.specs.Pieces.{Value, Todo, SetUpNow, TakeDownNow, Finish, GoneNow, Active, State, Members, Goes, Ticks, Asks, at, in_env, object_in}
+use Rattle.uc_machine.specs.Insides.{call_gone}
+use Rattle.uc_machine.specs.Monitors.{this_object}
+use Rattle.uc_machine.specs.Quiet.{quiet, act_todo, first_state}
 use Rattle.uc_machine.specs.Rides.{Rides, slices, goes_on, ticks, asks}
 use Rattle.uc_meaning.specs.Runs.{World, May, Runs, gives, no_room, acts, begun, more}
 use Rattle.uc_state_laws.specs.Opens.{RideMeets, MayMeet, RunMeets}
@@ -25,6 +27,7 @@ use Rattle.uc_life_laws.specs.Things.{Few, Base}
 use Rattle.uc_life_laws.specs.Knowing.{main_of}
 use Rattle.uc_life_laws.specs.LifeStates.{SlotBy, ParkedBy, HandBy, MembersBy}
 use Rattle.uc_life_laws.specs.Rooted.{InSlot, InParked, InHand, InMembers, Lives}
+use Rattle.uc_life_laws.specs.Held.{IsNoTask}
 use Rattle.uc_life_laws.specs.Ways.{LeavesAt}
 use Rattle.uc_life_laws.proofs.Ways.{law_ways}
 use Rattle.uc_rooted_runs.specs.Makers.{Makers, seating}
@@ -34,13 +37,13 @@ use Rattle.uc_rooted_runs.specs.FreshStates.{TakesOthersBy, KeepsFresh}
 use Rattle.uc_rooted_runs.specs.Mains.{FindsAll}
 use Rattle.uc_rooted_runs.specs.MainRuns.{EndsMains}
 use Rattle.uc_rooted_runs.specs.Outlasting.{IsAlone}
-use Rattle.uc_rooted_runs.specs.OutlastRuns.{with_homes, made_behind, ride_made, run_made, now, OutlastsAt, RideOutlasts, SpawnsAlone, MayOutlast, RunOutlasts}
+use Rattle.uc_rooted_runs.specs.OutlastRuns.{with_homes, made_by, made_behind, ride_made, run_made, now, OutlastsAt, RideOutlasts, SpawnsAlone, MayOutlast, RunOutlasts}
 use Rattle.uc_rooted_runs.specs.OutlastNames.{NamesAt, RideNames, SpawnsNew, MayName, RunNames}
 use Rattle.uc_rooted_runs.specs.Upwards.{IsBased}
 use Rattle.uc_rooted_runs.specs.MadeRuns.{IsMade, AllMade}
 use Rattle.uc_rooted_runs.specs.Still.{AreStill}
 use Rattle.uc_life_laws.proofs.Fewer.{both_members, both_env}
-use Rattle.uc_rooted_runs.specs.KeptRuns.{KeepsAt, Keeps, RideKeeps, SpawnsKept, MayKeep, RunKeeps, LawKeptRuns, IsStood}
+use Rattle.uc_rooted_runs.specs.KeptRuns.{KeepsAt, Keeps, RideKeeps, SpawnsKept, MayKeep, RunKeeps, NoMainOf, MayEnd, RunEnds, LawKeptRuns, IsStood}
 use Rattle.uc_rooted_runs.proofs.Binds.{law_binds}
 use Rattle.uc_rooted_runs.proofs.MainRuns.{law_mains}
 use Rattle.uc_rooted_runs.proofs.OutlastRuns.{law_outlast_runs}
@@ -72,41 +75,73 @@ module _ (source : Source) where
   run_keeps input opts _ _ (more {j} {w} r on (acts p t n s asked d)) b e a o =
       (run_keeps input opts j w r b.0 e.0 a.0 o.0, ride_keeps j w t d.rides b.1 e.1 a.1 o.1.0)
 
+-- where an object goes next that is asked
+
+asks_gone : (source : Source) (s : State) (todo : List Todo) → s.run.control ≡ GoneNow ∷ todo → quiet source s ≡ Asks (ask.Gone (this_object s)) (at todo s.run.operands (in_env (call_gone (this_object s) s.env) s))
+asks_gone source s todo e = ap (λ l. act_todo source l s) e
+
+pub goes_not : (source : Source) (s u : State) → quiet source s ≡ Goes u → (todo : List Todo) → s.run.control ≡ GoneNow ∷ todo → ⊥
+goes_not source s u g todo e =
+    let both : Asks (ask.Gone (this_object s)) (at todo s.run.operands (in_env (call_gone (this_object s) s.env) s)) ≡ Goes u = sym (asks_gone source s todo e) ∙ g in
+    cc
+
+pub ticks_not : (source : Source) (s u : State) → quiet source s ≡ Ticks u → (todo : List Todo) → s.run.control ≡ GoneNow ∷ todo → ⊥
+ticks_not source s u g todo e =
+    let both : Asks (ask.Gone (this_object s)) (at todo s.run.operands (in_env (call_gone (this_object s) s.env) s)) ≡ Ticks u = sym (asks_gone source s todo e) ∙ g in
+    cc
+
+gone_is : (source : Source) (s u : State) (r : Request) → quiet source s ≡ Asks r u → (todo : List Todo) → s.run.control ≡ GoneNow ∷ todo → r ≡ ask.Gone (this_object s)
+gone_is source s u r g todo e =
+    let both : Asks r u ≡ Asks (ask.Gone (this_object s)) (at todo s.run.operands (in_env (call_gone (this_object s) s.env) s)) = sym g ∙ asks_gone source s todo e in
+    cc
+
 module _ (makers : Makers) (asked : Exec → Bool) where
-  takes_at : (source : Source) (made : Exec → Bool) (s : State) → EndsMains source s → KeepsAt makers asked source (now makers asked made) s.run.control s → NamesAt makers asked source made s → LeavesAt source (seating makers) (now makers asked made) s.run.control s
-  takes_at source made s f k n = by s.run.control refl k
+  -- where an object goes next it is of no task whose main is up
+  abbrev pub GoesAlone : Source → (Exec → Bool) → State → Type 0
+  GoesAlone source made s = (todo : List Todo) → s.run.control ≡ GoneNow ∷ todo → IsNoTask source (seating makers) (now makers asked made) s
+
+  takes_at : (source : Source) (made : Exec → Bool) (s : State) → EndsMains source s → KeepsAt makers asked source (now makers asked made) s.run.control s → GoesAlone source made s → NamesAt makers asked source made s → LeavesAt source (seating makers) (now makers asked made) s.run.control s
+  takes_at source made s f k g n = by s.run.control refl k
     where
       by : (l : List Todo) → s.run.control ≡ l → KeepsAt makers asked source (now makers asked made) l s → LeavesAt source (seating makers) (now makers asked made) l s
       by (SetUpNow r ∷ todo) e h = λ m i x u p. n.new r todo e m i x u p
       by (Finish ∷ todo) e h = f.finish todo e
+      by (GoneNow ∷ todo) e h = g todo e
       by l e h = h
 
-  pub at_state : (source : Source) (made : Exec → Bool) (s : State) → EndsMains source s → Keeps makers asked source made s → NamesAt makers asked source made s → OutlastsAt makers asked source made s
-  at_state source made s f k n = record { takes = law_ways source (seating makers) (now makers asked made) s (takes_at source made s f k.leaves n); alone = n.alone; held = k.held }
+  pub at_state : (source : Source) (made : Exec → Bool) (s : State) → EndsMains source s → Keeps makers asked source made s → GoesAlone source made s → NamesAt makers asked source made s → OutlastsAt makers asked source made s
+  at_state source made s f k g n = record { takes = law_ways source (seating makers) (now makers asked made) s (takes_at source made s f k.leaves g n); alone = n.alone; held = k.held }
 
-  pub ride_both : (source : Source) (made : Exec → Bool) {s u : State} {q k : ℕ} {a : Asked} (r : Rides source s q u k a) → RideMeets (EndsMains source) source s q u k a r → RideKeeps makers asked source made r → RideNames makers asked source made r → RideOutlasts makers asked source made r
-  ride_both source made slices f h n = tt
-  ride_both source made (goes_on {s} e r) f h n = (at_state source made s f.0 h.0 n.0, ride_both source (made_behind source s made) r f.1 h.1 n.1)
-  ride_both source made (ticks {s} e r) f h n = (at_state source made s f.0 h.0 n.0, ride_both source (made_behind source s made) r f.1 h.1 n.1)
-  ride_both source made (asks {s} e) f h n = at_state source made s f h n
+  -- so it is where that is asked and no such main is up
+  asks_alone : (source : Source) (made : Exec → Bool) (s u : State) (r : Request) → quiet source s ≡ Asks r u → NoMainOf makers asked (now makers asked (made_behind source s made)) r → GoesAlone source made s
+  asks_alone source made s u r e h todo c x own t i =
+      let up : now makers asked (made_behind source s made) x ≡ true = ap (λ l. now makers asked (made_by source l s made) x) c ∙ own.0 in
+      let none : NoMainOf makers asked (now makers asked (made_behind source s made)) (ask.Gone (this_object s)) = subst (NoMainOf makers asked (now makers asked (made_behind source s made))) (gone_is source s u r e todo c) h in
+      none x up t (ap object_in (sym i))
+
+  pub ride_both : (source : Source) (made : Exec → Bool) {s u : State} {q k : ℕ} {a : Asked} (r : Rides source s q u k a) → RideMeets (EndsMains source) source s q u k a r → RideKeeps makers asked source made r → NoMainOf makers asked (now makers asked (ride_made source made r)) a.request → RideNames makers asked source made r → RideOutlasts makers asked source made r
+  ride_both source made slices f h g n = tt
+  ride_both source made (goes_on {s} {t} e r) f h g n = (at_state source made s f.0 h.0 (λ todo c. absurd (goes_not source s t e todo c)) n.0, ride_both source (made_behind source s made) r f.1 h.1 g n.1)
+  ride_both source made (ticks {s} {t} e r) f h g n = (at_state source made s f.0 h.0 (λ todo c. absurd (ticks_not source s t e todo c)) n.0, ride_both source (made_behind source s made) r f.1 h.1 g n.1)
+  ride_both source made (asks {s} {t} {q} {r} e) f h g n = at_state source made s f h (asks_alone source made s t r e g) n
 
   spawns_both : (source : Source) (made : Exec → Bool) (q : Request) (s : State) → SpawnsKept makers asked source q s → SpawnsNew makers asked made q s → SpawnsAlone makers asked source made q s
   spawns_both source made (ask.Spawn o) s h n = (n.0, n.1, h)
   spawns_both source made q s h n = tt
 
   module _ (source : Source) (input : List ℕ) (opts : Options) where
-    may_both : (made : Exec → Bool) {j : Journal} {w : World} {a : List Entry} {x : World} (m : May source opts input j w a x) → MayMeet (EndsMains source) source opts input j w a x m → MayKeep makers asked source input opts made m → MayName makers asked source input opts made m → MayOutlast makers asked source input opts made m
-    may_both made (gives p t s h) f k n = tt
-    may_both made (no_room p t s h) f k n = tt
-    may_both made (acts p t i s q d) f k n = (ride_both source made d.rides f k.0 n.0, spawns_both source (ride_made source made d.rides) q.request s k.1 n.1, n.2)
+    may_both : (made : Exec → Bool) {j : Journal} {w : World} {a : List Entry} {x : World} (m : May source opts input j w a x) → MayMeet (EndsMains source) source opts input j w a x m → MayKeep makers asked source input opts made m → MayEnd makers asked source input opts made m → MayName makers asked source input opts made m → MayOutlast makers asked source input opts made m
+    may_both made (gives p t s h) f k g n = tt
+    may_both made (no_room p t s h) f k g n = tt
+    may_both made (acts p t i s q d) f k g n = (ride_both source made d.rides f k.0 g n.0, spawns_both source (ride_made source made d.rides) q.request s k.1 n.1, n.2)
 
-    pub run_both : {j : Journal} {w : World} (r : Runs source input opts j w) → RunMeets (EndsMains source) source input opts j w r → RunKeeps makers asked source input opts r → RunNames makers asked source input opts r → RunOutlasts makers asked source input opts r
-    run_both begun f k n = tt
-    run_both (more r o m) f k n = (run_both r f.0 k.0 n.0, may_both (run_made source input opts r) m f.1 k.1 n.1)
+    pub run_both : {j : Journal} {w : World} (r : Runs source input opts j w) → RunMeets (EndsMains source) source input opts j w r → RunKeeps makers asked source input opts r → RunEnds makers asked source input opts r → RunNames makers asked source input opts r → RunOutlasts makers asked source input opts r
+    run_both begun f k g n = tt
+    run_both (more r o m) f k g n = (run_both r f.0 k.0 g.0 n.0, may_both (run_made source input opts r) m f.1 k.1 g.1 n.1)
 
 pub law_kept_runs : LawKeptRuns
-law_kept_runs asked homes source input opts j w r range fits on leaves spares mains b k =
-    law_outlast_runs asked homes source input opts j w r range fits on b (run_both (with_homes homes b.makers) asked source input opts r (law_mains.runs source input opts j w r mains) k (law_outlast_names asked homes source input opts j w r range fits on leaves spares b))
+law_kept_runs asked homes source input opts j w r range fits on leaves spares mains b k g =
+    law_outlast_runs asked homes source input opts j w r range fits on b (run_both (with_homes homes b.makers) asked source input opts r (law_mains.runs source input opts j w r mains) k g (law_outlast_names asked homes source input opts j w r range fits on leaves spares b))
 
 -- who lives was made, or is the main of task 0
 

@@ -19,3 +19,7 @@ pub mod MadeRuns
 pub mod KeptRuns
 pub mod StillSteps
 pub mod StillRuns
+pub mod TaskMainKeeping
+pub mod TaskMainSteps
+pub mod TaskMainWalk
+pub mod TaskMainRuns

@@ -302,8 +302,8 @@ module _ (makers : Makers) where
   abbrev AllLater : (Exec → Bool) → Type 0
   AllLater made = (n : Exec) → made n ≡ true → IsLater n
 
-  later_by : (n by : Exec) (v : Value) (ps : List Placed) → MadeBy makers n by v ps → IsLater n
-  later_by n by v ps m = subst (λ k. makers.rank k < makers.rank n) (sym m.parent) m.later
+  later_by : (n by : Exec) (v : Value) (main : Bool) (ps : List Placed) → MadeBy makers n by v main ps → IsLater n
+  later_by n by v main ps m = subst (λ k. makers.rank k < makers.rank n) (sym m.parent) m.later
 
   module _ (source : Source) where
     step_later : (made : Exec → Bool) (s : State) → MakesLater source makers s → AllLater made → AllLater (made_behind source s made)
@@ -311,7 +311,7 @@ module _ (makers : Makers) where
       where
         by : (b : Bool) → made n ≡ b → IsLater n
         by true f = h n f
-        by false f = later_by n s.env.exec s.run.this (outermost s.callers) (m n (born_there source s made n e f))
+        by false f = later_by n s.env.exec s.run.this false (outermost s.callers) (m n (born_there source s made n e f))
 
     ride_later : (made : Exec → Bool) {s u : State} {q k : ℕ} {a : Asked} (r : Rides source s q u k a) → RideMeets (MakesLater source makers) source s q u k a r → AllLater made → AllLater (ride_made source made r)
     ride_later made slices m h = h
@@ -323,7 +323,7 @@ module _ (makers : Makers) where
     asked_later made (ask.Spawn o) s l h n e = by (exec_eq n (main_of o)) refl e
       where
         by : (b : Bool) → exec_eq n (main_of o) ≡ b → (if b then true else made n) ≡ true → IsLater n
-        by true g e = subst (λ k. IsLater k) (sym (same_exec n (main_of o) g)) (later_by (main_of o) s.env.exec (piece.Object o) (outermost s.callers) l)
+        by true g e = subst (λ k. IsLater k) (sym (same_exec n (main_of o) g)) (later_by (main_of o) s.env.exec (piece.Object o) true (outermost s.callers) l)
         by false g e = h n e
     asked_later made q s l h n e = h n e
 

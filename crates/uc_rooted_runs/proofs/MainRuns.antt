@@ -1,5 +1,5 @@
 -- In each run in which no main is called nobody waits for one, so that where one ends nothing is left to clean up.
-use Rattle.std.proofs.Common.{◌≡◌, ℕ, ◌==◌, List, [], ◌∷◌, Option, Some, None, refl, subst}
+use Rattle.std.proofs.Common.{◌≡◌, ℕ, ◌==◌, List, [], ◌∷◌, Option, Some, None, refl, sym, subst}
 use Rattle.uc_tree.specs.Source.{Source}
 use Rattle.uc_entry.specs.declared.entry.Entry.{Entry}
 use Rattle.uc_entry.specs.declared.entry.Options.{Options}
@@ -24,7 +24,7 @@ use Rattle.uc_life_laws.specs.Held.{AreLines}
 use Rattle.uc_rooted_runs.specs.Mains.{AtEnd, MainIn, MainEx, MainMembers, MainState, MainStep, CallsNoMain}
 use Rattle.uc_rooted_runs.specs.MainRuns.{EndsMains, LawMains}
 use Rattle.uc_rooted_runs.proofs.EndSteps as last
-use Rattle.uc_rooted_runs.proofs.EndSteps.{bare_none, EndStep}
+use Rattle.uc_rooted_runs.proofs.EndSteps.{bare_none, EndStep, IsOver}
 use Rattle.uc_rooted_runs.proofs.MainWalk.{walk, begins, answered_there}
 
 -- lines alone cover nothing
@@ -59,11 +59,26 @@ module _ (s : State) (m : MainState s) where
   mains (piece.Unwind ∷ todo) h = unwound todo h
   mains (p ∷ todo) h = tt
 
+  -- where an activation is over and nobody waits, nothing is left
+  abbrev Bare : State → Type 0
+  Bare u = stacked (u.run ∷ u.callers) ≡ []
+
+  only : (l : List Todo) → s.run.control ≡ l → placed s.run.frame s.run.this l [] ≡ [] → s.callers ≡ [] → stacked (s.run ∷ s.callers) ≡ []
+  only l e n f =
+      subst (λ (cs : List Active). placed s.run.frame s.run.this s.run.control (stacked cs) ≡ []) (sym f) (subst (λ l. placed s.run.frame s.run.this l [] ≡ []) (sym e) n)
+
+  over : (l : List Todo) → s.run.control ≡ l → MainIn s.callers l → IsOver l → s.callers ≡ [] → stacked (s.run ∷ s.callers) ≡ []
+  over [] e h i = only [] e refl
+  over (piece.Exit w ∷ []) e h i = only (piece.Exit w ∷ []) e refl
+  over (piece.Unwind ∷ []) e h i = only (piece.Unwind ∷ []) e refl
+  over (piece.Finish ∷ todo) e h i = only (piece.Finish ∷ todo) e (bare_none s.run.frame s.run.this todo h.1)
+  over l e h i = absurd i
+
   ends : (source : Source) → EndsMains source s
   ends source = record {
     bare = mains s.run.control m.stack.0;
     finish = λ todo e. (subst (MainIn s.callers) e m.stack.0).1;
-    asks = λ f u e. subst EndStep e (last.walk source s m.stack.0 f);
+    asks = λ f u e. subst (EndStep Bare) e (last.walk Bare source s (over s.run.control refl m.stack.0) f);
   }
 
 -- worlds

@@ -49,7 +49,7 @@ use Rattle.uc_answer_laws.proofs.Runs.{law_suiting}
 use Rattle.uc_answer_laws.proofs.Asking.{law_asking}
 use Rattle.uc_life_laws.specs.Placed.{stacked, Ends}
 use Rattle.uc_life_laws.specs.Held.{Seating, Held, Soon, SoonHere, SoonAsked, AllHeld, HeldEx, HeldState, HeldAsked, HeldAsk, HeldStep, TakesAt, TakesNow}
-use Rattle.uc_life_laws.proofs.HeldLaws.{law_held, held_ends, soon_ends}
+use Rattle.uc_life_laws.proofs.HeldLaws.{law_held, held_ends, soon_ends, next_ends}
 use Rattle.uc_life_laws.proofs.HeldKeeping as kept
 use Rattle.uc_rooted_runs.specs.Makers.{Makers, seating}
 use Rattle.uc_rooted_runs.proofs.EndedTasks.{ended_by}
@@ -89,7 +89,7 @@ module _ (source : Source) (seats : Seating) (up other : Exec → Bool) where
     where
       by : (x : Exec) → other x ≡ true → seats.parent x ≡ s.env.exec → (b : Bool) → up x ≡ b → SoonHere source (seats.seat x) (seats.before x) s.env.exec s
       by x u p true e = h.soon x e p
-      by x u p false e = (zero, (f x u e).1)
+      by x u p false e = inl (zero, (f x u e).1)
 
   asked_more : (s : State) → HeldAsked source seats up JustGo s → IsAlone s.env → ((x : Exec) → other x ≡ true → up x ≡ false → (seats.parent x ≡ s.env.exec) × Soon source (seats.seat x) (seats.before x) s.env.exec s.run s.callers) → HeldAsked source seats other JustGo s
   asked_more s h alone f = record { soon = λ x u p. by x u p (up x) refl; env = env_more s.env alone (λ x u d. (f x u d).0) h.env }
@@ -455,8 +455,9 @@ module _ (makers : Makers) (up : Exec → Bool) where
   state_ends source s h x u p = by (h.soon x u p)
     where
       by : SoonHere source (makers.seat x) (makers.before x) s.env.exec s → Ends (makers.before x) (stacked (s.run ∷ s.callers))
-      by (zero, k) = soon_ends source (makers.seat x) (makers.before x) s.env.exec s.run s.callers k
-      by (suc k, g) = g.1
+      by (inl (zero, k)) = soon_ends source (makers.seat x) (makers.before x) s.env.exec s.run s.callers k
+      by (inl (suc k, g)) = g.1
+      by (inr g) = next_ends source (makers.seat x) (makers.before x) s.env.exec s.run.control s.run s.callers g
 
   pub env_ends : (source : Source) (e : Env) → EnvBy (HeldEx source (seating makers) up) e → EnvBy (OutlastEx makers up) e
   env_ends source e h = both_env (HeldEx source (seating makers) up) (HeldEx source (seating makers) up) (OutlastEx makers up) (λ n y k l x u p. held_ends source (makers.seat x) (makers.before x) n (y.run ∷ y.callers) (k x u p)) e h h

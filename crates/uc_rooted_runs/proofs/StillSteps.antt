@@ -28,7 +28,7 @@ use Rattle.uc_life_laws.specs.LifeStates.{EnvBy}
 use Rattle.uc_life_laws.specs.Destroying.{Seat}
 use Rattle.uc_life_laws.specs.Placed.{Placed, put, placed, stacked, Ends, all, behind}
 use Rattle.uc_life_laws.specs.Held.{Seating, AreLines, IsOuter, Held, Soon, SoonHere, SoonAsked, HeldEx, HeldState, HeldAsked, HeldAsk, HeldStep, HoldsNow, OfCounted, HoldsCounted, TakesAt, TakesNow}
-use Rattle.uc_life_laws.proofs.HeldLaws.{law_held, held_ends, soon_ends, outer_ends}
+use Rattle.uc_life_laws.proofs.HeldLaws.{law_held, held_ends, soon_ends, next_ends, outer_ends}
 use Rattle.uc_life_laws.proofs.Alone.{NoRest, env_other}
 use Rattle.uc_life_laws.proofs.Fewer.{both_env}
 use Rattle.uc_life_laws.proofs.OwnRides.{Settled}
@@ -69,7 +69,7 @@ none_ends _ m (behind {p} {qs} h) = none_ends qs m.1 h
 
 -- each execution is to be held by that mark in what an execution of its own name has to do
 abbrev pub absent : Seating
-absent = record { parent = λ x. x; seat = λ x. record { place = piece.Nothing; home = λ o. piece.Nothing }; before = λ x. no_mark }
+absent = record { parent = λ x. x; seat = λ x. record { place = piece.Nothing; task = false; home = λ o. piece.Nothing }; before = λ x. no_mark }
 
 module _ (source : Source) (w : Seat) (n : Exec) where
   none_held : (cs : List Active) → Held source w no_mark n cs → ⊥
@@ -83,8 +83,9 @@ module _ (source : Source) (w : Seat) (n : Exec) where
   none_asked form a cs (inr h) = none_soon a cs h.1
 
   none_here : (s : State) → SoonHere source w no_mark n s → ⊥
-  none_here s (zero, h) = none_soon s.run s.callers h
-  none_here s (suc k, h) = none_ends (stacked (s.run ∷ s.callers)) (stacked_marks (s.run ∷ s.callers)) h.1
+  none_here s (inl (zero, h)) = none_soon s.run s.callers h
+  none_here s (inl (suc k, h)) = none_ends (stacked (s.run ∷ s.callers)) (stacked_marks (s.run ∷ s.callers)) h.1
+  none_here s (inr h) = none_ends (stacked (s.run ∷ s.callers)) (stacked_marks (s.run ∷ s.callers)) (next_ends source w no_mark n s.run.control s.run s.callers h)
 
 -- so no step takes a mark away that holds one
 
@@ -123,6 +124,7 @@ module _ (source : Source) (up : Exec → Bool) (s : State) where
   takes_none (piece.MoreNow ∷ todo) f g = λ x o h. absurd (none_counted source up s x todo h)
   takes_none (piece.Unwind ∷ (p ∷ todo)) f g = λ x o h. absurd (none_holds source up s x (piece.sort p) todo h)
   takes_none (piece.Exit way ∷ (p ∷ todo)) f g = λ x o h. absurd (none_holds source up s x (piece.sort p) todo h)
+  takes_none (piece.GoneNow ∷ todo) f g = λ x o h e. no_both false h refl
   takes_none (piece.Finish ∷ todo) f g = f todo refl
   takes_none (piece.SetUpNow r ∷ todo) f g = g r todo refl
   takes_none l f g = tt

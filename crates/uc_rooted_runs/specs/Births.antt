@@ -1,5 +1,5 @@
 -- Runs of programs: each execution is made by one that was made before.
-use Rattle.std.specs.Prelude.{◌≡◌, ℕ, suc, false, if◌then◌else◌, List, [], ◌∷◌, Option, Some, None, slice_get}
+use Rattle.std.specs.Prelude.{◌≡◌, ℕ, suc, Bool, true, false, if◌then◌else◌, List, [], ◌∷◌, Option, Some, None, slice_get}
 use Rattle.uc_tree.specs.Source.{Source, Routine}
 use Rattle.uc_entry.specs.declared.entry.Entry.{Entry}
 use Rattle.uc_entry.specs.declared.entry.Options.{Options}
@@ -24,10 +24,10 @@ use Rattle.uc_life_laws.specs.Outermost.{outermost}
 use Rattle.uc_rooted_runs.specs.Makers.{Makers, MadeBy}
 
 -- one more is made by another
-abbrev pub made_now : Makers → Exec → Exec → Value → List Placed → Makers
-made_now b n by v ps = record {
+abbrev pub made_now : Makers → Exec → Exec → Value → Bool → List Placed → Makers
+made_now b n by v main ps = record {
   parent = λ m. if exec_eq m n then by else b.parent m;
-  seat = λ m. record { place = if exec_eq m n then v else (b.seat m).place; home = λ o. Nothing };
+  seat = λ m. record { place = if exec_eq m n then v else (b.seat m).place; task = if exec_eq m n then main else (b.seat m).task; home = λ o. Nothing };
   before = λ m. if exec_eq m n then ps else b.before m;
   rank = λ m. if exec_eq m n then suc (b.rank by) else b.rank m;
 }
@@ -36,7 +36,7 @@ made_now b n by v ps = record {
 abbrev pub with_birth : Option Routine → Option Members → State → Makers → Makers
 with_birth None m s b = b
 with_birth (Some r) None s b = b
-with_birth (Some r) (Some m) s b = made_now b (new_exec (home_at s.run.this s.env) s.env) s.env.exec s.run.this (outermost s.callers)
+with_birth (Some r) (Some m) s b = made_now b (new_exec (home_at s.run.this s.env) s.env) s.env.exec s.run.this false (outermost s.callers)
 
 abbrev pub makers_by : Source → List Todo → State → Makers → Makers
 makers_by source (SetUpNow r ∷ todo) s b = with_birth (slice_get source.routines r) (members_at (home_at s.run.this s.env) s.env) s b
@@ -52,7 +52,7 @@ ride_makers source b (ticks {s} e r) = ride_makers source (makers_behind source 
 ride_makers source b (asks {s} e) = makers_behind source s b
 
 abbrev pub makers_asked : Request → State → Makers → Makers
-makers_asked (ask.Spawn o) s b = made_now b (main_of o) s.env.exec (Object o) (outermost s.callers)
+makers_asked (ask.Spawn o) s b = made_now b (main_of o) s.env.exec (Object o) true (outermost s.callers)
 makers_asked r s b = b
 
 module _ (source : Source) (input : List ℕ) (opts : Options) where
@@ -62,16 +62,16 @@ module _ (source : Source) (input : List ℕ) (opts : Options) where
   may_makers b (acts p t n s asked d) = makers_asked asked.request s (ride_makers source b d.rides)
 
   abbrev pub run_makers : {j : Journal} {w : World} → Runs source input opts j w → Makers
-  run_makers begun = record { parent = λ m. m; seat = λ m. record { place = Nothing; home = λ o. Nothing }; before = λ m. []; rank = λ m. 0 }
+  run_makers begun = record { parent = λ m. m; seat = λ m. record { place = Nothing; task = false; home = λ o. Nothing }; before = λ m. []; rank = λ m. 0 }
   run_makers (more r o m) = may_makers (run_makers r) m
 
 -- each that a state makes next is made by the running one
 abbrev pub MakesLater : Source → Makers → State → Type 0
-MakesLater source makers s = (n : Exec) → IsBorn source s n → MadeBy makers n s.env.exec s.run.this (outermost s.callers)
+MakesLater source makers s = (n : Exec) → IsBorn source s n → MadeBy makers n s.env.exec s.run.this false (outermost s.callers)
 
 -- so is the main of a task, by who asks that it be spawned
 abbrev pub SpawnsLater : Makers → Request → State → Type 0
-SpawnsLater makers (ask.Spawn o) s = MadeBy makers (main_of o) s.env.exec (Object o) (outermost s.callers)
+SpawnsLater makers (ask.Spawn o) s = MadeBy makers (main_of o) s.env.exec (Object o) true (outermost s.callers)
 SpawnsLater makers r s = Unit {0}
 
 module _ (makers : Makers) (source : Source) where

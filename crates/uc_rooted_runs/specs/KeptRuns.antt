@@ -9,7 +9,7 @@ use Rattle.uc_entry.specs.declared.request.Request.TheVariants as ask
 use Rattle.uc_acts.specs.Journal.{Journal, is_over}
 use Rattle.uc_acts.specs.KernelRuns.{InRange}
 use Rattle.uc_machine.specs.declared.exec.Exec.{Exec}
-use Rattle.uc_machine.specs.Pieces.{Value, Todo, SetUpNow, Finish, Active, State, Goes}
+use Rattle.uc_machine.specs.Pieces.{Value, Todo, SetUpNow, Finish, GoneNow, Active, State, Goes, object_in}
 use Rattle.uc_machine.specs.Quiet.{quiet}
 use Rattle.uc_machine.specs.Rides.{Rides, slices, goes_on, ticks, asks}
 use Rattle.uc_meaning.specs.Runs.{World, May, Runs, gives, no_room, acts, begun, more}
@@ -28,14 +28,15 @@ use Rattle.uc_rooted_runs.specs.Makers.{Makers, seating}
 use Rattle.uc_rooted_runs.specs.Births.{AllMadeLater}
 use Rattle.uc_rooted_runs.specs.Mains.{CallsNoMain}
 use Rattle.uc_rooted_runs.specs.Outlasting.{HadBefore}
-use Rattle.uc_rooted_runs.specs.OutlastRuns.{with_homes, made_behind, run_made, now}
+use Rattle.uc_rooted_runs.specs.OutlastRuns.{with_homes, made_behind, ride_made, run_made, now}
 use Rattle.uc_rooted_runs.specs.Upwards.{IsThere, OutlastWorld}
 
 module _ (makers : Makers) (asked : Exec → Bool) where
-  -- what is left to find of a state that makes no execution, and at which no main ends
+  -- what is left to find of a state that makes no execution, at which no main ends and no object goes
   abbrev pub KeepsAt : Source → (Exec → Bool) → List Todo → State → Type 0
   KeepsAt source up (SetUpNow r ∷ todo) s = Unit {0}
   KeepsAt source up (Finish ∷ todo) s = Unit {0}
+  KeepsAt source up (GoneNow ∷ todo) s = Unit {0}
   KeepsAt source up todo s = LeavesAt source (seating makers) up todo s
 
   -- where marks are taken away, what is left to find of those that these held; and one that is made is held soon
@@ -66,8 +67,24 @@ module _ (makers : Makers) (asked : Exec → Bool) where
     RunKeeps begun = Unit {0}
     RunKeeps (more r o m) = RunKeeps r × MayKeep (run_made source input opts r) m
 
--- so it stays in each run in which all that was asked so far fits, as long as no step forgets the running execution or calls a main, and nobody leaves
--- its home for good
+  -- no main is up of a task whose object goes
+  abbrev pub NoMainOf : (Exec → Bool) → Request → Type 0
+  NoMainOf up (ask.Gone o) = (x : Exec) → up x ≡ true → (makers.seat x).task ≡ true → object_in (makers.seat x).place ≡ o → ⊥
+  NoMainOf up q = Unit {0}
+
+  module _ (source : Source) (input : List ℕ) (opts : Options) where
+    abbrev pub MayEnd : (Exec → Bool) → {j : Journal} {w : World} {a : List Entry} {x : World} → May source opts input j w a x → Type 0
+    MayEnd made (gives p t s h) = Unit {0}
+    MayEnd made (no_room p t s h) = Unit {0}
+    MayEnd made (acts p t k s q d) = NoMainOf (now makers asked (ride_made source made d.rides)) q.request
+
+    -- so it is at each act of a run
+    abbrev pub RunEnds : {j : Journal} {w : World} → Runs source input opts j w → Type 0
+    RunEnds begun = Unit {0}
+    RunEnds (more r o m) = RunEnds r × MayEnd (run_made source input opts r) m
+
+-- so it stays in each run in which all that was asked so far fits, as long as no step forgets the running execution or calls a main, nobody leaves its home
+-- for good, and no main is up of a task whose object goes
 abbrev pub LawKeptRuns : Type 0
 LawKeptRuns =
     (asked : Exec → Bool) (homes : ℕ → Value) (source : Source) (input : List ℕ) (opts : Options) (j : Journal) (w : World)
@@ -76,6 +93,7 @@ LawKeptRuns =
     RunMeets (CallsNoMain source) source input opts j w r →
     (b : AllMadeLater source input opts j w r) →
     RunKeeps (with_homes homes b.makers) asked source input opts r →
+    RunEnds (with_homes homes b.makers) asked source input opts r →
     OutlastWorld (with_homes homes b.makers) (now (with_homes homes b.makers) asked (run_made source input opts r)) j w
 
 -- what one that lives has of others stood in what the one that made it was to clean up, or had of others, as it made this one, or stands in what that one

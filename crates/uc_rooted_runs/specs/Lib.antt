@@ -14,3 +14,4 @@ pub mod UnmarkedRuns
 pub mod MadeRuns
 pub mod KeptRuns
 pub mod Still
+pub mod TaskMains

@@ -1,5 +1,5 @@
 -- By whom executions were made, where their coroutines are, and what those that made them were to clean up then, outwards of all that was under construction.
-use Rattle.std.specs.Prelude.{◌≡◌, ℕ, ◌<◌, List}
+use Rattle.std.specs.Prelude.{◌≡◌, ℕ, ◌<◌, Bool, List}
 use Rattle.uc_machine.specs.declared.exec.Exec.{Exec}
 use Rattle.uc_machine.specs.Pieces.{Value}
 use Rattle.uc_life_laws.specs.Placed.{Placed}
@@ -17,9 +17,11 @@ pub record Makers : Type 0 where
 abbrev pub seating : Makers → Seating
 seating makers = record { parent = makers.parent; seat = makers.seat; before = makers.before }
 
--- one is made by another, which was made before, for this object, and is to clean up this then outwards of what is under construction
-pub record MadeBy (makers : Makers) (n by : Exec) (v : Value) (ps : List Placed) : Type 0 where
+-- one is made by another, which was made before, for this object, as the main of a task or not, and that is to clean up this then outwards of what is under
+-- construction
+pub record MadeBy (makers : Makers) (n by : Exec) (v : Value) (main : Bool) (ps : List Placed) : Type 0 where
   pub parent : makers.parent n ≡ by
   pub seat : (makers.seat n).place ≡ v
+  pub task : (makers.seat n).task ≡ main
   pub before : makers.before n ≡ ps
   pub later : makers.rank by < makers.rank n

@@ -32,7 +32,7 @@ use Rattle.uc_rooted_runs.specs.Upwards.{OutlastWorld}
 abbrev pub with_homes : (ℕ → Value) → Makers → Makers
 with_homes homes makers = record {
   parent = makers.parent;
-  seat = λ x. record { place = (makers.seat x).place; home = homes };
+  seat = λ x. record { place = (makers.seat x).place; task = (makers.seat x).task; home = homes };
   before = makers.before;
   rank = makers.rank;
 }

@@ -11,6 +11,7 @@ ghost use Rattle.uc_rooted_runs.specs.MadeRuns.{LawMadeRuns};
 ghost use Rattle.uc_rooted_runs.specs.OutlastNames.{LawOutlastNames};
 ghost use Rattle.uc_rooted_runs.specs.Outlasting.{LawOutlasting};
 ghost use Rattle.uc_rooted_runs.specs.Still.{LawStill};
+ghost use Rattle.uc_rooted_runs.specs.TaskMains.{LawTaskMains};
 ghost use Rattle.uc_rooted_runs.specs.UnmarkedRuns.{LawUnmarkedRuns};
 ghost use Rattle.uc_rooted_runs.specs.Upwards.{LawUpwards};
 
@@ -82,4 +83,10 @@ pub fn law_kept_runs()
 /// All that are there in a run were not forgotten, and are no main of a task that has ended.
 pub fn law_still()
     ensures { LawStill }
+{}
+
+/// In runs in which the main of no task is called, or set up for a coroutine, a task comes to its end by its own
+/// main alone.
+pub fn law_task_mains()
+    ensures { LawTaskMains }
 {}

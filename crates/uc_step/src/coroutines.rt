@@ -1,7 +1,8 @@
 // The ops of coroutines, but for those that switch.
 
-ghost use Rattle.uc_step.specs.Effects.{ended};
-ghost use Rattle.uc_step.specs.OpEffects.{Does, DoesAlone};
+ghost use Rattle.std.specs.Prelude.{◌≡◌, ℕ, true};
+ghost use Rattle.uc_step.specs.Effects.{ended, Quiet};
+ghost use Rattle.uc_step.specs.OpEffects.{at_op, Does, DoesAlone};
 
 use crate::effect::{QuietResult, Stop, put_end, put_fault};
 use crate::jumps::unwind;
@@ -31,6 +32,17 @@ pub(crate) fn alive(
                 put_fault(code, line, work, stop, asked, RunFault::NotLive)
             }
         }
+    }
+}
+
+// Whether the coroutine below the arguments of a routine is live.
+pub(crate) fn lives(code: &Code, number: u32, work: &Work) -> bool
+    ensures { result ≡ true → (line at : ℕ) →
+        Does code.now line (Op.Alive number) (at_op at work.now) Quiet (at_op at work.now) }
+{
+    match code.routine(number) {
+        None => false,
+        Some(routine) => work.is_live(routine.params),
     }
 }
 

@@ -1,52 +1,68 @@
 -- Runs of programs whose text is accepted, of which it is asked only what no state tells: that scopes of plain objects open where these are right, and of
 -- what is read, what is read elsewhere or of what is being built or destroyed.
-use Rattle.std.specs.Prelude.{◌≡◌, ℕ, zero, suc, false, List, [], ◌∷◌}
+use Rattle.std.specs.Prelude.{◌≡◌, ℕ, zero, suc, Bool, false, List, [], ◌∷◌}
 use Rattle.uc_tree.specs.Programs.{Program}
-use Rattle.uc_tree.specs.Source.{Source, CleanUp, Stmts, Scoped}
+use Rattle.uc_tree.specs.Source.{Source, Variable, CleanUp, Stmts, Scoped}
 use Rattle.uc_entry.specs.declared.entry.Options.{Options}
 use Rattle.uc_acts.specs.Journal.{Journal, is_over}
 use Rattle.uc_acts.specs.KernelRuns.{InRange}
-use Rattle.uc_machine.specs.Pieces.{Rest}
+use Rattle.uc_machine.specs.declared.exec.Owner.TheVariants.{Frame}
+use Rattle.uc_machine.specs.Pieces.{Slot, FieldAt, Place, Rest, further}
 use Rattle.uc_machine.specs.Quiet.{State, Todo}
 use Rattle.uc_machine.specs.Answering.{answered}
 use Rattle.uc_meaning.specs.Runs.{World, Runs, drawn}
 use Rattle.uc_state_laws.specs.Fitting.{RunFits}
 use Rattle.uc_resolve.specs.Resolve.{source_of}
 use Rattle.uc_state_laws.specs.RoomRuns.{Comes}
-use Rattle.uc_typing.specs.Typing.{Table}
+use Rattle.uc_typing.specs.Typing.{Obj, Row, Sig, Table, CleansAt}
 use Rattle.uc_sound.specs.Tables.{table_of}
 use Rattle.uc_sound.specs.WellTyped.{IsTextOf}
 use Rattle.uc_state_laws.specs.Endings.{RunHolds, LeadsHold}
 use Rattle.uc_state_laws.specs.Limits.{IsWithinLimits}
-use Rattle.uc_life_laws.specs.Lives.{LivesState}
+use Rattle.uc_life_laws.specs.Things.{IsField}
+use Rattle.uc_life_laws.specs.LifeStates.{frame_at, Outwards}
+use Rattle.uc_life_laws.specs.Lives.{OutwardsOrMade, LivesState}
 use Rattle.uc_life_laws.specs.Knowing.{KnowsState}
 use Rattle.uc_life_laws.specs.Opened.{any}
-use Rattle.uc_life_laws.specs.FoundReads.{ObjectsRight, Reads}
+use Rattle.uc_life_laws.specs.FoundReads.{HoldsRight, VariableRight, ReadsAt}
+use Rattle.uc_building_laws.specs.Building.{heads_of}
+use Rattle.uc_building_laws.specs.BuildingStates.{BuiltState}
+use Rattle.uc_building_laws.specs.BuildingRuns.{BindsAnew}
 use Rattle.uc_typed_runs.specs.TypedRuns.{IsTyped}
 
--- where a scope of plain objects opens, these are right, and by some typing what the next step reads is, where no state tells it
-pub record Founds (t : Table) (s : State) : Type 0 where
-  pub objects : (c : CleanUp) (rest : Stmts) (todo : List Todo) →
-      s.run.control ≡ Rest (Scoped c rest) ∷ todo → ObjectsRight t c todo s
-  pub reads : LivesState t any s → Reads t any s
+-- where the scope of a plain object opens, the fields of which `heads` does not tell are right by these kinds; where that of an array of them opens, they
+-- are
+pub record OthersRight (t : Table) (heads : ℕ → ℕ → Bool) (kinds : List Sig) (s : State) : Type 0 where
+  pub fields : (c : CleanUp) (rest : Stmts) (todo : List Todo) → s.run.control ≡ Rest (Scoped c rest) ∷ todo →
+      (k i : ℕ) → CleansAt t (Obj i) (Variable k) c → (m : ℕ) → IsField t i m → heads i m ≡ false →
+      HoldsRight t any s.env.exec (OutwardsOrMade kinds (Outwards t any s.env.exec s.run.frame s.run.this s.callers c todo) s.env.exec s.run.frame s.run.this s.callers) (Frame s.env.exec s.run.frame) (frame_at s.run.frame s.env.frames) (further (FieldAt (t.shape i) m) (Place (Frame s.env.exec s.run.frame) (Slot k ∷ []))) (t.fields i m)
+  pub arrays : (c : CleanUp) (rest : Stmts) (todo : List Todo) → s.run.control ≡ Rest (Scoped c rest) ∷ todo →
+      (k m i : ℕ) → CleansAt t (Row m (Obj i)) (Variable k) c → VariableRight t any kinds c todo s k (Row m (Obj i))
+
+-- nothing is bound yet at a field of the object at hand where that is to be bound; and by some kinds by which objects that are built hold what is known,
+-- what the next step reads is right, where no state tells it, and where scopes open, so are the other fields of plain objects, and arrays of them
+pub record Founds (t : Table) (heads : ℕ → ℕ → Bool) (s : State) : Type 0 where
+  pub anew : BindsAnew t heads s s.run.control
+  pub reads : BuiltState t heads any [] s → (x : BuiltState t heads any [] s) ×
+      (ReadsAt t any x.0.sigs s x.0.run.sig x.0.run.scope s.run.control x.0.run.own × OthersRight t heads x.0.sigs s)
 
 -- but in the four states from which a clean-up comes to the variable that it ends, and reads it
-abbrev pub FoundsOutside : Table → ℕ → State → Type 0
-FoundsOutside t zero s = Founds t s
-FoundsOutside t (suc n) s = Unit {0}
+abbrev pub FoundsOutside : Table → (ℕ → ℕ → Bool) → ℕ → State → Type 0
+FoundsOutside t heads zero s = Founds t heads s
+FoundsOutside t heads (suc n) s = Unit {0}
 
-abbrev pub Led : Table → (source : Source) (j : Journal) (w : World) (n : ℕ) (s : State) →
+abbrev pub Led : Table → (ℕ → ℕ → Bool) → (source : Source) (j : Journal) (w : World) (n : ℕ) (s : State) →
     Comes source j w n s → Type 0
-Led t source j w n s c =
-    LeadsHold (FoundsOutside t) source 0 (answered source c.given (drawn j w n)) s c.leads
+Led t heads source j w n s c =
+    LeadsHold (FoundsOutside t heads) source 0 (answered source c.given (drawn j w n)) s c.leads
 
 -- all tasks are in order, and all that is at home somewhere, and whoever runs in each state to which it comes; there all is known that its
 -- execution can come by, and what is in scope holds what is known
-pub record IsInOrder (t : Table) (source : Source) (j : Journal) (w : World) : Type 0 where
-  pub typed : IsTyped t source (LeadsHold (FoundsOutside t) source 0) j w
-  pub knows : (n : ℕ) (s : State) (c : Comes source j w n s) → Led t source j w n s c →
+pub record IsInOrder (t : Table) (heads : ℕ → ℕ → Bool) (source : Source) (j : Journal) (w : World) : Type 0 where
+  pub typed : IsTyped t source (LeadsHold (FoundsOutside t heads) source 0) j w
+  pub knows : (n : ℕ) (s : State) (c : Comes source j w n s) → Led t heads source j w n s c →
       KnowsState t any [] s
-  pub lives : (n : ℕ) (s : State) (c : Comes source j w n s) → Led t source j w n s c → LivesState t any s
+  pub lives : (n : ℕ) (s : State) (c : Comes source j w n s) → Led t heads source j w n s c → LivesState t any s
 
 -- of each program whose text is accepted and which is within its limits, as long as all that was asked so far fits
 abbrev pub LawFoundTexts : Type 0
@@ -54,5 +70,5 @@ LawFoundTexts =
     (text : List ℕ) (p : Program) → IsTextOf text p → IsWithinLimits p →
     (input : List ℕ) (opts : Options) (j : Journal) (w : World) (r : Runs (source_of p) input opts j w) →
     InRange opts → RunFits (source_of p) input opts j w r →
-    RunHolds (FoundsOutside (table_of p)) (source_of p) input opts j w r → is_over j ≡ false →
-    IsInOrder (table_of p) (source_of p) j w
+    RunHolds (FoundsOutside (table_of p) (heads_of p)) (source_of p) input opts j w r → is_over j ≡ false →
+    IsInOrder (table_of p) (heads_of p) (source_of p) j w

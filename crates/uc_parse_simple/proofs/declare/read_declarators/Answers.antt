@@ -1,4 +1,4 @@
-use Rattle.std.proofs.Common.{rules, ◌≡◌, inl, arith, [], ◌∷◌, ◌++◌}
+use Rattle.std.proofs.Common.{rules, ◌≡◌, inl, arith, [], ◌∷◌, ◌++◌, inr}
 use Rattle.std.proofs.lemmas.Result.{err_from_is_err_and}
 use Rattle.uc_grammar.specs.Spell.{Begins, Run, ListRun}
 use Rattle.uc_grammar.specs.Form.{Spells, Fails, skip}
@@ -23,3 +23,8 @@ items-preserved c = let b : Begins (λ o. is_comma (sign_of o)) c.args.tokens.no
 pub returns-in_err-first-clause-fails : goal.returns-in_err-first-clause-fails
 returns-in_err-first-clause-fails c = let h : Fails (inner c.args.room) (faults c.args.room) (declarators_form) c.args.tokens.now c.args.from c.in_err-first.field-0.0 = inl c.in_err-first.ensures.fails in
     let p = err_from_is_err_and c.from_residual.result c.from_residual.ensures.1 in rw (p.1, p.2) h
+
+pub returns-in_err-next-clause-fails : goal.returns-in_err-next-clause-fails
+returns-in_err-next-clause-fails c = let b : Begins (λ o. is_comma (sign_of o)) c.args.tokens.now c.items.at = search rules in
+    let h : Fails (inner c.args.room) (faults c.args.room) declarators_form c.args.tokens.now c.args.from c.in_err-next.field-0.0 = inr (inl (c.items.at, c.items.all.items, c.items.invariant.run, b, c.in_err-next.ensures.fails)) in
+    let p = err_from_is_err_and c.from_residual-in_err-next.result c.from_residual-in_err-next.ensures.1 in rw (p.1, p.2) h

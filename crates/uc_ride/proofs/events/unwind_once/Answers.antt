@@ -12,7 +12,19 @@ use Rattle.uc_except.proofs.Handled.{begun_as}
 use Rattle.uc_ride.specs.UnwindingFalls.{row_of, how_unwound, left_in}
 use Rattle.uc_ride.proofs.Leading.{follow_before, reason_as, stays}
 use Rattle.uc_ride.proofs.Lowering.{entered_below, caught_falls}
+use Rattle.uc_ride.proofs.Bare.{bare_leads}
 use Rattle.uc_ride.proofs.events.unwind_once.Goals as goal
+
+-- no row covers the op, so the activation is left
+
+pub returns-in_ok-left-clause-source : goal.returns-in_ok-left-clause-source
+returns-in_ok-left-clause-source c =
+    let code = c.args.code.now in
+    let m = c.args.work.now in
+    let bare = c.is_covered.ensures c.if-not.true in
+    λ source s low h. let l = bare_leads source code m s h bare in follow_before source (laid_of code) (how_unwound c.in_ok-left.left c.leave_on.new.asked) c.leave_on.new.work s l.after l.by (c.in_ok-left.ensures.source source l.after l.stands)
+
+-- rows cover it
 
 pub returns-in_ok-after-clause-falls : goal.returns-in_ok-after-clause-falls
 returns-in_ok-after-clause-falls c =
@@ -32,7 +44,7 @@ returns-in_ok-after-in-None-clause-source c =
     λ source s low h.
     let u = subst (λ b. UnwoundTo source (laid_of code) b c.row_in.result n s) c.if-unwind.false (c.unwind.ensures.source source s h own) in
     let l = subst (λ r. UnwoundTo source (laid_of code) false r n s) none u in
-    follow_before source (laid_of code) (how_unwound c.in_ok-after-in-None.after c.leave_on.new.asked) c.leave_on.new.work s l.after l.by (c.in_ok-after-in-None.ensures.source source l.after l.stands)
+    follow_before source (laid_of code) (how_unwound c.in_ok-after-in-None.after c.leave_on-in-None.new.asked) c.leave_on-in-None.new.work s l.after l.by (c.in_ok-after-in-None.ensures.source source l.after l.stands)
 
 pub returns-in_ok-handle-in-Some-clause-source : goal.returns-in_ok-handle-in-Some-clause-source
 returns-in_ok-handle-in-Some-clause-source c =

@@ -1,0 +1,58 @@
+-- Where activations stand in frames: of the object that a constructor or a destructor has at hand; and of handlers of resumptions, which use the frame of a
+-- routine that waits: of what code those are that a search finds which goes out from an activation.
+use Rattle.std.specs.Prelude.{◌≡◌, ℕ, ◌<◌, Bool, true, false, List, [], ◌∷◌, length, Option, Some, None, nat_eq}
+use Rattle.uc_tree.specs.Source.{Source}
+use Rattle.uc_machine.specs.declared.exec.Exec.{Exec}
+use Rattle.uc_machine.specs.declared.exec.Visited.{Visited}
+use Rattle.uc_machine.specs.Pieces.{Link, Value, further, Todo, Sort, sort, IsGuard, Active}
+use Rattle.uc_machine.specs.Raising.{within}
+use Rattle.uc_typing.specs.Typing.{Cell, Obj, Table}
+use Rattle.uc_life_laws.specs.Things.{Few, Stands}
+use Rattle.uc_life_laws.specs.Marks.{Marked}
+use Rattle.uc_putting_laws.specs.CleanedSpots.{HoldsObjects, Reach, from_variable}
+use Rattle.uc_putting_laws.specs.ObjectsAtHand.{LiesIn, BelongsBelow, variable, OwnMarked, NoneWithin}
+use Rattle.uc_putting_laws.specs.Calling.{CallingHandlers}
+
+module _ (t : Table) (source : Source) (special : ℕ → Bool) where
+  -- the handlers of guarded blocks name variables from one on
+  abbrev pub GuardBy : ℕ → Sort → Type 0 → Type 0
+  GuardBy x (IsGuard hs) rest = CallingHandlers t source special (from_variable x) hs × rest
+  GuardBy x k rest = rest
+
+  abbrev pub GuardsCode : ℕ → List Todo → Type 0
+  GuardsCode x [] = Unit {0}
+  GuardsCode x (p ∷ todo) = GuardBy x (sort p) (GuardsCode x todo)
+
+  -- so do all handlers of a frame that a search finds which comes to these activations, as far as it has come
+  abbrev pub SearchedAt : Bool → Type 0 → Type 0 → Type 0
+  SearchedAt true here beyond = here
+  SearchedAt false here beyond = beyond
+
+  abbrev pub Searched : ℕ → Option Visited → ℕ → List Active → Type 0
+  Searched x v f [] = Unit {0}
+  Searched x None f (a ∷ others) = (a.frame ≡ f → GuardsCode x a.control) × Searched x a.handles f others
+  Searched x (Some v) f (a ∷ others) =
+      SearchedAt (nat_eq (length others) v.level) ((a.frame ≡ f → GuardsCode x (within v.rest a.control)) × Searched x a.handles f others) (Searched x (Some v) f others)
+
+  module _ (few : Few) where
+    -- in the frame f, of an activation of the execution n with this object, before these older ones: a variable behind all those in which a field stands
+    -- that older ones have to clean up, and behind that in which the object lies, where mutex objects may lie in that; and handlers that a search finds
+    -- which goes out from it name variables from that one on
+    pub record Beyond (r : Reach) (n : Exec) (older : List Active) (handles : Option Visited) (this : Value) (f : ℕ) : Type 0 where
+      pub cell : ℕ
+      pub spare : (k : ℕ) (v : Value) (e : ℕ) → LiesIn few (variable n f k) v →
+          Stands t few (OwnMarked t n older) (Cell (Obj e)) v → k < cell
+      pub past : HoldsObjects t r.class → (k : ℕ) (l : Link) (v : Value) → LiesIn few (variable n f k) v →
+          LiesIn few (further l this) v → k < cell
+      pub code : Searched cell handles f older
+
+    -- of an activation of the execution n with this frame and this object, before these older ones: the object, where it builds or destroys that; that
+    -- variables of its frame in which a field stands that older ones have to clean up are none of those that it names, nor of those that handlers name
+    -- which a search finds there; and so it is in other frames
+    pub record IsSeated (r : Reach) (n : Exec) (older : List Active) (frame : ℕ) (handles : Option Visited) (this : Value) : Type 0 where
+      pub own : r.builds ≡ true → BelongsBelow few n frame this
+      pub alone : r.builds ≡ true → NoneWithin t few (Marked t n older) this
+      pub spare : (k : ℕ) (v : Value) (e : ℕ) → LiesIn few (variable n frame k) v →
+          Stands t few (OwnMarked t n older) (Cell (Obj e)) v → k < r.low
+      pub after : Searched r.low handles frame older
+      pub beyond : (f : ℕ) → (f ≡ frame → ⊥) → Beyond r n older handles this f
