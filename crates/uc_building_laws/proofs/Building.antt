@@ -56,11 +56,11 @@ head_more (src.Fill line n b d) A B f h = f h
 head_more (src.OfTasks (src.SetUp r)) A B f h = f h
 head_more a A B f h = absurd h
 
-module _ (t : Table) (ps : List Ty) (c i : ℕ) where
-  pub left : (todo : List Todo) → Behind t ps c i todo → AllLeft todo
+module _ (t : Table) (heads : ℕ → ℕ → Bool) (ps : List Ty) (c i : ℕ) where
+  pub left : (todo : List Todo) → Behind t heads ps c i todo → AllLeft todo
   left [] h = absurd h
   left (piece.Rest ss ∷ todo) h = h.1
-  left (piece.Do a ∷ todo) h = head_left t ps c i a (Behind t ps c i todo) (AllLeft todo) (left todo) h
+  left (piece.Do a ∷ todo) h = head_left t ps c i a (Behind t heads ps c i todo) (AllLeft todo) (left todo) h
   left (piece.Unwind ∷ todo) h = h
   left (piece.ClearNow k n ∷ todo) h = absurd h
   left (piece.Variables ds ∷ todo) h = absurd h
@@ -78,7 +78,7 @@ module _ (t : Table) (ps : List Ty) (c i : ℕ) where
   left (piece.FinishCoroutine ∷ todo) h = absurd h
   left (p ∷ todo) h = left todo h
 
-  pub now : (w : Value) (K : Ty → Value → Type 0) (todo : List Todo) (vs : List Value) → Behind t ps c i todo → Now t ps c i w K todo vs
+  pub now : (w : Value) (K : Ty → Value → Type 0) (todo : List Todo) (vs : List Value) → Behind t heads ps c i todo → Now t heads ps c i w K todo vs
   now w K [] vs h = h
   now w K (piece.Do a ∷ todo) vs h = inr h
   now w K (piece.Eval e ∷ todo) vs h = inr h
@@ -128,7 +128,7 @@ module _ (t : Table) (heads : ℕ → ℕ → Bool) (few : Few) (kinds : List Si
   module _ (E : ℕ → ℕ → ℕ → Type 0) (L M : List Ty → ℕ → ℕ → Value → (Ty → Value → Type 0) → Type 0) (fs gs : List (List Value)) (f : ℕ) (this : Value) where
     -- what is still to be bound of an object is bound, or still to be bound
     abbrev pub Goes : ℕ → Type 1
-    Goes g = (k : ℕ) (ps : List Ty) (c i : ℕ) (K : Value → Ty → Type 0) → E g k c → IsField t c i → heads c i ≡ true → this ≡ variable n g k → ((j : ℕ) (b : Ty) → IsParam ps j b → Known t few n K b (slice_index_or (frame_at f fs) j nought)) → Known t few n K (Obj c) (variable n g k) → L ps c i (variable n g k) (Known t few n K) → Holds t few n K (Frame n g) (frame_at g gs) (further (FieldAt (t.shape c) i) (variable n g k)) (t.fields c i) ⊎ M ps c i (variable n g k) (Known t few n K)
+    Goes g = (k : ℕ) (ps : List Ty) (c i : ℕ) (K : Value → Ty → Type 0) → E g k c → IsField t c i → heads c i ≡ true → this ≡ variable n g k → ((j : ℕ) (b : Ty) → IsParam ps j b → Known t few n K b (slice_index_or (frame_at f fs) j nought)) → Known t few n K (Obj c) (variable n g k) → ((j : ℕ) → IsField t c j → heads c j ≡ true → Holds t few n K (Frame n g) (frame_at g fs) (further (FieldAt (t.shape c) j) (variable n g k)) (t.fields c j) ⊎ L ps c j (variable n g k) (Known t few n K)) → L ps c i (variable n g k) (Known t few n K) → Holds t few n K (Frame n g) (frame_at g gs) (further (FieldAt (t.shape c) i) (variable n g k)) (t.fields c i) ⊎ M ps c i (variable n g k) (Known t few n K)
 
     making_to : (depth g k c : ℕ) (K : Value → Ty → Type 0) → FrameKeeps fs gs f → FrameKeeps fs gs g → Goes g → E g k c → IsMaking t heads few kinds n L fs f depth this g (variable n g k) c K → IsMaking t heads few kinds n M gs f depth this g (variable n g k) c K
     making_to depth g k c K kf kg m e h = record {
@@ -142,7 +142,7 @@ module _ (t : Table) (heads : ℕ → ℕ → Bool) (few : Few) (kinds : List Si
       where
         by : (i : ℕ) → IsField t c i → heads c i ≡ true → Holds t few n K (Frame n g) (frame_at g fs) (further (FieldAt (t.shape c) i) (variable n g k)) (t.fields c i) ⊎ L h.params c i (variable n g k) (Known t few n K) → Holds t few n K (Frame n g) (frame_at g gs) (further (FieldAt (t.shape c) i) (variable n g k)) (t.fields c i) ⊎ M h.params c i (variable n g k) (Known t few n K)
         by i x told (inl y) = inl (holds_kept t few n K (Frame n g) (frame_at g fs) (frame_at g gs) _ (t.fields c i) kg y)
-        by i x told (inr y) = m k h.params c i K e x told h.object h.known h.known_object y
+        by i x told (inr y) = m k h.params c i K e x told h.object h.known h.known_object h.fields y
 
     either_to : (depth g k c : ℕ) (K : Value → Ty → Type 0) → FrameKeeps fs gs f → FrameKeeps fs gs g → Goes g → E g k c → IsBuilt t heads few kinds n fs g (variable n g k) c K ⊎ IsMaking t heads few kinds n L fs f depth this g (variable n g k) c K → IsBuilt t heads few kinds n gs g (variable n g k) c K ⊎ IsMaking t heads few kinds n M gs f depth this g (variable n g k) c K
     either_to depth g k c K kf kg m e (inl h) = inl (built_kept fs gs g (variable n g k) c K kg h)
@@ -153,13 +153,13 @@ module _ (t : Table) (heads : ℕ → ℕ → Bool) (few : Few) (kinds : List Si
     builds_in (b ∷ older) kf k y m h =
         awaits_both _ _ _ (λ c todo e x j i d. either_to (suc (length older)) b.frame j i (AtScope t few kinds n b.frame b.this older c todo) kf k.0 (m b.frame) (e j i d) (x j i d)) b.control y h
 
-  all_lying : (cs : List Active) → Lying (λ g k c. Unit {0}) cs
+  pub all_lying : (cs : List Active) → Lying (λ g k c. Unit {0}) cs
   all_lying [] = tt
   all_lying (b ∷ older) = awaits_all _ (λ c todo k i d. tt) b.control
 
   module _ (L M : List Ty → ℕ → ℕ → Value → (Ty → Value → Type 0) → Type 0) (fs gs : List (List Value)) (f : ℕ) (this : Value) where
     pub builds_to : (cs : List Active) → FrameKeeps fs gs f → AllKeep fs gs cs → ((g k : ℕ) (ps : List Ty) (c i : ℕ) (K : Value → Ty → Type 0) → this ≡ variable n g k → ((j : ℕ) (b : Ty) → IsParam ps j b → Known t few n K b (slice_index_or (frame_at f fs) j nought)) → Known t few n K (Obj c) (variable n g k) → L ps c i (variable n g k) (Known t few n K) → Holds t few n K (Frame n g) (frame_at g gs) (further (FieldAt (t.shape c) i) (variable n g k)) (t.fields c i) ⊎ M ps c i (variable n g k) (Known t few n K)) → Builds t heads few kinds n L fs f this cs → Builds t heads few kinds n M gs f this cs
-    builds_to cs kf k m h = builds_in (λ g k c. Unit {0}) L M fs gs f this cs kf k (all_lying cs) (λ g k ps c i K e x told. m g k ps c i K) h
+    builds_to cs kf k m h = builds_in (λ g k c. Unit {0}) L M fs gs f this cs kf k (all_lying cs) (λ g k ps c i K e x told o q p all y. m g k ps c i K o q p y) h
 
   -- without a frame of its own an activation builds nothing
   pub not_making : (L M : List Ty → ℕ → ℕ → Value → (Ty → Value → Type 0) → Type 0) (fs : List (List Value)) (f : ℕ) (this : Value) (cs : List Active) → (f ≡ length cs → ⊥) → Builds t heads few kinds n L fs f this cs → Builds t heads few kinds n M fs f this cs
@@ -175,7 +175,7 @@ module _ (t : Table) (heads : ℕ → ℕ → Bool) (few : Few) (kinds : List Si
 
   pub all_kept : (fs gs : List (List Value)) (cs : List Active) → AllKeep fs gs cs → AllBuild t heads few kinds n fs cs → AllBuild t heads few kinds n gs cs
   all_kept fs gs [] k h = tt
-  all_kept fs gs (a ∷ older) k h = (builds_kept (of_wait t a) fs gs a.frame a.this older k.0 k.1 h.0, all_kept fs gs older k.1 h.1)
+  all_kept fs gs (a ∷ older) k h = (builds_kept (of_wait t heads a) fs gs a.frame a.this older k.0 k.1 h.0, all_kept fs gs older k.1 h.1)
 
   -- something else is left
   pub builds_more : (L M : List Ty → ℕ → ℕ → Value → (Ty → Value → Type 0) → Type 0) → ((ps : List Ty) (c i : ℕ) (w : Value) (K : Ty → Value → Type 0) → L ps c i w K → M ps c i w K) → (fs : List (List Value)) (f : ℕ) (this : Value) (cs : List Active) → Builds t heads few kinds n L fs f this cs → Builds t heads few kinds n M fs f this cs

@@ -84,12 +84,12 @@ module _ (t : Table) (heads : ℕ → ℕ → Bool) (few : Few) (kinds : List Si
   all_cleared : (cs : List Active) → IsApart s.run.frame cs → AwaitedBefore t s.env.exec cell s.run.frame cs → AllBuild t heads few kinds s.env.exec s.env.frames cs → AllBuild t heads few kinds s.env.exec gs cs
   all_cleared [] p k h = tt
   all_cleared (a ∷ older) p k h =
-      (builds_cleared (of_wait t a) a.frame a.this older (λ e d ps c i w K x. p.0 (sym e) d (building.left t ps c i a.control x.0)) k.1 h.0, all_cleared older p.1 k.1 h.1)
+      (builds_cleared (of_wait t heads a) a.frame a.this older (λ e d ps c i w K x. p.0 (sym e) d (building.left t heads ps c i a.control x.0)) k.1 h.0, all_cleared older p.1 k.1 h.1)
 
-  pub clears : (todo : List Todo) → AllApart (s.run ∷ s.callers) → AwaitedBefore t s.env.exec cell s.run.frame s.callers → Builds t heads few kinds s.env.exec (λ ps c i w K. ⊥) s.env.frames s.run.frame s.run.this s.callers → AllBuild t heads few kinds s.env.exec s.env.frames s.callers → BuildsBy t heads few kinds (λ ps c i w K. Now t ps c i w K todo s.run.operands × NotBack s.run) (at todo s.run.operands (in_env (piece.cleared cell m s) s))
+  pub clears : (todo : List Todo) → AllApart (s.run ∷ s.callers) → AwaitedBefore t s.env.exec cell s.run.frame s.callers → Builds t heads few kinds s.env.exec (λ ps c i w K. ⊥) s.env.frames s.run.frame s.run.this s.callers → AllBuild t heads few kinds s.env.exec s.env.frames s.callers → BuildsBy t heads few kinds (λ ps c i w K. Now t heads ps c i w K todo s.run.operands × NotBack s.run) (at todo s.run.operands (in_env (piece.cleared cell m s) s))
   clears todo p k h callers =
-      subst (λ (b : Bool). BuildsBy t heads few kinds (λ ps c i w K. Now t ps c i w K todo s.run.operands × NotBack s.run) (at todo s.run.operands (in_env (if b then record s.env { frames = gs } else change s.env.exec.home (frames_changed s.env.exec.serial (frame_changed s.run.frame (values_cleared cell m nought))) s.env) s))) (sym (exec_same s.env.exec)) (record {
+      subst (λ (b : Bool). BuildsBy t heads few kinds (λ ps c i w K. Now t heads ps c i w K todo s.run.operands × NotBack s.run) (at todo s.run.operands (in_env (if b then record s.env { frames = gs } else change s.env.exec.home (frames_changed s.env.exec.serial (frame_changed s.run.frame (values_cleared cell m nought))) s.env) s))) (sym (exec_same s.env.exec)) (record {
         apart = p;
-        run = building.builds_more t heads few kinds s.env.exec (λ ps c i w K. ⊥) (λ ps c i w K. Now t ps c i w K todo s.run.operands × NotBack s.run) (λ ps c i w K x. absurd x) gs s.run.frame s.run.this s.callers (builds_cleared (λ ps c i w K. ⊥) s.run.frame s.run.this s.callers (λ e d ps c i w K x. x) k h);
+        run = building.builds_more t heads few kinds s.env.exec (λ ps c i w K. ⊥) (λ ps c i w K. Now t heads ps c i w K todo s.run.operands × NotBack s.run) (λ ps c i w K x. absurd x) gs s.run.frame s.run.this s.callers (builds_cleared (λ ps c i w K. ⊥) s.run.frame s.run.this s.callers (λ e d ps c i w K x. x) k h);
         callers = all_cleared s.callers p.0.0 k callers;
       })

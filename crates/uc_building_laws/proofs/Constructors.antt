@@ -35,7 +35,7 @@ use Rattle.uc_life_laws.specs.Makings.{Builds}
 use Rattle.uc_life_laws.specs.Knowing.{KnowsState}
 use Rattle.uc_place_laws.specs.Opened.{role_number, ArePaired, OfPlain}
 use Rattle.uc_place_laws.specs.OpeningLaws.{Awaited, IsAt, CallsAt, IsCalled}
-use Rattle.uc_building_laws.specs.Building.{is_bound_in, heads_of, InHead}
+use Rattle.uc_building_laws.specs.Building.{is_bound_in, none_told, heads_of, InHead}
 use Rattle.uc_building_laws.specs.BuildingStates.{variable}
 use Rattle.uc_building_laws.specs.BuildingLaws.{IsConstructed, Constructs, BuildsAt, Fair}
 use Rattle.uc_building_laws.specs.BuildingRuns.{BindsAnew, LawHeads}
@@ -120,9 +120,12 @@ module _ (p : Program) (formed : IsFormed p) (accepted : breaks_of p ≡ []) whe
         by (Some n) e = ap (λ n. (t.routine n).this) (x.builds ∙ ap (role_number p x.class role.Constructor) e) ∙ (m.written n e).this
 
     -- it binds what is told in its first statements
-    pub binds : (q : Routine) → slice_get source.routines r ≡ Some q → (i : ℕ) → heads_of p x.class i ≡ true → InHead t (t.routine r).params x.class i q.body ⊎ IsUnbound t (t.fields x.class i)
+    pub binds : (q : Routine) → slice_get source.routines r ≡ Some q → (i : ℕ) → heads_of p x.class i ≡ true → InHead t (heads_of p) (t.routine r).params x.class i q.body ⊎ IsUnbound t (t.fields x.class i)
     binds q e i h =
-        heads p formed accepted r x.class constructs q e i (sym (ap (λ o. is_bound_in i (routine_or_none o).body) e) ∙ (ap (λ n. is_bound_in i (routine_of source n).body) x.builds ∙ h))
+        heads p formed accepted (heads_of p) r x.class constructs q e (λ m b. sym (same m) ∙ b) i (same i ∙ h)
+      where
+        same : (m : ℕ) → is_bound_in none_told m q.body ≡ heads_of p x.class m
+        same m = sym (ap (λ o. is_bound_in none_told m (routine_or_none o).body) e) ∙ ap (λ n. is_bound_in none_told m (routine_of source n).body) x.builds
 
     -- the destructor is of the class
     this : (t.routine d).this ≡ Some x.class
@@ -141,8 +144,8 @@ module _ (p : Program) (formed : IsFormed p) (accepted : breaks_of p ≡ []) whe
     plain : (i : ℕ) → (t.routine d).this ≡ Some i → t.mutex i ≡ false
     plain i e = subst (λ i. t.mutex i ≡ false) (class_is i e) is_made.2
 
-    makes : (i : ℕ) → (t.routine d).this ≡ Some i → (q : Routine) → slice_get source.routines r ≡ Some q → (m : ℕ) → heads_of p i m ≡ true → InHead t (t.routine r).params i m q.body ⊎ IsUnbound t (t.fields i m)
-    makes i e q is m = subst (λ i. heads_of p i m ≡ true → InHead t (t.routine r).params i m q.body ⊎ IsUnbound t (t.fields i m)) (class_is i e) (binds q is m)
+    makes : (i : ℕ) → (t.routine d).this ≡ Some i → (q : Routine) → slice_get source.routines r ≡ Some q → (m : ℕ) → heads_of p i m ≡ true → InHead t (heads_of p) (t.routine r).params i m q.body ⊎ IsUnbound t (t.fields i m)
+    makes i e q is m = subst (λ i. heads_of p i m ≡ true → InHead t (heads_of p) (t.routine r).params i m q.body ⊎ IsUnbound t (t.fields i m)) (class_is i e) (binds q is m)
 
     purpose : (q : Routine) → slice_get source.routines r ≡ Some q → q.purpose ≡ src.Builder
     purpose q e = builder q.purpose (t.routine r).whole whole ((law_sound p formed accepted).routines r q e).purpose

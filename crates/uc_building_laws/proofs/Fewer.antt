@@ -100,11 +100,11 @@ module _ (t : Table) (heads : ℕ → ℕ → Bool) (few : Few) (numbers : Ty �
       all_less fs [] more made h = tt
       all_less fs (a ∷ older) more made h =
           let next : Less t few n (Around t few n older) L = λ w b y. more w b (inr (around_outer t few n older w b y)) in
-          (builds_less (of_wait t a) (of_wait t a) (λ K l ps c i w y. y) fs a.frame a.this older next (λ w b m. made w b (inr m)) h.0, all_less fs older next (λ w b m. made w b (inr m)) h.1)
+          (builds_less (of_wait t heads a) (of_wait t heads a) (λ K l ps c i w y. y) fs a.frame a.this older next (λ w b m. made w b (inr m)) h.0, all_less fs older next (λ w b m. made w b (inr m)) h.1)
 
     -- what an activation has still to bind
-    left_less : (given : List Ty) (a : Active) (K : Value → Ty → Type 0) → Lasts t few numbers K → (ps : List Ty) (c i : ℕ) (w : Value) → Left t given a ps c i w (Known t few n K) → Left t given a ps c i w (Known t less n K)
-    left_less [] a K lasts ps c i w y = (now_more t ps c i w (Known t few n K) (Known t less n K) (λ b v. known_fewer t few numbers keeps n K lasts b v) a.control a.operands y.0, y.1)
+    left_less : (given : List Ty) (a : Active) (K : Value → Ty → Type 0) → Lasts t few numbers K → (ps : List Ty) (c i : ℕ) (w : Value) → Left t heads given a ps c i w (Known t few n K) → Left t heads given a ps c i w (Known t less n K)
+    left_less [] a K lasts ps c i w y = (now_more t heads ps c i w (Known t few n K) (Known t less n K) (λ b v. known_fewer t few numbers keeps n K lasts b v) a.control a.operands y.0, y.1)
     left_less (b ∷ given) a K lasts ps c i w y = y
 
   -- of executions that do not run
@@ -121,12 +121,12 @@ module _ (t : Table) (heads : ℕ → ℕ → Bool) (few : Few) (numbers : Ty �
           let made : (w : Value) (a : Ty) → MakingIn gs x.callers w a → AtHand t few n gs (x.run ∷ x.callers) w a = λ w a m. inr (inl (making_here t few gs (x.run ∷ x.callers) w a (below t few (OutwardsOrMade gs) n x.frames (x.run ∷ x.callers) h.0.stack) bounds (inr m))) in
           record {
             apart = h.1.apart;
-            run = builds_less gs n (AtHand t few n gs (x.run ∷ x.callers)) lasts (of_run t x.run) (of_run t x.run) (left_less gs n [] x.run) x.frames x.run.frame x.run.this x.callers more made h.1.run;
+            run = builds_less gs n (AtHand t few n gs (x.run ∷ x.callers)) lasts (of_run t heads x.run) (of_run t heads x.run) (left_less gs n [] x.run) x.frames x.run.frame x.run.this x.callers more made h.1.run;
             callers = all_less gs n (AtHand t few n gs (x.run ∷ x.callers)) lasts x.frames x.callers more made h.1.callers;
           }
       by (inr fresh) = record {
         apart = h.1.apart;
-        run = subst (λ cs. Builds t heads less gs n (of_run t x.run) x.frames x.run.frame x.run.this cs) (sym fresh.callers) tt;
+        run = subst (λ cs. Builds t heads less gs n (of_run t heads x.run) x.frames x.run.frame x.run.this cs) (sym fresh.callers) tt;
         callers = subst (λ cs. AllBuild t heads less gs n x.frames cs) (sym fresh.callers) tt;
       }
 
@@ -192,9 +192,9 @@ module _ (t : Table) (heads : ℕ → ℕ → Bool) (few : Few) (numbers : Ty �
       made_older : (w : Value) (a : Ty) → MakingIn x.0.sigs s.callers w a → AtHand t few s.env.exec (others x.0.sigs) s.callers w a
       made_older w a m = inr (inl (making_here t few (others x.0.sigs) s.callers w a all_below.1 older (in_older t few x.0.sigs s.callers w a all_below.1 older m)))
 
-      builds : Lasts t few numbers (AtHand t few s.env.exec (others x.0.sigs) s.callers) → BuildsBy t heads less x.0.sigs (Left t given s.run) s
+      builds : Lasts t few numbers (AtHand t few s.env.exec (others x.0.sigs) s.callers) → BuildsBy t heads less x.0.sigs (Left t heads given s.run) s
       builds lasts = record {
         apart = x.1.1.apart;
-        run = builds_less x.0.sigs s.env.exec (AtHand t few s.env.exec (others x.0.sigs) s.callers) lasts (Left t given s.run) (Left t given s.run) (left_less x.0.sigs s.env.exec given s.run) s.env.frames s.run.frame s.run.this s.callers (around_hand t few s.env.exec (others x.0.sigs) s.callers) made_older x.1.1.run;
+        run = builds_less x.0.sigs s.env.exec (AtHand t few s.env.exec (others x.0.sigs) s.callers) lasts (Left t heads given s.run) (Left t heads given s.run) (left_less x.0.sigs s.env.exec given s.run) s.env.frames s.run.frame s.run.this s.callers (around_hand t few s.env.exec (others x.0.sigs) s.callers) made_older x.1.1.run;
         callers = all_less x.0.sigs s.env.exec (AtHand t few s.env.exec (others x.0.sigs) s.callers) lasts s.env.frames s.callers (around_hand t few s.env.exec (others x.0.sigs) s.callers) made_older x.1.1.callers;
       }

@@ -26,7 +26,7 @@ use Rattle.uc_sound.specs.Tables.{known_field, listed_field, class_field, writte
 use Rattle.uc_sound.proofs.Lists.{left_is, right_is}
 use Rattle.uc_sound.proofs.SoundLemmas.{law_sound}
 use Rattle.uc_life_laws.specs.Things.{IsField, Within, itself, field, element, IsBinding, IsUnbound}
-use Rattle.uc_building_laws.specs.Building.{is_path, is_object_path, is_bound_by, is_bound_in, IsGiven, BindsField, InHead}
+use Rattle.uc_building_laws.specs.Building.{is_other, is_settled, is_path, is_object_path, is_bound_by, told_behind, is_bound_in, none_told, StaysBy, IsGiven, BindsField, InHead}
 
 -- what is whole
 
@@ -108,7 +108,12 @@ scalar_unbound t w v b h binds = by b (in_scalar t w v (Cell b) h) binds
 
 -- what binds, of a routine of a class in which all types are whole
 
-module _ (t : Table) (g : Sig) (c : ℕ) (this : g.this ≡ Some c) (leads : (d : ℕ) → t.executes d ≡ true → t.fields d 0 ≡ Num) (fields_whole : (d i : ℕ) → IsWhole (t.fields d i)) (params_whole : (k : ℕ) (a : Ty) → IsParam g.params k a → IsWhole a) where
+-- a cell of a field is that of a number, or of a binding
+abbrev IsKept : Ty → Type 0
+IsKept (Cell a) = (a ≡ Num) ⊎ IsBinding a
+IsKept a = Unit {0}
+
+module _ (t : Table) (g : Sig) (c : ℕ) (this : g.this ≡ Some c) (leads : (d : ℕ) → t.executes d ≡ true → t.fields d 0 ≡ Num) (fields_whole : (d i : ℕ) → IsWhole (t.fields d i)) (fields_kept : (d i : ℕ) → IsKept (t.fields d i)) (params_whole : (k : ℕ) (a : Ty) → IsParam g.params k a → IsWhole a) where
   class_is : (d : ℕ) → g.this ≡ Some d → d ≡ c
   class_is d e = let q : Some d ≡ Some c = sym e ∙ this in cc
 
@@ -116,83 +121,141 @@ module _ (t : Table) (g : Sig) (c : ℕ) (this : g.this ≡ Some c) (leads : (d 
   declared d zero h e = absurd (subst (IsPlaced t) (leads d e) h)
   declared d (suc m) h e = omega arith
 
-  -- what a path finds
-  record IsFound (e : Expr) (a : Ty) : Type 0 where
-    type : Ty
-    is_whole : IsWhole type
-    is_given : IsGiven t g.params c e type
-    of : IsOf a type
+  of_cell : (m : ℕ) (a : Ty) → Cell a ≡ t.fields c m → IsField t c m
+  of_cell zero a q e = let z : t.fields c 0 ≡ Num = leads c e in absurd (cc)
+  of_cell (suc m) a q e = omega arith
 
-  in_object : (s : Shape) (m : ℕ) (e : Expr) (a : Ty) (d : ℕ) → s ≡ t.shape d → a ≡ t.fields d m → IsPlaced t (t.fields d m) → (Obj d ≡ Num) ⊎ IsFound e (Obj d) → (a ≡ Num) ⊎ IsFound (src.OfObject (src.FieldOf s m e)) a
-  in_object s m e a d q y l (inl z) = absurd (cc)
-  in_object s m e a d q y l (inr f) =
-      inr (record { type = t.fields d m; is_whole = fields_whole d m; is_given = (d, subst (IsGiven t g.params c e) (no_object d f.type f.of) f.is_given, refl, q, declared d m l, l); of = inl y })
+  -- `told`: fields that have been bound, as `F` says
+  module _ (told : ℕ → Bool) (F : ℕ → Type 0) (stays : (m : ℕ) → told m ≡ true → F m) where
+    -- what a path finds
+    record IsFound (e : Expr) (a : Ty) : Type 0 where
+      type : Ty
+      is_whole : IsWhole type
+      is_given : IsGiven t g.params c F e type
+      of : IsOf a type
 
-  mutual
-    path : (e : Expr) (a : Ty) → is_path e ≡ true → Yields t g [] e a → (a ≡ Num) ⊎ IsFound e a
-    path (src.Get k) a p (inl h) = inr (record { type = a; is_whole = params_whole k a h.0; is_given = (h.0, h.1); of = inl refl })
-    path (src.Get k) a p (inr (inl h)) = inl h
-    path (src.Get k) a p (inr (inr h)) = absurd h.0
-    path (src.OfObject o) a p h = object_path o a p h
-    path e a p h = absurd (cc)
+    in_object : (s : Shape) (m : ℕ) (e : Expr) (a : Ty) (d : ℕ) → s ≡ t.shape d → a ≡ t.fields d m → IsPlaced t (t.fields d m) → (Obj d ≡ Num) ⊎ IsFound e (Obj d) → (a ≡ Num) ⊎ IsFound (src.OfObject (src.FieldOf s m e)) a
+    in_object s m e a d q y l (inl z) = absurd (cc)
+    in_object s m e a d q y l (inr f) =
+        inr (record { type = t.fields d m; is_whole = fields_whole d m; is_given = (d, subst (IsGiven t g.params c F e) (no_object d f.type f.of) f.is_given, refl, q, declared d m l, l); of = inl y })
 
-    object_path : (o : ObjectExpr) (a : Ty) → is_object_path o ≡ true → Yields t g [] (src.OfObject o) a → (a ≡ Num) ⊎ IsFound (src.OfObject o) a
-    object_path (src.OwnField s m) a p h =
-        let same : h.0 ≡ c = class_is h.0 h.1 in
-        let placed : IsPlaced t (t.fields c m) = subst (λ d. IsPlaced t (t.fields d m)) same h.3 in
-        inr (record { type = t.fields c m; is_whole = fields_whole c m; is_given = (refl, h.2 ∙ ap t.shape same, declared c m placed, placed); of = subst (λ d. IsOf a (t.fields d m)) same h.4 })
-    object_path (src.FieldOf s m e) a p h = in_object s m e a h.0 h.2 h.3 h.4 (path e (Obj h.0) p h.1)
-    object_path o a p h = absurd (cc)
+    -- what a field has been bound to
+    bound_to : (s : Shape) (m : ℕ) (a : Ty) → told m ≡ true → s ≡ t.shape c → Cell a ≡ t.fields c m → (a ≡ Num) ⊎ IsBinding a → (a ≡ Num) ⊎ IsFound (src.OfObject (src.GetOwn s m)) a
+    bound_to s m a l q y (inl z) = inl z
+    bound_to s m a l q y (inr i) =
+        inr (record { type = a; is_whole = subst IsWhole (sym y) (fields_whole c m); is_given = (sym y, q, of_cell m a y, i, stays m l); of = inl refl })
 
-  -- the field that an expression binds
-  module _ (i : ℕ) where
-    abbrev Bound : Expr → Type 0
-    Bound e = BindsField t g.params c i e ⊎ IsUnbound t (t.fields c i)
+    mutual
+      path : (e : Expr) (a : Ty) → is_path told e ≡ true → Yields t g [] e a → (a ≡ Num) ⊎ IsFound e a
+      path (src.Get k) a p (inl h) = inr (record { type = a; is_whole = params_whole k a h.0; is_given = (h.0, h.1); of = inl refl })
+      path (src.Get k) a p (inr (inl h)) = inl h
+      path (src.Get k) a p (inr (inr h)) = absurd h.0
+      path (src.OfObject o) a p h = object_path o a p h
+      path e a p h = absurd (cc)
 
-    unbound : t.fields c i ≡ Cell Num → IsUnbound t (t.fields c i)
-    unbound e = subst (IsUnbound t) (sym e) (scalar_unbound t)
+      object_path : (o : ObjectExpr) (a : Ty) → is_object_path told o ≡ true → Yields t g [] (src.OfObject o) a → (a ≡ Num) ⊎ IsFound (src.OfObject o) a
+      object_path (src.OwnField s m) a p h =
+          let same : h.0 ≡ c = class_is h.0 h.1 in
+          let placed : IsPlaced t (t.fields c m) = subst (λ d. IsPlaced t (t.fields d m)) same h.3 in
+          inr (record { type = t.fields c m; is_whole = fields_whole c m; is_given = (refl, h.2 ∙ ap t.shape same, declared c m placed, placed); of = subst (λ d. IsOf a (t.fields d m)) same h.4 })
+      object_path (src.GetOwn s m) a p h =
+          let same : h.0 ≡ c = class_is h.0 h.1 in
+          let y : Cell a ≡ t.fields c m = h.3 ∙ ap (λ d. t.fields d m) same in
+          bound_to s m a p (h.2 ∙ ap t.shape same) y (subst IsKept (sym y) (fields_kept c m))
+      object_path (src.FieldOf s m e) a p h = in_object s m e a h.0 h.2 h.3 h.4 (path e (Obj h.0) p h.1)
+      object_path o a p h = absurd (cc)
 
-    given : (s : Shape) (m : ℕ) (e : Expr) (a x : Ty) → m ≡ i → s ≡ t.shape c → t.fields c i ≡ Cell x → IsWhole x → IsOf a x → (a ≡ Num) ⊎ IsFound e a → Bound (src.OfObject (src.Bind (src.OfObject (src.OwnField s m)) e))
-    given s m e a x n q f w o (inl z) =
-        let num : x ≡ Num = sym (whole_of a x w o) ∙ ap whole z in
-        inr (unbound (f ∙ ap Cell num))
-    given s m e a x n q f w o (inr y) = inl (n, q, (x, f, subst (IsGiven t g.params c e) (same_whole a y.type x y.is_whole w y.of o) y.is_given))
+    -- the field that an expression binds
+    module _ (i : ℕ) where
+      abbrev Bound : Expr → Type 0
+      Bound e = BindsField t g.params c F i e ⊎ IsUnbound t (t.fields c i)
 
-    binds : (s : Shape) (m : ℕ) (e : Expr) → (nat_eq m i && is_path e) ≡ true → (a : Ty) → Yields t g [] (src.OfObject (src.OwnField s m)) (Cell a) → Yields t g [] e a → Bound (src.OfObject (src.Bind (src.OfObject (src.OwnField s m)) e))
-    binds s m e h a y z =
-        let same : y.0 ≡ c = class_is y.0 y.1 in
-        let n : m ≡ i = eqb-true m i (left_is (nat_eq m i) (is_path e) h) in
-        let x = cell_of a (t.fields c i) (subst (λ m. (Cell a ≡ t.fields c m) ⊎ (Cell a ≡ raw (t.fields c m))) n (subst (λ d. (Cell a ≡ t.fields d m) ⊎ (Cell a ≡ raw (t.fields d m))) same y.4)) in
-        given s m e a x.bound n (y.2 ∙ ap t.shape same) x.is (subst IsWhole x.is (fields_whole c i)) x.of (path e a (right_is (nat_eq m i) (is_path e) h) z)
+      unbound : t.fields c i ≡ Cell Num → IsUnbound t (t.fields c i)
+      unbound e = subst (IsUnbound t) (sym e) (scalar_unbound t)
 
-    bound_by : (e : Expr) → is_bound_by i e ≡ true → Fine t g [] e → Bound e
-    bound_by (src.OfObject (src.Bind (src.OfObject (src.OwnField s m)) e)) h f = binds s m e h f.0 f.1.0 f.1.1
-    bound_by e h f = absurd (cc)
+      given : (s : Shape) (m : ℕ) (e : Expr) (a x : Ty) → m ≡ i → s ≡ t.shape c → t.fields c i ≡ Cell x → IsWhole x → IsOf a x → (a ≡ Num) ⊎ IsFound e a → Bound (src.OfObject (src.Bind (src.OfObject (src.OwnField s m)) e))
+      given s m e a x n q f w o (inl z) =
+          let num : x ≡ Num = sym (whole_of a x w o) ∙ ap whole z in
+          inr (unbound (f ∙ ap Cell num))
+      given s m e a x n q f w o (inr y) = inl (n, q, (x, f, subst (IsGiven t g.params c F e) (same_whole a y.type x y.is_whole w y.of o) y.is_given))
 
-    -- the first statements
-    abbrev Heads : Stmts → Type 0
-    Heads ss = InHead t g.params c i ss ⊎ IsUnbound t (t.fields c i)
+      binds : (s : Shape) (m : ℕ) (e : Expr) → (nat_eq m i && is_path told e) ≡ true → (a : Ty) → Yields t g [] (src.OfObject (src.OwnField s m)) (Cell a) → Yields t g [] e a → Bound (src.OfObject (src.Bind (src.OfObject (src.OwnField s m)) e))
+      binds s m e h a y z =
+          let same : y.0 ≡ c = class_is y.0 y.1 in
+          let n : m ≡ i = eqb-true m i (left_is (nat_eq m i) (is_path told e) h) in
+          let x = cell_of a (t.fields c i) (subst (λ m. (Cell a ≡ t.fields c m) ⊎ (Cell a ≡ raw (t.fields c m))) n (subst (λ d. (Cell a ≡ t.fields d m) ⊎ (Cell a ≡ raw (t.fields d m))) same y.4)) in
+          given s m e a x.bound n (y.2 ∙ ap t.shape same) x.is (subst IsWhole x.is (fields_whole c i)) x.of (path e a (right_is (nat_eq m i) (is_path told e) h) z)
 
-    later : (a : Stmt) (ss : Stmts) → (InHead t g.params c i ss → InHead t g.params c i (src.Then a ss)) → Heads ss → Heads (src.Then a ss)
-    later a ss f (inl h) = inl (f h)
-    later a ss f (inr h) = inr h
+      pub bound_by : (e : Expr) → is_bound_by told i e ≡ true → Fine t g [] e → Bound e
+      bound_by (src.OfObject (src.Bind (src.OfObject (src.OwnField s m)) e)) h f = binds s m e h f.0 f.1.0 f.1.1
+      bound_by e h f = absurd (cc)
 
-    pub head : (ss : Stmts) → is_bound_in i ss ≡ true → FineStmts t g [] ss → Heads ss
-    head src.Nil h f = absurd (cc)
-    head (src.Then (src.Evaluate line e) rest) h f = by (is_bound_by i e) refl h (λ k. head rest k f.1)
-      where
-        here : Bound e → Heads (src.Then (src.Evaluate line e) rest)
-        here (inl y) = inl (inl y)
-        here (inr y) = inr y
+  -- what binds a field is none that does not
+  names_it : (told : ℕ → Bool) (i : ℕ) (e : Expr) → is_bound_by told i e ≡ true → is_other i e ≡ true → ⊥
+  names_it told i (src.OfObject (src.Bind (src.OfObject (src.OwnField s m)) e)) h o =
+      let q : nat_eq m i ≡ true = left_is (nat_eq m i) (is_path told e) h in
+      let r : (if nat_eq m i then false else true) ≡ false = ap (λ (b : Bool). if b then false else true) q in
+      absurd (cc)
+  names_it told i e h o = absurd (cc)
 
-        by : (b : Bool) → is_bound_by i e ≡ b → (b || is_bound_in i rest) ≡ true → (is_bound_in i rest ≡ true → Heads rest) → Heads (src.Then (src.Evaluate line e) rest)
-        by true q k more = here (bound_by e q f.0)
-        by false q k more = later (src.Evaluate line e) rest (λ y. inr y) (more k)
-    head (src.Then (src.Fill line n b d) rest) h f = later (src.Fill line n b d) rest (λ y. inr y) (head rest h f.1)
-    head (src.Then (src.OfTasks (src.SetUp r)) rest) h f = later (src.OfTasks (src.SetUp r)) rest (λ y. inr y) (head rest h f.1)
-    head (src.Then a rest) h f = absurd (cc)
-    head (src.Scoped x rest) h f = absurd (cc)
-    head (src.Built x rest) h f = head rest h f.0
+  -- the first statements
+  module _ (heads : ℕ → ℕ → Bool) where
+    -- fields that are told are bound by none of these statements; and each that these bind is one of which it is told
+    abbrev AreTold : (ℕ → Bool) → Stmts → Type 0
+    AreTold told ss = (m : ℕ) → told m ≡ true → (heads c m ≡ true) × (is_settled m ss ≡ true)
+
+    abbrev AreHeads : (ℕ → Bool) → Stmts → Type 0
+    AreHeads told ss = (m : ℕ) → is_bound_in told m ss ≡ true → heads c m ≡ true
+
+    -- behind a statement that evaluates this
+    module _ (told : ℕ → Bool) (line : ℕ) (e : Expr) (rest : Stmts) (are : AreTold told (src.Then (src.Evaluate line e) rest)) (all : AreHeads told (src.Then (src.Evaluate line e) rest)) where
+      settled : (m : ℕ) → told m ≡ true → is_settled m rest ≡ true
+      settled m l = right_is (is_other m e) (is_settled m rest) (are m l).1
+
+      now_told : AreTold (told_behind told e rest) rest
+      now_told m = by (told m) refl (is_bound_by told m e) refl
+        where
+          by : (a : Bool) → told m ≡ a → (b : Bool) → is_bound_by told m e ≡ b → (a || (b && is_settled m rest)) ≡ true → (heads c m ≡ true) × (is_settled m rest ≡ true)
+          by true x b y h = ((are m x).0, settled m x)
+          by false x true y h = (all m (ap (λ b. b || is_bound_in (told_behind told e rest) m rest) y), h)
+          by false x false y h = absurd (cc)
+
+      now_heads : AreHeads (told_behind told e rest) rest
+      now_heads m h = all m (by (is_bound_by told m e) (is_bound_in (told_behind told e rest) m rest) h)
+        where
+          by : (a b : Bool) → b ≡ true → (a || b) ≡ true
+          by true b h = refl
+          by false b h = h
+
+      stays : (i : ℕ) → is_bound_by told i e ≡ true → (m : ℕ) → told m ≡ true → StaysBy heads c i m (is_settled m rest ≡ true)
+      stays i b m l =
+          ((are m l).0, λ q. names_it told m e (subst (λ k. is_bound_by told k e ≡ true) (sym q) b) (left_is (is_other m e) (is_settled m rest) (are m l).1), settled m l)
+
+    module _ (i : ℕ) where
+      abbrev Heads : Stmts → Type 0
+      Heads ss = InHead t heads g.params c i ss ⊎ IsUnbound t (t.fields c i)
+
+      later : (a : Stmt) (ss : Stmts) → (InHead t heads g.params c i ss → InHead t heads g.params c i (src.Then a ss)) → Heads ss → Heads (src.Then a ss)
+      later a ss f (inl h) = inl (f h)
+      later a ss f (inr h) = inr h
+
+      pub head : (told : ℕ → Bool) (ss : Stmts) → AreTold told ss → AreHeads told ss → is_bound_in told i ss ≡ true → FineStmts t g [] ss → Heads ss
+      head told src.Nil are all h f = absurd (cc)
+      head told (src.Then (src.Evaluate line e) rest) are all h f =
+          by (is_bound_by told i e) refl h (λ k. head (told_behind told e rest) rest (now_told told line e rest are all) (now_heads told line e rest are all) k f.1)
+        where
+          here : BindsField t g.params c (λ m. StaysBy heads c i m (is_settled m rest ≡ true)) i e ⊎ IsUnbound t (t.fields c i) → Heads (src.Then (src.Evaluate line e) rest)
+          here (inl y) = inl (inl y)
+          here (inr y) = inr y
+
+          by : (b : Bool) → is_bound_by told i e ≡ b → (b || is_bound_in (told_behind told e rest) i rest) ≡ true → (is_bound_in (told_behind told e rest) i rest ≡ true → Heads rest) → Heads (src.Then (src.Evaluate line e) rest)
+          by true q k more = here (bound_by told (λ m. StaysBy heads c i m (is_settled m rest ≡ true)) (stays told line e rest are all i q) i e q f.0)
+          by false q k more = later (src.Evaluate line e) rest (λ y. inr y) (more k)
+      head told (src.Then (src.Fill line n b d) rest) are all h f = later (src.Fill line n b d) rest (λ y. inr y) (head told rest are all h f.1)
+      head told (src.Then (src.OfTasks (src.SetUp r)) rest) are all h f = later (src.OfTasks (src.SetUp r)) rest (λ y. inr y) (head told rest are all h f.1)
+      head told (src.Then a rest) are all h f = absurd (cc)
+      head told (src.Scoped x rest) are all h f = absurd (cc)
+      head told (src.Built x rest) are all h f = head told rest are all h f.0
 
 -- all types of a table are whole
 
@@ -218,25 +281,65 @@ field_whole true l n s = found_whole s
 field_whole false None n s = place_whole s
 field_whole false (Some e) n s = place_whole s
 
-known_whole : (p : Program) (c : Class) (f : ClassField) (o : Option Sort) → IsWhole (known_field p c f o)
-known_whole p c f None = tt
-known_whole p c f (Some s) = field_whole f.declarator.by_ref f.declarator.len _ s
+-- and each cell is one of a number or of a binding
+found_kept : (s : Sort) → IsKept (Cell (found_ty s))
+found_kept sort.Void = inl refl
+found_kept sort.Int = inr tt
+found_kept sort.Char = inr tt
+found_kept sort.Bool = inr tt
+found_kept sort.Condition = inl refl
+found_kept sort.Cluster = inr tt
+found_kept sort.Processor = inr tt
+found_kept (sort.Object c k) = inr tt
+
+place_kept : (s : Sort) → IsKept (place_ty s)
+place_kept s = by (is_numbered s)
+  where
+    bare : (s : Sort) → IsKept (found_ty s)
+    bare sort.Void = tt
+    bare sort.Int = inl refl
+    bare sort.Char = inl refl
+    bare sort.Bool = inl refl
+    bare sort.Condition = tt
+    bare sort.Cluster = tt
+    bare sort.Processor = tt
+    bare (sort.Object c k) = tt
+
+    by : (b : Bool) → IsKept (place_by b (found_ty s))
+    by true = found_kept s
+    by false = bare s
+
+field_kept : (b : Bool) (l : Option expr.Expr) (n : ℕ) (s : Sort) → IsKept (field_ty b l n s)
+field_kept true l n s = found_kept s
+field_kept false None n s = place_kept s
+field_kept false (Some e) n s = tt
 
 module _ (p : Program) where
-  listed_whole : (c : Class) (o : Option ClassField) → IsWhole (listed_field p c o)
-  listed_whole c None = tt
-  listed_whole c (Some f) = known_whole p c f (sort_of p f.base)
+  module _ (P : Ty → Type 0) (num : P Num) (of_field : (b : Bool) (l : Option expr.Expr) (n : ℕ) (s : Sort) → P (field_ty b l n s)) where
+    known_are : (c : Class) (f : ClassField) (o : Option Sort) → P (known_field p c f o)
+    known_are c f None = num
+    known_are c f (Some s) = of_field f.declarator.by_ref f.declarator.len _ s
 
-  class_whole : (o : Option Class) (n : ℕ) → IsWhole (class_field p o n)
-  class_whole None n = tt
-  class_whole (Some c) n = by (nat_lt n (leading_cells c.kind))
-    where
-      by : (b : Bool) → IsWhole (if b then Num else listed_field p c (slice_get (fields_of c.members) (n - leading_cells c.kind)))
-      by true = tt
-      by false = listed_whole c (slice_get (fields_of c.members) (n - leading_cells c.kind))
+    listed_are : (c : Class) (o : Option ClassField) → P (listed_field p c o)
+    listed_are c None = num
+    listed_are c (Some f) = known_are c f (sort_of p f.base)
+
+    class_are : (o : Option Class) (n : ℕ) → P (class_field p o n)
+    class_are None n = num
+    class_are (Some c) n = by (nat_lt n (leading_cells c.kind))
+      where
+        by : (b : Bool) → P (if b then Num else listed_field p c (slice_get (fields_of c.members) (n - leading_cells c.kind)))
+        by true = num
+        by false = listed_are c (slice_get (fields_of c.members) (n - leading_cells c.kind))
+
+    fields_are : (c n : ℕ) → P ((table_of p).fields c n)
+    fields_are c n = class_are (class_at p c) n
 
   pub fields_are_whole : (c n : ℕ) → IsWhole ((table_of p).fields c n)
-  fields_are_whole c n = class_whole (class_at p c) n
+  fields_are_whole c n = fields_are IsWhole tt field_whole c n
+
+  pub fields_are_kept : (c n : ℕ) (a : Ty) → Cell a ≡ (table_of p).fields c n → (a ≡ Num) ⊎ IsBinding a
+  fields_are_kept c n a e = subst IsKept (sym e) (fields_are IsKept tt field_kept c n)
 
   -- parameters hold numbers, or what expressions of their sorts find
   module _ (P : Ty → Type 0) (num : P Num) (found : (s : Sort) → P (found_ty s)) where
@@ -280,8 +383,8 @@ module _ (p : Program) where
     pub of_routine : (n k : ℕ) (a : Ty) → IsParam ((table_of p).routine n).params k a → P a
     of_routine n = both (written_sigs p (routines_of p) 0 0 0) (unwritten_sigs p (unwritten_of p)) (of_written (routines_of p) 0 0 0) (of_unwritten (unwritten_of p)) n
 
--- what a routine of a class binds in its first statements
-pub heads : (p : Program) → IsFormed p → breaks_of p ≡ [] → (r c : ℕ) → ((table_of p).routine r).this ≡ Some c → (q : Routine) → slice_get (source_of p).routines r ≡ Some q → (i : ℕ) → is_bound_in i q.body ≡ true → InHead (table_of p) ((table_of p).routine r).params c i q.body ⊎ IsUnbound (table_of p) ((table_of p).fields c i)
-heads p formed accepted r c this q e i h =
+-- what a routine of a class binds in its first statements, of which it is told
+pub heads : (p : Program) → IsFormed p → breaks_of p ≡ [] → (told : ℕ → ℕ → Bool) (r c : ℕ) → ((table_of p).routine r).this ≡ Some c → (q : Routine) → slice_get (source_of p).routines r ≡ Some q → ((m : ℕ) → is_bound_in none_told m q.body ≡ true → told c m ≡ true) → (i : ℕ) → is_bound_in none_told i q.body ≡ true → InHead (table_of p) told ((table_of p).routine r).params c i q.body ⊎ IsUnbound (table_of p) ((table_of p).fields c i)
+heads p formed accepted told r c this q e all i h =
     let sound : Sound (table_of p) (source_of p) = law_sound p formed accepted in
-    head (table_of p) ((table_of p).routine r) c this sound.leads (fields_are_whole p) (of_routine p IsWhole tt found_whole r) i q.body h (sound.routines r q e).body
+    head (table_of p) ((table_of p).routine r) c this sound.leads (fields_are_whole p) (fields_are p IsKept tt field_kept) (of_routine p IsWhole tt found_whole r) told i none_told q.body (λ m l. absurd (cc)) all h (sound.routines r q e).body

@@ -88,14 +88,14 @@ module _ (t : Table) (heads : ℕ → ℕ → Bool) (few : Few) where
   S given s = BuiltState t heads few given s
 
   -- an activation that runs may come to less
-  run_left : (given : List Ty) (a : Active) (ps : List Ty) (c i : ℕ) (w : Value) (K : Ty → Value → Type 0) → of_wait t a ps c i w K → Left t given a ps c i w K
-  run_left [] a ps c i w K h = (building.now t ps c i w K a.control a.operands h.0, h.1)
+  run_left : (given : List Ty) (a : Active) (ps : List Ty) (c i : ℕ) (w : Value) (K : Ty → Value → Type 0) → of_wait t heads a ps c i w K → Left t heads given a ps c i w K
+  run_left [] a ps c i w K h = (building.now t heads ps c i w K a.control a.operands h.0, h.1)
   run_left (b ∷ given) a ps c i w K h = h
 
-  pub rest_left : (kinds : List Sig) (given : List Ty) (u : State) → BuildsBy t heads few kinds (of_wait t u.run) u → BuildsBy t heads few kinds (Left t given u.run) u
+  pub rest_left : (kinds : List Sig) (given : List Ty) (u : State) → BuildsBy t heads few kinds (of_wait t heads u.run) u → BuildsBy t heads few kinds (Left t heads given u.run) u
   rest_left kinds given u h = record {
     apart = h.apart;
-    run = builds_more t heads few kinds u.env.exec (of_wait t u.run) (Left t given u.run) (λ ps c i w K x. run_left given u.run ps c i w K x) u.env.frames u.run.frame u.run.this u.callers h.run;
+    run = builds_more t heads few kinds u.env.exec (of_wait t heads u.run) (Left t heads given u.run) (λ ps c i w K x. run_left given u.run ps c i w K x) u.env.frames u.run.frame u.run.this u.callers h.run;
     callers = h.callers;
   }
 
@@ -104,14 +104,14 @@ module _ (t : Table) (heads : ℕ → ℕ → Bool) (few : Few) where
   ex_kept : (n : Exec) (kinds : List Sig) (x : Ex) (fs : List (List Value)) → ((d : ℕ) → FrameKeeps x.frames fs d) → BuildsEx t heads few n kinds x → BuildsEx t heads few n kinds (record x { frames = fs })
   ex_kept n kinds x fs k r = record {
     apart = r.apart;
-    run = builds_kept t heads few kinds n (of_run t x.run) x.frames fs x.run.frame x.run.this x.callers (k x.run.frame) (all_keep t heads few kinds n x.frames fs k x.callers) r.run;
+    run = builds_kept t heads few kinds n (of_run t heads x.run) x.frames fs x.run.frame x.run.this x.callers (k x.run.frame) (all_keep t heads few kinds n x.frames fs k x.callers) r.run;
     callers = all_kept t heads few kinds n x.frames fs x.callers (all_keep t heads few kinds n x.frames fs k x.callers) r.callers;
   }
 
   ex_unwound : (n : Exec) (kinds : List Sig) (x : Ex) (why : UnwindReason) → ((home : ℕ) → why ≡ reason.ReturnTo home → ⊥) → BuildsEx t heads few n kinds x → BuildsEx t heads few n kinds (unwound_there why x)
   ex_unwound n kinds x why none r = record {
     apart = ((r.apart.0.0, r.apart.0.1, λ home e. absurd (none home (some_is e))), r.apart.1);
-    run = builds_more t heads few kinds n (of_run t x.run) (of_run t (record x.run { raised = Some why })) (λ ps c i w K y. (y.0, λ e. none x.run.frame (some_is e))) x.frames x.run.frame x.run.this x.callers r.run;
+    run = builds_more t heads few kinds n (of_run t heads x.run) (of_run t heads (record x.run { raised = Some why })) (λ ps c i w K y. (y.0, λ e. none x.run.frame (some_is e))) x.frames x.run.frame x.run.this x.callers r.run;
     callers = r.callers;
   }
 
@@ -136,22 +136,22 @@ module _ (t : Table) (heads : ℕ → ℕ → Bool) (few : Few) where
     same = frames_length t few s.env.exec gs s.env.frames (s.run ∷ s.callers) x.0.frames
 
     -- with something else to do, as it stops
-    left_to : (todo : List Todo) (vs : List Value) → ((ps : List Ty) (c i : ℕ) (w : Value) (K : Ty → Value → Type 0) → of_run t s.run ps c i w K → of_run t (at todo vs s).run ps c i w K) → BuildsEx t heads few s.env.exec gs (stopped (at todo vs s))
+    left_to : (todo : List Todo) (vs : List Value) → ((ps : List Ty) (c i : ℕ) (w : Value) (K : Ty → Value → Type 0) → of_run t heads s.run ps c i w K → of_run t heads (at todo vs s).run ps c i w K) → BuildsEx t heads few s.env.exec gs (stopped (at todo vs s))
     left_to todo vs more = record {
       apart = x.1.1.apart;
-      run = builds_more t heads few gs s.env.exec (of_run t s.run) (of_run t (at todo vs s).run) more s.env.frames s.run.frame s.run.this s.callers x.1.1.run;
+      run = builds_more t heads few gs s.env.exec (of_run t heads s.run) (of_run t heads (at todo vs s).run) more s.env.frames s.run.frame s.run.this s.callers x.1.1.run;
       callers = x.1.1.callers;
     }
 
     parks : (l : List Todo) → s.run.control ≡ l → Parks J t source gs s l
     parks l e = by l e (lives_parks t few s gs same claim source l e)
       where
-        behind : (p : Todo) (todo next : List Todo) → s.run.control ≡ p ∷ todo → ((ps : List Ty) (c i : ℕ) (w : Value) (K : Ty → Value → Type 0) → of_run t (at (p ∷ todo) s.run.operands s).run ps c i w K → of_run t (at next s.run.operands s).run ps c i w K) → BuildsEx t heads few s.env.exec gs (stopped (at next s.run.operands s))
-        behind p todo next e more = left_to next s.run.operands (λ ps c i w K h. more ps c i w K (subst (λ l. of_run t (at l s.run.operands s).run ps c i w K) e h))
+        behind : (p : Todo) (todo next : List Todo) → s.run.control ≡ p ∷ todo → ((ps : List Ty) (c i : ℕ) (w : Value) (K : Ty → Value → Type 0) → of_run t heads (at (p ∷ todo) s.run.operands s).run ps c i w K → of_run t heads (at next s.run.operands s).run ps c i w K) → BuildsEx t heads few s.env.exec gs (stopped (at next s.run.operands s))
+        behind p todo next e more = left_to next s.run.operands (λ ps c i w K h. more ps c i w K (subst (λ l. of_run t heads (at l s.run.operands s).run ps c i w K) e h))
 
         by : (l : List Todo) → s.run.control ≡ l → Parks (Lives t few) t source gs s l → Parks J t source gs s l
         by [] e h = tt
-        by (piece.TakeDownNow ∷ todo) e h = (h, behind piece.TakeDownNow todo todo e (λ ps c i w K y. (building.now t ps c i w K todo s.run.operands y.0, y.1)))
+        by (piece.TakeDownNow ∷ todo) e h = (h, behind piece.TakeDownNow todo todo e (λ ps c i w K y. (building.now t heads ps c i w K todo s.run.operands y.0, y.1)))
         by (piece.ResumeNow ∷ todo) e h = (h, behind piece.ResumeNow todo (piece.Land ∷ todo) e (λ ps c i w K y. y))
         by (piece.SuspendNow ∷ todo) e h = (h, behind piece.SuspendNow todo (piece.Land ∷ todo) e (λ ps c i w K y. y))
         by (piece.SetUpNow r ∷ todo) e h = λ q is. (h q is, fresh_built _ (t.routine r ∷ []) q s.run.this)
@@ -180,12 +180,12 @@ module _ (t : Table) (heads : ℕ → ℕ → Bool) (few : Few) where
       more : AllMade gs y.0.sigs (u.run ∷ u.callers)
       more = turned u y.0.sigs lives y.1
 
-      left_more : (given : List Ty) (K L : Value → Ty → Type 0) → ((w : Value) (a : Ty) → K w a → L w a) → (ps : List Ty) (c i : ℕ) (w : Value) → Left t given u.run ps c i w (Known t few u.env.exec K) → Left t given u.run ps c i w (Known t few u.env.exec L)
-      left_more [] K L m ps c i w z = (now_more t ps c i w (Known t few u.env.exec K) (Known t few u.env.exec L) (λ a v. known_more t few u.env.exec K L m a v) u.run.control u.run.operands z.0, z.1)
+      left_more : (given : List Ty) (K L : Value → Ty → Type 0) → ((w : Value) (a : Ty) → K w a → L w a) → (ps : List Ty) (c i : ℕ) (w : Value) → Left t heads given u.run ps c i w (Known t few u.env.exec K) → Left t heads given u.run ps c i w (Known t few u.env.exec L)
+      left_more [] K L m ps c i w z = (now_more t heads ps c i w (Known t few u.env.exec K) (Known t few u.env.exec L) (λ a v. known_more t few u.env.exec K L m a v) u.run.control u.run.operands z.0, z.1)
       left_more (b ∷ given) K L m ps c i w z = z
 
-      joined : BuildsBy t heads few gs (Left t given u.run) u → Stands t heads few gs u → S given u
-      joined b st = (y.0, (lives, by_kinds t heads few gs y.0.sigs (Left t given u.run) (Left t given u.run) u (left_more given) more b, stands_by t heads few gs y.0.sigs u more st))
+      joined : BuildsBy t heads few gs (Left t heads given u.run) u → Stands t heads few gs u → S given u
+      joined b st = (y.0, (lives, by_kinds t heads few gs y.0.sigs (Left t heads given u.run) (Left t heads given u.run) u (left_more given) more b, stands_by t heads few gs y.0.sigs u more st))
 
     asks : (r : Request) (u : State) → Walked u → BuildsAsk t heads few gs r u → AskedBy t few (FollowsOn J t few source s gs) (ClaimsEnv t few J) source r u → AskedBy t few S (ClaimsEnv t few J) source r u
     asks ask.End u h b y = y

@@ -2,6 +2,7 @@ pub mod Memory
 pub mod Building
 pub mod Keeping
 pub mod Searching
+pub mod Settled
 pub mod Steps
 pub mod Making
 pub mod Clears
@@ -19,3 +20,4 @@ pub mod BuiltRuns
 pub mod BuiltEndings
 pub mod Fewer
 pub mod BuiltLasting
+pub mod BuiltReads

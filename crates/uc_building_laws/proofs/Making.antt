@@ -20,15 +20,16 @@ use Rattle.uc_state_laws.specs.RoomStacks.{StackState}
 use Rattle.uc_life_laws.proofs.Cells.{either}
 use Rattle.uc_life_laws.proofs.LifeSteps.{exec_same}
 use Rattle.uc_life_laws.proofs.Knowns as known
-use Rattle.uc_building_laws.specs.Building.{InHead, AllLeft, Starts, Onwards, Now}
+use Rattle.uc_building_laws.specs.Building.{IsGivenBy, InHead, AllLeft, Stays, Starts, Onwards, Now}
 use Rattle.uc_building_laws.specs.BuildingStates.{IsFree, variable, AtScope, Awaits, NotBack, IsBuilt, IsMaking, Builds, of_wait, AllBuild, IsApart, AllApart}
 use Rattle.uc_building_laws.specs.BuildingLaws.{IsPlain, IsConstructed, Constructs}
 use Rattle.uc_building_laws.proofs.Memory.{frame_newer, same_frame, stored_there}
 use Rattle.uc_building_laws.proofs.Building as building
-use Rattle.uc_building_laws.proofs.Building.{awaits_more, none_bound, Lying, all_keep, builds_in, builds_to, builds_kept, builds_more, all_kept}
+use Rattle.uc_building_laws.proofs.Building.{awaits_more, none_bound, Lying, all_lying, all_keep, builds_in, builds_to, builds_kept, builds_more, all_kept}
 use Rattle.uc_building_laws.proofs.Keeping as kept
 use Rattle.uc_building_laws.proofs.Keeping.{Keeps}
 use Rattle.uc_building_laws.proofs.Searching.{Frames, FoundApart, frames_of_stack, seek_apart}
+use Rattle.uc_building_laws.proofs.Settled.{settled_none, one_place}
 use Rattle.uc_building_laws.proofs.Steps as steps
 use Rattle.uc_building_laws.proofs.Steps.{StepBuilds, newer_all}
 
@@ -38,49 +39,56 @@ within_cell t w b v d itself = (refl, refl)
 within_cell t w b v d (field {v = u} {c} h i f) = let e = within_cell t w b u (Obj c) h in absurd (cc)
 within_cell t w b v d (element {v = u} {m} {b = x} h j l) = let e = within_cell t w b u (Row m x) h in absurd (cc)
 
-module _ (t : Table) (ps : List Ty) (c i : ℕ) (w : Value) (K : Ty → Value → Type 0) where
+module _ (t : Table) (heads : ℕ → ℕ → Bool) (ps : List Ty) (c i : ℕ) (w : Value) (K : Ty → Value → Type 0) where
   -- what is found is what the field is to be bound to, or leads on to that
-  onwards : (a : Ty) (v : Value) (todo : List Todo) (vs : List Value) → Onwards t ps c i w K a todo vs → K a v → Now t ps c i w K todo (v ∷ vs)
+  onwards : (a : Ty) (v : Value) (todo : List Todo) (vs : List Value) → Onwards t heads ps c i w K a todo vs → K a v → Now t heads ps c i w K todo (v ∷ vs)
   onwards a v (piece.FieldNow k j ∷ todo) vs o h = inl (a, o, h)
   onwards a v (piece.BindNow ∷ todo) vs o h = inl (a, o, h)
   onwards a v todo vs o h = absurd o
 
   -- the place of the field is found
-  starts : (k : Shape) (j : ℕ) (this : Value) → this ≡ w → (todo : List Todo) (vs : List Value) → Starts t ps c i w K (src.OfObject (src.OwnField k j)) todo → Now t ps c i w K todo (further (FieldAt k j) this ∷ vs)
+  starts : (k : Shape) (j : ℕ) (this : Value) → this ≡ w → (todo : List Todo) (vs : List Value) → Starts t heads ps c i w K (src.OfObject (src.OwnField k j)) todo → Now t heads ps c i w K todo (further (FieldAt k j) this ∷ vs)
   starts k j this e (piece.Eval x ∷ (piece.BindNow ∷ todo)) vs f =
       inl (inr (inr (f.2.0, f.2.2, (f.2.1, ap (λ k. further (FieldAt k j) this) f.1 ∙ (ap (λ j. further (FieldAt (t.shape c) j) this) f.0 ∙ ap (further (FieldAt (t.shape c) i)) e), f.3))))
   starts k j this e todo vs f = absurd f
 
   -- so is a field that it is bound to, or in which that lies
-  owns : (k : Shape) (j : ℕ) (this : Value) → this ≡ w → ((m : ℕ) → IsField t c m → IsPlaced t (t.fields c m) → K (t.fields c m) (further (FieldAt (t.shape c) m) w)) → (todo : List Todo) (vs : List Value) → Now t ps c i w K (piece.Eval (src.OfObject (src.OwnField k j)) ∷ todo) vs → Now t ps c i w K todo (further (FieldAt k j) this ∷ vs)
+  owns : (k : Shape) (j : ℕ) (this : Value) → this ≡ w → ((m : ℕ) → IsField t c m → IsPlaced t (t.fields c m) → K (t.fields c m) (further (FieldAt (t.shape c) m) w)) → (todo : List Todo) (vs : List Value) → Now t heads ps c i w K (piece.Eval (src.OfObject (src.OwnField k j)) ∷ todo) vs → Now t heads ps c i w K todo (further (FieldAt k j) this ∷ vs)
   owns k j this e h todo vs (inl (inl x)) = absurd x.0
   owns k j this e h todo vs (inl (inr (inl x))) = starts k j this e todo vs x
   owns k j this e h todo vs (inl (inr (inr x))) =
       let g = x.1 in
       onwards x.0 (further (FieldAt k j) this) todo vs x.2 (subst (λ a. K a (further (FieldAt k j) this)) (sym g.0) (subst (K (t.fields c j)) (sym (ap (λ k. further (FieldAt k j) this) g.1 ∙ ap (further (FieldAt (t.shape c) j)) e)) (h j g.2 g.3)))
-  owns k j this e h todo vs (inr x) = building.now t ps c i w K todo _ x
+  owns k j this e h todo vs (inr x) = building.now t heads ps c i w K todo _ x
 
-  gets : (m : ℕ) (v : Value) → ((b : Ty) → IsParam ps m b → m ≤ LAST_ADDRESS → K b v) → (todo : List Todo) (vs : List Value) → Now t ps c i w K (piece.Eval (src.Get m) ∷ todo) vs → Now t ps c i w K todo (v ∷ vs)
+  gets : (m : ℕ) (v : Value) → ((b : Ty) → IsParam ps m b → m ≤ LAST_ADDRESS → K b v) → (todo : List Todo) (vs : List Value) → Now t heads ps c i w K (piece.Eval (src.Get m) ∷ todo) vs → Now t heads ps c i w K todo (v ∷ vs)
   gets m v h todo vs (inl (inl x)) = absurd x.0
   gets m v h todo vs (inl (inr (inl x))) = absurd x
   gets m v h todo vs (inl (inr (inr x))) = onwards x.0 v todo vs x.2 (h x.0 x.1.0 x.1.1)
-  gets m v h todo vs (inr x) = building.now t ps c i w K todo _ x
+  gets m v h todo vs (inr x) = building.now t heads ps c i w K todo _ x
+
+  -- what such a field has been bound to
+  bound_to : (k : Shape) (j : ℕ) (v : Value) (todo : List Todo) (vs : List Value) → ((b : Ty) → Onwards t heads ps c i w K b todo vs → IsGivenBy t ps c (λ m. Stays t heads ps c i todo m) (src.GetOwn k j) b → K b v) → Now t heads ps c i w K (piece.Eval (src.OfObject (src.GetOwn k j)) ∷ todo) vs → Now t heads ps c i w K todo (v ∷ vs)
+  bound_to k j v todo vs h (inl (inl x)) = absurd x.0
+  bound_to k j v todo vs h (inl (inr (inl x))) = absurd x
+  bound_to k j v todo vs h (inl (inr (inr x))) = onwards x.0 v todo vs x.2 (h x.0 x.2 x.1)
+  bound_to k j v todo vs h (inr x) = building.now t heads ps c i w K todo _ x
 
   -- first the object, then the field in it
-  parts : (k : Shape) (j : ℕ) (a : Expr) (todo : List Todo) (vs : List Value) → Now t ps c i w K (piece.Eval (src.OfObject (src.FieldOf k j a)) ∷ todo) vs → Now t ps c i w K (piece.Eval a ∷ (piece.FieldNow k j ∷ todo)) vs
+  parts : (k : Shape) (j : ℕ) (a : Expr) (todo : List Todo) (vs : List Value) → Now t heads ps c i w K (piece.Eval (src.OfObject (src.FieldOf k j a)) ∷ todo) vs → Now t heads ps c i w K (piece.Eval a ∷ (piece.FieldNow k j ∷ todo)) vs
   parts k j a todo vs (inl (inl x)) = absurd x.0
   parts k j a todo vs (inl (inr (inl x))) = absurd x
   parts k j a todo vs (inl (inr (inr x))) =
       let g = x.1 in
-      inl (inr (inr (Obj g.0, g.1, (g.0, refl, g.3, g.4, g.5, subst (λ b. Onwards t ps c i w K b todo vs) g.2 x.2))))
+      inl (inr (inr (Obj g.0, g.1, (g.0, refl, g.3, g.4, g.5, subst (λ b. Onwards t heads ps c i w K b todo vs) g.2 x.2))))
   parts k j a todo vs (inr x) = inr x
 
-  fields : (k : Shape) (j : ℕ) → ((d : ℕ) (v : Value) → IsField t d j → IsPlaced t (t.fields d j) → K (Obj d) v → K (t.fields d j) (further (FieldAt (t.shape d) j) v)) → (todo : List Todo) (vs : List Value) → Now t ps c i w K (piece.FieldNow k j ∷ todo) vs → Now t ps c i w K todo (further (FieldAt k j) (top vs) ∷ below vs)
+  fields : (k : Shape) (j : ℕ) → ((d : ℕ) (v : Value) → IsField t d j → IsPlaced t (t.fields d j) → K (Obj d) v → K (t.fields d j) (further (FieldAt (t.shape d) j) v)) → (todo : List Todo) (vs : List Value) → Now t heads ps c i w K (piece.FieldNow k j ∷ todo) vs → Now t heads ps c i w K todo (further (FieldAt k j) (top vs) ∷ below vs)
   fields k j h todo vs (inl x) =
       let o = x.1 in
       let d = o.0 in
       onwards (t.fields d j) (further (FieldAt k j) (top vs)) todo (below vs) o.5 (subst (λ k. K (t.fields d j) (further (FieldAt k j) (top vs))) (sym o.2) (h d (top vs) o.3 o.4 (subst (λ a. K a (top vs)) o.1 x.2)))
-  fields k j h todo vs (inr x) = building.now t ps c i w K todo _ x
+  fields k j h todo vs (inr x) = building.now t heads ps c i w K todo _ x
 
 slot_address : (k : ℕ) → k ≤ LAST_ADDRESS → address (Slot k ∷ []) ≡ k
 slot_address k l = omega (arith, l)
@@ -109,33 +117,67 @@ module _ (t : Table) (heads : ℕ → ℕ → Bool) (few : Few) (kinds : List Si
       ap (λ fs. slice_index_or (list_in (at_depth fs s.run.frame)) (address (Slot m ∷ [])) nought) frames_here ∙ ap (λ k. slice_index_or (frame_at s.run.frame s.env.frames) k nought) (slot_address m l)
 
   -- the place of a field of the object at hand is found
-  pub own : (k : Shape) (j : ℕ) (todo : List Todo) → With (λ ps c i w K. Now t ps c i w K (piece.Eval (src.OfObject (src.OwnField k j)) ∷ todo) s.run.operands) → StepBuilds t heads few kinds (quiet.eval_step (src.OfObject (src.OwnField k j)) todo s)
+  pub own : (k : Shape) (j : ℕ) (todo : List Todo) → With (λ ps c i w K. Now t heads ps c i w K (piece.Eval (src.OfObject (src.OwnField k j)) ∷ todo) s.run.operands) → StepBuilds t heads few kinds (quiet.eval_step (src.OfObject (src.OwnField k j)) todo s)
   own k j todo h = record {
     apart = apart;
-    run = builds_to t heads few kinds s.env.exec (λ ps c i w K. Now t ps c i w K (piece.Eval (src.OfObject (src.OwnField k j)) ∷ todo) s.run.operands × NotBack s.run) (λ ps c i w K. Now t ps c i w K todo (further (FieldAt k j) s.run.this ∷ s.run.operands) × NotBack s.run) s.env.frames s.env.frames s.run.frame s.run.this s.callers (same_frame s.env.frames s.run.frame) (all_keep t heads few kinds s.env.exec s.env.frames s.env.frames (same_frame s.env.frames) s.callers) (λ g m ps c i K e p o x. inr (owns t ps c i (variable s.env.exec g m) (Known t few s.env.exec K) k j s.run.this e (λ n f l. known.further_field t few s.env.exec K c n (t.shape c) (variable s.env.exec g m) refl l (λ r. f) o) todo s.run.operands x.0, x.1)) h;
+    run = builds_to t heads few kinds s.env.exec (λ ps c i w K. Now t heads ps c i w K (piece.Eval (src.OfObject (src.OwnField k j)) ∷ todo) s.run.operands × NotBack s.run) (λ ps c i w K. Now t heads ps c i w K todo (further (FieldAt k j) s.run.this ∷ s.run.operands) × NotBack s.run) s.env.frames s.env.frames s.run.frame s.run.this s.callers (same_frame s.env.frames s.run.frame) (all_keep t heads few kinds s.env.exec s.env.frames s.env.frames (same_frame s.env.frames) s.callers) (λ g m ps c i K e p o x. inr (owns t heads ps c i (variable s.env.exec g m) (Known t few s.env.exec K) k j s.run.this e (λ n f l. known.further_field t few s.env.exec K c n (t.shape c) (variable s.env.exec g m) refl l (λ r. f) o) todo s.run.operands x.0, x.1)) h;
     callers = callers;
   }
 
   -- so is what a parameter is bound to
-  pub get : (m : ℕ) (todo : List Todo) → With (λ ps c i w K. Now t ps c i w K (piece.Eval (src.Get m) ∷ todo) s.run.operands) → StepBuilds t heads few kinds (quiet.eval_step (src.Get m) todo s)
+  pub get : (m : ℕ) (todo : List Todo) → With (λ ps c i w K. Now t heads ps c i w K (piece.Eval (src.Get m) ∷ todo) s.run.operands) → StepBuilds t heads few kinds (quiet.eval_step (src.Get m) todo s)
   get m todo h = record {
     apart = apart;
-    run = builds_to t heads few kinds s.env.exec (λ ps c i w K. Now t ps c i w K (piece.Eval (src.Get m) ∷ todo) s.run.operands × NotBack s.run) (λ ps c i w K. Now t ps c i w K todo (loaded (variable_at m s) s.env ∷ s.run.operands) × NotBack s.run) s.env.frames s.env.frames s.run.frame s.run.this s.callers (same_frame s.env.frames s.run.frame) (all_keep t heads few kinds s.env.exec s.env.frames s.env.frames (same_frame s.env.frames) s.callers) (λ g j ps c i K e k o x. inr (gets t ps c i (variable s.env.exec g j) (Known t few s.env.exec K) m (loaded (variable_at m s) s.env) (λ b p l. subst (Known t few s.env.exec K b) (sym (loaded_here m l)) (k m b p)) todo s.run.operands x.0, x.1)) h;
+    run = builds_to t heads few kinds s.env.exec (λ ps c i w K. Now t heads ps c i w K (piece.Eval (src.Get m) ∷ todo) s.run.operands × NotBack s.run) (λ ps c i w K. Now t heads ps c i w K todo (loaded (variable_at m s) s.env ∷ s.run.operands) × NotBack s.run) s.env.frames s.env.frames s.run.frame s.run.this s.callers (same_frame s.env.frames s.run.frame) (all_keep t heads few kinds s.env.exec s.env.frames s.env.frames (same_frame s.env.frames) s.callers) (λ g j ps c i K e k o x. inr (gets t heads ps c i (variable s.env.exec g j) (Known t few s.env.exec K) m (loaded (variable_at m s) s.env) (λ b p l. subst (Known t few s.env.exec K b) (sym (loaded_here m l)) (k m b p)) todo s.run.operands x.0, x.1)) h;
     callers = callers;
   }
+
+  -- so is what a field has been bound to, which stays so
+  module _ (k : Shape) (j : ℕ) (todo : List Todo) where
+    abbrev read : Value
+    read = loaded (further (FieldAt k j) s.run.this) s.env
+
+    abbrev Reads : List Ty → ℕ → ℕ → Value → (Ty → Value → Type 0) → Type 0
+    Reads ps c i w K = Now t heads ps c i w K (piece.Eval (src.OfObject (src.GetOwn k j)) ∷ todo) s.run.operands
+
+    read_there : (g m : ℕ) → s.run.this ≡ variable s.env.exec g m → read ≡ slice_index_or (frame_at g s.env.frames) (address (FieldAt k j ∷ (Slot m ∷ []))) nought
+    read_there g m e =
+        ap (λ v. loaded (further (FieldAt k j) v) s.env) e ∙ ap (λ fs. slice_index_or (list_in (at_depth fs g)) (address (FieldAt k j ∷ (Slot m ∷ []))) nought) frames_here
+
+    module _ (g m : ℕ) (ps : List Ty) (c i : ℕ) (K : Value → Ty → Type 0) (b : Ty) (on : Onwards t heads ps c i (variable s.env.exec g m) (Known t few s.env.exec K) b todo s.run.operands) (given : IsGivenBy t ps c (λ m. Stays t heads ps c i todo m) (src.GetOwn k j) b) where
+      not_left : Reads ps c j (variable s.env.exec g m) (Known t few s.env.exec K) → ⊥
+      not_left (inl (inl x)) = x.0
+      not_left (inl (inr (inl x))) = x
+      not_left (inl (inr (inr x))) = given.4.1 (one_place t heads ps c s.env.exec g m i j (Known t few s.env.exec K) b x.0 todo s.run.operands on x.2)
+      not_left (inr x) = settled_none t heads ps c j todo given.4.2 x
+
+      read_known : s.run.this ≡ variable s.env.exec g m → Holds t few s.env.exec K (Frame s.env.exec g) (frame_at g s.env.frames) (further (FieldAt (t.shape c) j) (variable s.env.exec g m)) (t.fields c j) ⊎ (Reads ps c j (variable s.env.exec g m) (Known t few s.env.exec K) × NotBack s.run) → Known t few s.env.exec K b read
+      read_known e (inl h) =
+          let p = FieldAt (t.shape c) j ∷ (Slot m ∷ []) in
+          let w = further (FieldAt (t.shape c) j) (variable s.env.exec g m) in
+          let held : Known t few s.env.exec K b (slice_index_or (frame_at g s.env.frames) (address (FieldAt (t.shape c) j ∷ (Slot m ∷ []))) nought) = h p b (subst (λ a. Within t w a w (Cell b)) (sym given.0) itself) given.3 in
+          subst (Known t few s.env.exec K b) (sym (read_there g m e)) (subst (λ k. Known t few s.env.exec K b (slice_index_or (frame_at g s.env.frames) (address (FieldAt k j ∷ (Slot m ∷ []))) nought)) (sym given.1) held)
+      read_known e (inr h) = absurd (not_left h.0)
+
+    pub value : With Reads → StepBuilds t heads few kinds (quiet.eval_step (src.OfObject (src.GetOwn k j)) todo s)
+    value h = record {
+      apart = apart;
+      run = builds_in t heads few kinds s.env.exec (λ g m c. Unit {0}) (λ ps c i w K. Reads ps c i w K × NotBack s.run) (λ ps c i w K. Now t heads ps c i w K todo (read ∷ s.run.operands) × NotBack s.run) s.env.frames s.env.frames s.run.frame s.run.this s.callers (same_frame s.env.frames s.run.frame) (all_keep t heads few kinds s.env.exec s.env.frames s.env.frames (same_frame s.env.frames) s.callers) (all_lying t heads few kinds s.env.exec s.callers) (λ g m ps c i K e f told o p q all x. inr (bound_to t heads ps c i (variable s.env.exec g m) (Known t few s.env.exec K) k j read todo s.run.operands (λ b on given. read_known g m ps c i K b on given o (all j given.2 given.4.0)) x.0, x.1)) h;
+      callers = callers;
+    }
 
   -- a field of an object is found behind that
-  pub field_of : (k : Shape) (j : ℕ) (a : Expr) (todo : List Todo) → With (λ ps c i w K. Now t ps c i w K (piece.Eval (src.OfObject (src.FieldOf k j a)) ∷ todo) s.run.operands) → StepBuilds t heads few kinds (quiet.eval_step (src.OfObject (src.FieldOf k j a)) todo s)
+  pub field_of : (k : Shape) (j : ℕ) (a : Expr) (todo : List Todo) → With (λ ps c i w K. Now t heads ps c i w K (piece.Eval (src.OfObject (src.FieldOf k j a)) ∷ todo) s.run.operands) → StepBuilds t heads few kinds (quiet.eval_step (src.OfObject (src.FieldOf k j a)) todo s)
   field_of k j a todo h = record {
     apart = apart;
-    run = builds_more t heads few kinds s.env.exec (λ ps c i w K. Now t ps c i w K (piece.Eval (src.OfObject (src.FieldOf k j a)) ∷ todo) s.run.operands × NotBack s.run) (λ ps c i w K. Now t ps c i w K (piece.Eval a ∷ (piece.FieldNow k j ∷ todo)) s.run.operands × NotBack s.run) (λ ps c i w K x. (parts t ps c i w K k j a todo s.run.operands x.0, x.1)) s.env.frames s.run.frame s.run.this s.callers h;
+    run = builds_more t heads few kinds s.env.exec (λ ps c i w K. Now t heads ps c i w K (piece.Eval (src.OfObject (src.FieldOf k j a)) ∷ todo) s.run.operands × NotBack s.run) (λ ps c i w K. Now t heads ps c i w K (piece.Eval a ∷ (piece.FieldNow k j ∷ todo)) s.run.operands × NotBack s.run) (λ ps c i w K x. (parts t heads ps c i w K k j a todo s.run.operands x.0, x.1)) s.env.frames s.run.frame s.run.this s.callers h;
     callers = callers;
   }
 
-  pub field_now : (k : Shape) (j : ℕ) (todo : List Todo) → With (λ ps c i w K. Now t ps c i w K (piece.FieldNow k j ∷ todo) s.run.operands) → StepBuilds t heads few kinds (Goes (at todo (further (FieldAt k j) (top s.run.operands) ∷ below s.run.operands) s))
+  pub field_now : (k : Shape) (j : ℕ) (todo : List Todo) → With (λ ps c i w K. Now t heads ps c i w K (piece.FieldNow k j ∷ todo) s.run.operands) → StepBuilds t heads few kinds (Goes (at todo (further (FieldAt k j) (top s.run.operands) ∷ below s.run.operands) s))
   field_now k j todo h = record {
     apart = apart;
-    run = builds_to t heads few kinds s.env.exec (λ ps c i w K. Now t ps c i w K (piece.FieldNow k j ∷ todo) s.run.operands × NotBack s.run) (λ ps c i w K. Now t ps c i w K todo (further (FieldAt k j) (top s.run.operands) ∷ below s.run.operands) × NotBack s.run) s.env.frames s.env.frames s.run.frame s.run.this s.callers (same_frame s.env.frames s.run.frame) (all_keep t heads few kinds s.env.exec s.env.frames s.env.frames (same_frame s.env.frames) s.callers) (λ g m ps c i K e p o x. inr (fields t ps c i (variable s.env.exec g m) (Known t few s.env.exec K) k j (λ d v f l q. known.further_field t few s.env.exec K d j (t.shape d) v refl l (λ r. f) q) todo s.run.operands x.0, x.1)) h;
+    run = builds_to t heads few kinds s.env.exec (λ ps c i w K. Now t heads ps c i w K (piece.FieldNow k j ∷ todo) s.run.operands × NotBack s.run) (λ ps c i w K. Now t heads ps c i w K todo (further (FieldAt k j) (top s.run.operands) ∷ below s.run.operands) × NotBack s.run) s.env.frames s.env.frames s.run.frame s.run.this s.callers (same_frame s.env.frames s.run.frame) (all_keep t heads few kinds s.env.exec s.env.frames s.env.frames (same_frame s.env.frames) s.callers) (λ g m ps c i K e p o x. inr (fields t heads ps c i (variable s.env.exec g m) (Known t few s.env.exec K) k j (λ d v f l q. known.further_field t few s.env.exec K d j (t.shape d) v refl l (λ r. f) q) todo s.run.operands x.0, x.1)) h;
     callers = callers;
   }
 
@@ -175,14 +217,14 @@ module _ (t : Table) (heads : ℕ → ℕ → Bool) (few : Few) (kinds : List Si
         let stands : slice_index_or (frame_at g after.frames) (address place) nought ≡ v = ap (λ fs. slice_index_or (frame_at g fs) (address place) nought) frames ∙ there in
         subst (λ q. Known t few s.env.exec K d (slice_index_or (frame_at g after.frames) (address q) nought)) (sym path) (subst (λ d. Known t few s.env.exec K d (slice_index_or (frame_at g after.frames) (address place) nought)) (sym type) (subst (Known t few s.env.exec K b) (sym stands) h))
 
-    bound : (vs : List Value) (g k : ℕ) (ps : List Ty) (c i : ℕ) (K : Value → Ty → Type 0) → Lies g k c → IsField t c i → heads c i ≡ true → s.run.this ≡ variable s.env.exec g k → Now t ps c i (variable s.env.exec g k) (Known t few s.env.exec K) (piece.BindNow ∷ todo) s.run.operands × NotBack s.run → Holds t few s.env.exec K (Frame s.env.exec g) (frame_at g after.frames) (further (FieldAt (t.shape c) i) (variable s.env.exec g k)) (t.fields c i) ⊎ (Now t ps c i (variable s.env.exec g k) (Known t few s.env.exec K) todo vs × NotBack s.run)
+    bound : (vs : List Value) (g k : ℕ) (ps : List Ty) (c i : ℕ) (K : Value → Ty → Type 0) → Lies g k c → IsField t c i → heads c i ≡ true → s.run.this ≡ variable s.env.exec g k → Now t heads ps c i (variable s.env.exec g k) (Known t few s.env.exec K) (piece.BindNow ∷ todo) s.run.operands × NotBack s.run → Holds t few s.env.exec K (Frame s.env.exec g) (frame_at g after.frames) (further (FieldAt (t.shape c) i) (variable s.env.exec g k)) (t.fields c i) ⊎ (Now t heads ps c i (variable s.env.exec g k) (Known t few s.env.exec K) todo vs × NotBack s.run)
     bound vs g k ps c i K fits is told e (inl x, back) = inl (held g k c i K fits is told e x.0 x.1.0 x.1.1 x.2)
-    bound vs g k ps c i K fits is told e (inr x, back) = inr (building.now t ps c i (variable s.env.exec g k) (Known t few s.env.exec K) todo vs x, back)
+    bound vs g k ps c i K fits is told e (inr x, back) = inr (building.now t heads ps c i (variable s.env.exec g k) (Known t few s.env.exec K) todo vs x, back)
 
-    pub bind_now : (vs : List Value) → Lying t heads few kinds s.env.exec Lies s.callers → With (λ ps c i w K. Now t ps c i w K (piece.BindNow ∷ todo) s.run.operands) → StepBuilds t heads few kinds (Goes (at todo vs (in_env after s)))
+    pub bind_now : (vs : List Value) → Lying t heads few kinds s.env.exec Lies s.callers → With (λ ps c i w K. Now t heads ps c i w K (piece.BindNow ∷ todo) s.run.operands) → StepBuilds t heads few kinds (Goes (at todo vs (in_env after s)))
     bind_now vs lying h = record {
       apart = apart;
-      run = subst (λ n. Builds t heads few kinds n (λ ps c i w K. Now t ps c i w K todo vs × NotBack s.run) after.frames s.run.frame s.run.this s.callers) (sym keeps.exec) (builds_in t heads few kinds s.env.exec Lies (λ ps c i w K. Now t ps c i w K (piece.BindNow ∷ todo) s.run.operands × NotBack s.run) (λ ps c i w K. Now t ps c i w K todo vs × NotBack s.run) s.env.frames after.frames s.run.frame s.run.this s.callers (keeps.frames s.run.frame) (all_keep t heads few kinds s.env.exec s.env.frames after.frames keeps.frames s.callers) lying (λ g m ps c i K fits is told e k o x. bound vs g m ps c i K fits is told e x) h);
+      run = subst (λ n. Builds t heads few kinds n (λ ps c i w K. Now t heads ps c i w K todo vs × NotBack s.run) after.frames s.run.frame s.run.this s.callers) (sym keeps.exec) (builds_in t heads few kinds s.env.exec Lies (λ ps c i w K. Now t heads ps c i w K (piece.BindNow ∷ todo) s.run.operands × NotBack s.run) (λ ps c i w K. Now t heads ps c i w K todo vs × NotBack s.run) s.env.frames after.frames s.run.frame s.run.this s.callers (keeps.frames s.run.frame) (all_keep t heads few kinds s.env.exec s.env.frames after.frames keeps.frames s.callers) lying (λ g m ps c i K fits is told e k o all x. bound vs g m ps c i K fits is told e x) h);
       callers = subst (λ n. AllBuild t heads few kinds n after.frames s.callers) (sym keeps.exec) (all_kept t heads few kinds s.env.exec s.env.frames after.frames s.callers (all_keep t heads few kinds s.env.exec s.env.frames after.frames keeps.frames s.callers) callers);
     }
 
@@ -198,7 +240,7 @@ module _ (t : Table) (heads : ℕ → ℕ → Bool) (few : Few) (kinds : List Si
         let n = life.frames in
         let r = life.stack.0.frame in
         let k = newer_all t heads few kinds Z s.env.exec x s.env.frames s.callers (omega (arith, n)) life.stack.1 in
-        (builds_kept t heads few kinds s.env.exec (of_wait t waits) s.env.frames (x ∷ s.env.frames) s.run.frame s.run.this s.callers (frame_newer x s.env.frames s.run.frame (omega (arith, n, r))) k h, all_kept t heads few kinds s.env.exec s.env.frames (x ∷ s.env.frames) s.callers k callers)
+        (builds_kept t heads few kinds s.env.exec (of_wait t heads waits) s.env.frames (x ∷ s.env.frames) s.run.frame s.run.this s.callers (frame_newer x s.env.frames s.run.frame (omega (arith, n, r))) k h, all_kept t heads few kinds s.env.exec s.env.frames (x ∷ s.env.frames) s.callers k callers)
 
   -- no scope of an object opens behind what is called
   none_built : (L : List Ty → ℕ → ℕ → Value → (Ty → Value → Type 0) → Type 0) (fs : List (List Value)) (f : ℕ) (this : Value) (b : Active) (older : List Active) → Awaits (λ c rest. IsPlain t c → ⊥) b.control → Builds t heads few kinds s.env.exec L fs f this (b ∷ older)
@@ -207,17 +249,17 @@ module _ (t : Table) (heads : ℕ → ℕ → Bool) (few : Few) (kinds : List Si
   waits_apart : (todo : List Todo) (vs : List Value) → AllApart (record s.run { control = todo; operands = vs } ∷ s.callers)
   waits_apart todo vs = ((apart.0.0, apart.0.1, apart.0.2), apart.1)
 
-  begun : (r : Routine) (this : Value) (counts : Bool) (todo : List Todo) (vs : List Value) → Holding todo → Builds t heads few kinds s.env.exec (λ ps c i w K. Now t ps c i w K (quiet.routine_todo r) []) (quiet.call_frame r s.run.operands ∷ s.env.frames) (length s.env.frames) this (record s.run { control = todo; operands = vs } ∷ s.callers) → StepBuilds t heads few kinds (quiet.begun_step r this counts todo vs s)
+  begun : (r : Routine) (this : Value) (counts : Bool) (todo : List Todo) (vs : List Value) → Holding todo → Builds t heads few kinds s.env.exec (λ ps c i w K. Now t heads ps c i w K (quiet.routine_todo r) []) (quiet.call_frame r s.run.operands ∷ s.env.frames) (length s.env.frames) this (record s.run { control = todo; operands = vs } ∷ s.callers) → StepBuilds t heads few kinds (quiet.begun_step r this counts todo vs s)
   begun r this counts todo vs h b = record {
     apart = ((far (length s.env.frames) (record s.run { control = todo; operands = vs }) s.callers (let n = life.frames in omega (arith, n)) life.stack.0.frame (frames_of_stack Z s.env.frames s.callers life.stack.1), life.frames, λ home e. absurd (cc)), waits_apart todo vs);
-    run = builds_more t heads few kinds s.env.exec (λ ps c i w K. Now t ps c i w K (quiet.routine_todo r) []) _ (λ ps c i w K x. (x, λ e. absurd (cc))) (quiet.call_frame r s.run.operands ∷ s.env.frames) (length s.env.frames) this (record s.run { control = todo; operands = vs } ∷ s.callers) b;
+    run = builds_more t heads few kinds s.env.exec (λ ps c i w K. Now t heads ps c i w K (quiet.routine_todo r) []) _ (λ ps c i w K x. (x, λ e. absurd (cc))) (quiet.call_frame r s.run.operands ∷ s.env.frames) (length s.env.frames) this (record s.run { control = todo; operands = vs } ∷ s.callers) b;
     callers = all_new (quiet.call_frame r s.run.operands) todo vs h;
   }
 
   pub call : (r : Option Routine) (todo : List Todo) → Awaits (λ c rest. IsPlain t c → ⊥) todo → Holding todo → StepBuilds t heads few kinds (quiet.call_step r todo s)
   call None todo n h = steps.stays t heads few kinds Z s life callers apart _ _ h
   call (Some r) todo n h =
-      either (StepBuilds t heads few kinds) (nat_lt s.env.links.calls CALLS) _ _ (begun r _ true todo (drop r.params s.run.operands) h (none_built (λ ps c i w K. Now t ps c i w K (quiet.routine_todo r) []) (quiet.call_frame r s.run.operands ∷ s.env.frames) (length s.env.frames) piece.Nothing (record s.run { control = todo; operands = drop r.params s.run.operands }) s.callers n)) (steps.stays t heads few kinds Z s life callers apart todo _ h)
+      either (StepBuilds t heads few kinds) (nat_lt s.env.links.calls CALLS) _ _ (begun r _ true todo (drop r.params s.run.operands) h (none_built (λ ps c i w K. Now t heads ps c i w K (quiet.routine_todo r) []) (quiet.call_frame r s.run.operands ∷ s.env.frames) (length s.env.frames) piece.Nothing (record s.run { control = todo; operands = drop r.params s.run.operands }) s.callers n)) (steps.stays t heads few kinds Z s life callers apart todo _ h)
 
   -- the handler of a resumption begins
   handles : (o : Option Found) (e : Event) (todo : List Todo) → FoundApart (record s.run { control = todo } ∷ s.callers) o → Awaits (λ c rest. IsPlain t c → ⊥) (piece.DropNow ∷ todo) → Holding todo → StepBuilds t heads few kinds (raising.handle_step o e todo s)
@@ -244,7 +286,7 @@ module _ (t : Table) (heads : ℕ → ℕ → Bool) (few : Few) (kinds : List Si
     behind_left src.Builder line e = tt
 
     -- what is left to be bound as it begins
-    lacks : (K : Value → Ty → Type 0) (fs : List (List Value)) (g k c i : ℕ) → q.purpose ≡ src.Builder → InHead t ps c i q.body ⊎ IsUnbound t (t.fields c i) → Holds t few s.env.exec K (Frame s.env.exec g) (frame_at g fs) (further (FieldAt (t.shape c) i) (variable s.env.exec g k)) (t.fields c i) ⊎ Now t ps c i (variable s.env.exec g k) (Known t few s.env.exec K) (quiet.routine_todo q) []
+    lacks : (K : Value → Ty → Type 0) (fs : List (List Value)) (g k c i : ℕ) → q.purpose ≡ src.Builder → InHead t heads ps c i q.body ⊎ IsUnbound t (t.fields c i) → Holds t few s.env.exec K (Frame s.env.exec g) (frame_at g fs) (further (FieldAt (t.shape c) i) (variable s.env.exec g k)) (t.fields c i) ⊎ Now t heads ps c i (variable s.env.exec g k) (Known t few s.env.exec K) (quiet.routine_todo q) []
     lacks K fs g k c i p (inl x) = inr (x, behind_left q.purpose q.line p)
     lacks K fs g k c i p (inr x) = inl (building.unbound t heads few kinds s.env.exec fs g _ K (t.fields c i) x)
 
@@ -266,7 +308,7 @@ module _ (t : Table) (heads : ℕ → ℕ → Bool) (few : Few) (kinds : List Si
         seated = λ i. absurd i;
       }
 
-      begins : (k i : ℕ) → CleansAt t (Obj i) (src.Variable k) c → IsUnbound t (Obj i) ⊎ IsConstructed t heads few kinds source s r k i c rest → IsBuilt t heads few kinds s.env.exec (quiet.call_frame q s.run.operands ∷ s.env.frames) s.run.frame (variable s.env.exec s.run.frame k) i K ⊎ IsMaking t heads few kinds s.env.exec (λ ps c i w K. Now t ps c i w K (quiet.routine_todo q) []) (quiet.call_frame q s.run.operands ∷ s.env.frames) (length s.env.frames) (suc (length s.callers)) (top (drop q.params s.run.operands)) s.run.frame (variable s.env.exec s.run.frame k) i K
+      begins : (k i : ℕ) → CleansAt t (Obj i) (src.Variable k) c → IsUnbound t (Obj i) ⊎ IsConstructed t heads few kinds source s r k i c rest → IsBuilt t heads few kinds s.env.exec (quiet.call_frame q s.run.operands ∷ s.env.frames) s.run.frame (variable s.env.exec s.run.frame k) i K ⊎ IsMaking t heads few kinds s.env.exec (λ ps c i w K. Now t heads ps c i w K (quiet.routine_todo q) []) (quiet.call_frame q s.run.operands ∷ s.env.frames) (length s.env.frames) (suc (length s.callers)) (top (drop q.params s.run.operands)) s.run.frame (variable s.env.exec s.run.frame k) i K
       begins k i d (inl none) = inl (none_bound t heads few kinds s.env.exec (quiet.call_frame q s.run.operands ∷ s.env.frames) s.run.frame (variable s.env.exec s.run.frame k) K i none)
       begins k i d (inr z) =
           inr (record {
@@ -278,7 +320,7 @@ module _ (t : Table) (heads : ℕ → ℕ → Bool) (few : Few) (kinds : List Si
             fields = λ j l told. lacks K (quiet.call_frame q s.run.operands ∷ s.env.frames) s.run.frame k i j (z.purpose q is) (z.makes q is j l told);
           })
 
-    made : (todo : List Todo) (vs : List Value) → Constructs t heads few kinds source s r todo → Builds t heads few kinds s.env.exec (λ ps c i w K. Now t ps c i w K (quiet.routine_todo q) []) (quiet.call_frame q s.run.operands ∷ s.env.frames) (length s.env.frames) (top (drop q.params s.run.operands)) (record s.run { control = todo; operands = vs } ∷ s.callers)
+    made : (todo : List Todo) (vs : List Value) → Constructs t heads few kinds source s r todo → Builds t heads few kinds s.env.exec (λ ps c i w K. Now t heads ps c i w K (quiet.routine_todo q) []) (quiet.call_frame q s.run.operands ∷ s.env.frames) (length s.env.frames) (top (drop q.params s.run.operands)) (record s.run { control = todo; operands = vs } ∷ s.callers)
     made (piece.DropNow ∷ (piece.Within line ∷ (piece.Rest (src.Scoped c ss) ∷ rest))) vs h = λ k i d. begins c rest k i d (h k i d)
     made todo vs h = tt
 

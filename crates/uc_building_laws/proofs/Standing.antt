@@ -135,26 +135,26 @@ module _ (t : Table) (heads : ℕ → ℕ → Bool) (few : Few) (kinds : List Si
     dropped_stands e = subst (StandsOf t heads few kinds s) e st.stands
 
     -- a constructor has come to its end, and nothing is left to be bound
-    module _ (nothing : suc s.run.frame ≡ length s.env.frames → (ps : List Ty) (d i : ℕ) (w : Value) (K : Ty → Value → Type 0) → of_run t s.run ps d i w K → ⊥) (b : Active) (cs : List Active) (l : length s.env.frames ≡ suc (length (b ∷ cs))) (h : Stack Z s.env.frames (b ∷ cs)) (control : b.control ≡ drop) (x : Builds t heads few kinds s.env.exec (of_run t s.run) s.env.frames s.run.frame s.run.this (b ∷ cs)) where
-      made : (g : ℕ) (w : Value) (d : ℕ) (K : Value → Ty → Type 0) → IsBuilt t heads few kinds s.env.exec s.env.frames g w d K ⊎ IsMaking t heads few kinds s.env.exec (of_run t s.run) s.env.frames s.run.frame (suc (length cs)) s.run.this g w d K → IsBuilt t heads few kinds s.env.exec s.env.frames g w d K
+    module _ (nothing : suc s.run.frame ≡ length s.env.frames → (ps : List Ty) (d i : ℕ) (w : Value) (K : Ty → Value → Type 0) → of_run t heads s.run ps d i w K → ⊥) (b : Active) (cs : List Active) (l : length s.env.frames ≡ suc (length (b ∷ cs))) (h : Stack Z s.env.frames (b ∷ cs)) (control : b.control ≡ drop) (x : Builds t heads few kinds s.env.exec (of_run t heads s.run) s.env.frames s.run.frame s.run.this (b ∷ cs)) where
+      made : (g : ℕ) (w : Value) (d : ℕ) (K : Value → Ty → Type 0) → IsBuilt t heads few kinds s.env.exec s.env.frames g w d K ⊎ IsMaking t heads few kinds s.env.exec (of_run t heads s.run) s.env.frames s.run.frame (suc (length cs)) s.run.this g w d K → IsBuilt t heads few kinds s.env.exec s.env.frames g w d K
       made g w d K (inl y) = y
       made g w d K (inr m) = λ i f told. by i (m.fields i f told)
         where
-          by : (i : ℕ) → Holds t few s.env.exec K (Frame s.env.exec g) (frame_at g s.env.frames) (further (FieldAt (t.shape d) i) w) (t.fields d i) ⊎ of_run t s.run m.params d i w (Known t few s.env.exec K) → Holds t few s.env.exec K (Frame s.env.exec g) (frame_at g s.env.frames) (further (FieldAt (t.shape d) i) w) (t.fields d i)
+          by : (i : ℕ) → Holds t few s.env.exec K (Frame s.env.exec g) (frame_at g s.env.frames) (further (FieldAt (t.shape d) i) w) (t.fields d i) ⊎ of_run t heads s.run m.params d i w (Known t few s.env.exec K) → Holds t few s.env.exec K (Frame s.env.exec g) (frame_at g s.env.frames) (further (FieldAt (t.shape d) i) w) (t.fields d i)
           by i (inl y) = y
           by i (inr y) = let q = m.frame in absurd (nothing (omega (arith, q, l)) m.params d i w (Known t few s.env.exec K) y)
 
       handed : (k i : ℕ) → CleansAt t (Obj i) (src.Variable k) c → IsBuilt t heads few kinds s.env.exec (others s.env.frames) b.frame (variable s.env.exec b.frame k) i (AtScope t few kinds s.env.exec b.frame b.this cs c todo)
       handed k i d =
-          let y : Awaits (λ c todo. (k i : ℕ) → CleansAt t (Obj i) (src.Variable k) c → IsBuilt t heads few kinds s.env.exec s.env.frames b.frame (variable s.env.exec b.frame k) i (AtScope t few kinds s.env.exec b.frame b.this cs c todo) ⊎ IsMaking t heads few kinds s.env.exec (of_run t s.run) s.env.frames s.run.frame (suc (length cs)) s.run.this b.frame (variable s.env.exec b.frame k) i (AtScope t few kinds s.env.exec b.frame b.this cs c todo)) drop = subst (Awaits _) control x in
+          let y : Awaits (λ c todo. (k i : ℕ) → CleansAt t (Obj i) (src.Variable k) c → IsBuilt t heads few kinds s.env.exec s.env.frames b.frame (variable s.env.exec b.frame k) i (AtScope t few kinds s.env.exec b.frame b.this cs c todo) ⊎ IsMaking t heads few kinds s.env.exec (of_run t heads s.run) s.env.frames s.run.frame (suc (length cs)) s.run.this b.frame (variable s.env.exec b.frame k) i (AtScope t few kinds s.env.exec b.frame b.this cs c todo)) drop = subst (Awaits _) control x in
           let n : length (others s.env.frames) ≡ suc (length cs) = others_length s.env.frames (length cs) l in
           let le = h.0.frame in
           built_kept t heads few kinds s.env.exec s.env.frames (others s.env.frames) b.frame (variable s.env.exec b.frame k) i (AtScope t few kinds s.env.exec b.frame b.this cs c todo) (frame_older s.env.frames b.frame (omega (arith, n, le))) (made b.frame (variable s.env.exec b.frame k) i (AtScope t few kinds s.env.exec b.frame b.this cs c todo) (y k i d))
 
-    returned_goes : (suc s.run.frame ≡ length s.env.frames → (ps : List Ty) (d i : ℕ) (w : Value) (K : Ty → Value → Type 0) → of_run t s.run ps d i w K → ⊥) → (given : Value) (u : State) → u.run.control ≡ drop → piece.return_step given s.callers s ≡ Goes u → Claim u c todo
+    returned_goes : (suc s.run.frame ≡ length s.env.frames → (ps : List Ty) (d i : ℕ) (w : Value) (K : Ty → Value → Type 0) → of_run t heads s.run ps d i w K → ⊥) → (given : Value) (u : State) → u.run.control ≡ drop → piece.return_step given s.callers s ≡ Goes u → Claim u c todo
     returned_goes nothing given u control q = by s.callers life.frames life.stack.1 st.builds.run q
       where
-        by : (cs : List Active) → length s.env.frames ≡ suc (length cs) → Stack Z s.env.frames cs → Builds t heads few kinds s.env.exec (of_run t s.run) s.env.frames s.run.frame s.run.this cs → piece.return_step given cs s ≡ Goes u → Claim u c todo
+        by : (cs : List Active) → length s.env.frames ≡ suc (length cs) → Stack Z s.env.frames cs → Builds t heads few kinds s.env.exec (of_run t heads s.run) s.env.frames s.run.frame s.run.this cs → piece.return_step given cs s ≡ Goes u → Claim u c todo
         by [] l h x q = absurd (cc)
         by (b ∷ cs) l h x q =
             let same : returned (Some given) s.run.counts b cs s.env ≡ u = cc in
@@ -172,9 +172,9 @@ module _ (t : Table) (heads : ℕ → ℕ → Bool) (few : Few) (kinds : List Si
     ended_goes u control l e en (inr q) =
         let z : piece.Unwind ∷ q.0 ≡ drop = sym q.1 ∙ control in
         absurd (cc)
-    ended_goes u control [] e en (inl q) = returned_goes (λ f ps d i w K y. subst (λ l. Now t ps d i w K l s.run.operands) e y.0) q.0 u control q.1
-    ended_goes u control (piece.Exit w ∷ []) e en (inl q) = returned_goes (λ f ps d i v K y. subst (λ l. Now t ps d i v K l s.run.operands) e y.0) q.0 u control q.1
-    ended_goes u control (piece.Finish ∷ rest) e en (inl q) = returned_goes (λ f ps d i w K y. subst (λ l. Now t ps d i w K l s.run.operands) e y.0) q.0 u control q.1
+    ended_goes u control [] e en (inl q) = returned_goes (λ f ps d i w K y. subst (λ l. Now t heads ps d i w K l s.run.operands) e y.0) q.0 u control q.1
+    ended_goes u control (piece.Exit w ∷ []) e en (inl q) = returned_goes (λ f ps d i v K y. subst (λ l. Now t heads ps d i v K l s.run.operands) e y.0) q.0 u control q.1
+    ended_goes u control (piece.Finish ∷ rest) e en (inl q) = returned_goes (λ f ps d i w K y. subst (λ l. Now t heads ps d i w K l s.run.operands) e y.0) q.0 u control q.1
     ended_goes u control (piece.Unwind ∷ []) e en (inl q) = returned_goes (λ f ps d i w K y. returned_back en f y.1) q.0 u control q.1
     ended_goes u control l e en (inl q) = absurd en
 

@@ -25,7 +25,7 @@ use Rattle.uc_machine.specs.Pieces.{Value, Number, Object, Nothing, Todo, Sort, 
 use Rattle.uc_typing.specs.Typing.{Ty, Sig, Table}
 use Rattle.uc_state_laws.specs.RoomStacks.{Stack, StackState}
 use Rattle.uc_life_laws.proofs.Cells.{either, others_length}
-use Rattle.uc_building_laws.specs.Building.{IsLeft, IsHead, BindsField, BindsBy, AllLeft, Behind, Now}
+use Rattle.uc_building_laws.specs.Building.{IsLeft, IsHead, BindsField, BindsBy, AllLeft, Stays, Behind, Now}
 use Rattle.uc_building_laws.specs.BuildingStates.{NotBack, Builds, of_run, of_wait, AllBuild, IsApart, HomedBy, AllApart, BuildsBy}
 use Rattle.uc_building_laws.proofs.Memory.{frame_newer, frame_older}
 use Rattle.uc_building_laws.proofs.Building as building
@@ -36,9 +36,9 @@ use Rattle.uc_life_laws.specs.Things.{Few}
 use Rattle.uc_life_laws.specs.Kinds.{Returns, GoesPast, GoesOn}
 
 abbrev pub StepBuilds : (t : Table) (heads : ℕ → ℕ → Bool) (few : Few) (kinds : List Sig) → Step → Type 0
-StepBuilds t heads few kinds (Goes s) = BuildsBy t heads few kinds (of_run t s.run) s
-StepBuilds t heads few kinds (Ticks s) = BuildsBy t heads few kinds (of_wait t s.run) s
-StepBuilds t heads few kinds (Asks r s) = BuildsBy t heads few kinds (of_wait t s.run) s
+StepBuilds t heads few kinds (Goes s) = BuildsBy t heads few kinds (of_run t heads s.run) s
+StepBuilds t heads few kinds (Ticks s) = BuildsBy t heads few kinds (of_wait t heads s.run) s
+StepBuilds t heads few kinds (Asks r s) = BuildsBy t heads few kinds (of_wait t heads s.run) s
 
 -- frames of those that wait
 
@@ -61,14 +61,16 @@ module _ (t : Table) (heads : ℕ → ℕ → Bool) (few : Few) (kinds : List Si
 abbrev pub IsOther : Expr → Type 0
 IsOther (src.Get k) = ⊥
 IsOther (src.OfObject (src.OwnField k i)) = ⊥
+IsOther (src.OfObject (src.GetOwn k i)) = ⊥
 IsOther (src.OfObject (src.FieldOf k i a)) = ⊥
 IsOther (src.OfObject (src.Bind a b)) = ⊥
 IsOther a = Unit {0}
 
-module _ (t : Table) (ps : List Ty) (c i : ℕ) (w : Value) (K : Ty → Value → Type 0) where
-  other : (a : Expr) (todo : List Todo) (vs : List Value) → IsOther a → Now t ps c i w K (piece.Eval a ∷ todo) vs → Behind t ps c i todo
+module _ (t : Table) (heads : ℕ → ℕ → Bool) (ps : List Ty) (c i : ℕ) (w : Value) (K : Ty → Value → Type 0) where
+  other : (a : Expr) (todo : List Todo) (vs : List Value) → IsOther a → Now t heads ps c i w K (piece.Eval a ∷ todo) vs → Behind t heads ps c i todo
   other (src.Get k) todo vs o h = absurd o
   other (src.OfObject (src.OwnField k j)) todo vs o h = absurd o
+  other (src.OfObject (src.GetOwn k j)) todo vs o h = absurd o
   other (src.OfObject (src.FieldOf k j a)) todo vs o h = absurd o
   other (src.OfObject (src.Bind a b)) todo vs o h = absurd o
   other (src.OfObject x) todo vs o (inl (inl h)) = absurd h.0
@@ -81,7 +83,7 @@ module _ (t : Table) (ps : List Ty) (c i : ℕ) (w : Value) (K : Ty → Value �
   other a todo vs o (inr h) = h
 
   -- the parts of what binds
-  pub binds : (a b : Expr) (todo : List Todo) (vs : List Value) → Now t ps c i w K (piece.Eval (src.OfObject (src.Bind a b)) ∷ todo) vs → Now t ps c i w K (piece.Eval a ∷ (piece.Eval b ∷ (piece.BindNow ∷ todo))) vs
+  pub binds : (a b : Expr) (todo : List Todo) (vs : List Value) → Now t heads ps c i w K (piece.Eval (src.OfObject (src.Bind a b)) ∷ todo) vs → Now t heads ps c i w K (piece.Eval a ∷ (piece.Eval b ∷ (piece.BindNow ∷ todo))) vs
   binds (src.OfObject (src.OwnField k j)) b todo vs (inl (inl h)) = inl (inr (inl (h.0.0, h.0.1, h.0.2, h.1)))
   binds (src.OfObject x) b todo vs (inl (inl h)) = absurd h.0
   binds a b todo vs (inl (inl h)) = absurd h.0
@@ -94,7 +96,7 @@ module _ (t : Table) (heads : ℕ → ℕ → Bool) (few : Few) (kinds : List Si
   With L = Builds t heads few kinds s.env.exec (λ ps c i w K. L ps c i w K × NotBack s.run) s.env.frames s.run.frame s.run.this s.callers
 
   abbrev pub Holding : List Todo → Type 0
-  Holding todo = With (λ ps c i w K. Behind t ps c i todo)
+  Holding todo = With (λ ps c i w K. Behind t heads ps c i todo)
 
   abbrev pub Nothing_left : Type 0
   Nothing_left = With (λ ps c i w K. ⊥)
@@ -109,17 +111,17 @@ module _ (t : Table) (heads : ℕ → ℕ → Bool) (few : Few) (kinds : List Si
   pub nothing : Nothing_left → Builds t heads few kinds s.env.exec (λ ps c i w K. ⊥) s.env.frames s.run.frame s.run.this s.callers
   nothing h = builds_more t heads few kinds s.env.exec (λ ps c i w K. ⊥ × NotBack s.run) (λ ps c i w K. ⊥) (λ ps c i w K x. x.0) s.env.frames s.run.frame s.run.this s.callers h
 
-  pub later : (todo : List Todo) (vs : List Value) → Holding todo → With (λ ps c i w K. Now t ps c i w K todo vs)
-  later todo vs h = more (λ ps c i w K. Behind t ps c i todo) (λ ps c i w K. Now t ps c i w K todo vs) (λ ps c i w K x. building.now t ps c i w K todo vs x) h
+  pub later : (todo : List Todo) (vs : List Value) → Holding todo → With (λ ps c i w K. Now t heads ps c i w K todo vs)
+  later todo vs h = more (λ ps c i w K. Behind t heads ps c i todo) (λ ps c i w K. Now t heads ps c i w K todo vs) (λ ps c i w K x. building.now t heads ps c i w K todo vs x) h
 
   -- with something else to do, and other operands
-  pub go_now : (todo : List Todo) (vs : List Value) → With (λ ps c i w K. Now t ps c i w K todo vs) → BuildsBy t heads few kinds (of_run t (at todo vs s).run) (at todo vs s)
+  pub go_now : (todo : List Todo) (vs : List Value) → With (λ ps c i w K. Now t heads ps c i w K todo vs) → BuildsBy t heads few kinds (of_run t heads (at todo vs s).run) (at todo vs s)
   go_now todo vs h = record { apart = apart; run = h; callers = callers }
 
-  pub go : (todo : List Todo) (vs : List Value) → Holding todo → BuildsBy t heads few kinds (of_run t (at todo vs s).run) (at todo vs s)
+  pub go : (todo : List Todo) (vs : List Value) → Holding todo → BuildsBy t heads few kinds (of_run t heads (at todo vs s).run) (at todo vs s)
   go todo vs h = go_now todo vs (later todo vs h)
 
-  pub stays : (todo : List Todo) (vs : List Value) → Holding todo → BuildsBy t heads few kinds (of_wait t (at todo vs s).run) (at todo vs s)
+  pub stays : (todo : List Todo) (vs : List Value) → Holding todo → BuildsBy t heads few kinds (of_wait t heads (at todo vs s).run) (at todo vs s)
   stays todo vs h = record { apart = apart; run = h; callers = callers }
 
   -- the same running execution, in a task that has changed
@@ -131,11 +133,11 @@ module _ (t : Table) (heads : ℕ → ℕ → Bool) (few : Few) (kinds : List Si
   }
 
   -- and with another rest of the task
-  pub go_in : (todo : List Todo) (vs : List Value) (e : Env) → Keeps s.env e → Holding todo → BuildsBy t heads few kinds (of_run t (at todo vs (in_env e s)).run) (at todo vs (in_env e s))
-  go_in todo vs e k h = with_env (of_run t (at todo vs s).run) (at todo vs s) (go todo vs h) k
+  pub go_in : (todo : List Todo) (vs : List Value) (e : Env) → Keeps s.env e → Holding todo → BuildsBy t heads few kinds (of_run t heads (at todo vs (in_env e s)).run) (at todo vs (in_env e s))
+  go_in todo vs e k h = with_env (of_run t heads (at todo vs s).run) (at todo vs s) (go todo vs h) k
 
-  pub stays_in : (todo : List Todo) (vs : List Value) (e : Env) → Keeps s.env e → Holding todo → BuildsBy t heads few kinds (of_wait t (at todo vs (in_env e s)).run) (at todo vs (in_env e s))
-  stays_in todo vs e k h = with_env (of_wait t (at todo vs s).run) (at todo vs s) (stays todo vs h) k
+  pub stays_in : (todo : List Todo) (vs : List Value) (e : Env) → Keeps s.env e → Holding todo → BuildsBy t heads few kinds (of_wait t heads (at todo vs (in_env e s)).run) (at todo vs (in_env e s))
+  stays_in todo vs e k h = with_env (of_wait t heads (at todo vs s).run) (at todo vs s) (stays todo vs h) k
 
   -- nothing that is told of changes
   pub same : {e : Env} → e.exec ≡ s.env.exec → e.frames ≡ s.env.frames → Keeps s.env e
@@ -143,7 +145,7 @@ module _ (t : Table) (heads : ℕ → ℕ → Bool) (few : Few) (kinds : List Si
 
   -- the end of an activation
 
-  module _ (stay : BuildsBy t heads few kinds (of_wait t s.run) s) where
+  module _ (stay : BuildsBy t heads few kinds (of_wait t heads s.run) s) where
     -- the first one that waits, with a frame less
     module _ (c : Active) (cs : List Active) (l : length s.env.frames ≡ suc (length (c ∷ cs))) (h : Stack Z s.env.frames (c ∷ cs)) (b : AllBuild t heads few kinds s.env.exec s.env.frames (c ∷ cs)) where
       all_less : AllKeep t heads few kinds s.env.exec s.env.frames (others s.env.frames) (c ∷ cs)
@@ -151,8 +153,8 @@ module _ (t : Table) (heads : ℕ → ℕ → Bool) (few : Few) (kinds : List Si
           let n : length (others s.env.frames) ≡ suc (length cs) = others_length s.env.frames (length cs) l in
           older_all t heads few kinds Z s.env.exec s.env.frames (c ∷ cs) (omega (arith, n)) h
 
-      less : (M : List Ty → ℕ → ℕ → Value → (Ty → Value → Type 0) → Type 0) → ((ps : List Ty) (d i : ℕ) (w : Value) (K : Ty → Value → Type 0) → Behind t ps d i c.control × NotBack c → M ps d i w K) → Builds t heads few kinds s.env.exec M (others s.env.frames) c.frame c.this cs
-      less M m = builds_more t heads few kinds s.env.exec (of_wait t c) M m (others s.env.frames) c.frame c.this cs (builds_kept t heads few kinds s.env.exec (of_wait t c) s.env.frames (others s.env.frames) c.frame c.this cs all_less.0 all_less.1 b.0)
+      less : (M : List Ty → ℕ → ℕ → Value → (Ty → Value → Type 0) → Type 0) → ((ps : List Ty) (d i : ℕ) (w : Value) (K : Ty → Value → Type 0) → Behind t heads ps d i c.control × NotBack c → M ps d i w K) → Builds t heads few kinds s.env.exec M (others s.env.frames) c.frame c.this cs
+      less M m = builds_more t heads few kinds s.env.exec (of_wait t heads c) M m (others s.env.frames) c.frame c.this cs (builds_kept t heads few kinds s.env.exec (of_wait t heads c) s.env.frames (others s.env.frames) c.frame c.this cs all_less.0 all_less.1 b.0)
 
       rest_less : AllBuild t heads few kinds s.env.exec (others s.env.frames) cs
       rest_less = all_kept t heads few kinds s.env.exec s.env.frames (others s.env.frames) cs all_less.1 b.1
@@ -161,7 +163,7 @@ module _ (t : Table) (heads : ℕ → ℕ → Bool) (few : Few) (kinds : List Si
     returned given [] l h b p = stay
     returned given (a ∷ cs) l h b p = record {
       apart = p;
-      run = less a cs l h b _ (λ ps c i w K x. (building.now t ps c i w K a.control (given ∷ a.operands) x.0, x.1));
+      run = less a cs l h b _ (λ ps c i w K x. (building.now t heads ps c i w K a.control (given ∷ a.operands) x.0, x.1));
       callers = rest_less a cs l h b;
     }
 
@@ -179,11 +181,11 @@ module _ (t : Table) (heads : ℕ → ℕ → Bool) (few : Few) (kinds : List Si
       callers = rest_less a cs l h b;
     }
       where
-        by : (own : Bool) → nat_eq a.frame (length cs) ≡ own → Builds t heads few kinds s.env.exec (of_run t (unwound (piece.Unwind ∷ a.control) why given a)) (others s.env.frames) a.frame a.this cs
+        by : (own : Bool) → nat_eq a.frame (length cs) ≡ own → Builds t heads few kinds s.env.exec (of_run t heads (unwound (piece.Unwind ∷ a.control) why given a)) (others s.env.frames) a.frame a.this cs
         by true e =
             let q : a.frame ≡ length cs = eqb-true a.frame (length cs) e in
-            less a cs l h b (of_run t (unwound (piece.Unwind ∷ a.control) why given a)) (λ ps c i w K x. (building.left t ps c i a.control x.0, λ r. (far a.frame (some_is r)).0 refl q (building.left t ps c i a.control x.0)))
-        by false e = not_making t heads few kinds s.env.exec (of_wait t a) (of_run t (unwound (piece.Unwind ∷ a.control) why given a)) (others s.env.frames) a.frame a.this cs (λ q. let y : nat_eq a.frame (length cs) ≡ true = eq-eqb a.frame (length cs) q in absurd (cc)) (less a cs l h b (of_wait t a) (λ ps c i w K x. x))
+            less a cs l h b (of_run t heads (unwound (piece.Unwind ∷ a.control) why given a)) (λ ps c i w K x. (building.left t heads ps c i a.control x.0, λ r. (far a.frame (some_is r)).0 refl q (building.left t heads ps c i a.control x.0)))
+        by false e = not_making t heads few kinds s.env.exec (of_wait t heads a) (of_run t heads (unwound (piece.Unwind ∷ a.control) why given a)) (others s.env.frames) a.frame a.this cs (λ q. let y : nat_eq a.frame (length cs) ≡ true = eq-eqb a.frame (length cs) q in absurd (cc)) (less a cs l h b (of_wait t heads a) (λ ps c i w K x. x))
 
     return_is : {m n : ℕ} → reason.ReturnTo m ≡ reason.ReturnTo n → m ≡ n
     return_is e = cc
@@ -233,8 +235,8 @@ module _ (t : Table) (heads : ℕ → ℕ → Bool) (few : Few) (kinds : List Si
 
   -- expressions
 
-  plain : (a : Expr) (todo : List Todo) → IsOther a → With (λ ps c i w K. Now t ps c i w K (piece.Eval a ∷ todo) s.run.operands) → Holding todo
-  plain a todo o h = more (λ ps c i w K. Now t ps c i w K (piece.Eval a ∷ todo) s.run.operands) (λ ps c i w K. Behind t ps c i todo) (λ ps c i w K x. other t ps c i w K a todo s.run.operands o x) h
+  plain : (a : Expr) (todo : List Todo) → IsOther a → With (λ ps c i w K. Now t heads ps c i w K (piece.Eval a ∷ todo) s.run.operands) → Holding todo
+  plain a todo o h = more (λ ps c i w K. Now t heads ps c i w K (piece.Eval a ∷ todo) s.run.operands) (λ ps c i w K. Behind t heads ps c i todo) (λ ps c i w K x. other t heads ps c i w K a todo s.run.operands o x) h
 
   converts : (k : Shape) (todo : List Todo) → Holding todo → Holding (quiet.converting k todo)
   converts src.Character todo h = h
@@ -247,12 +249,13 @@ module _ (t : Table) (heads : ℕ → ℕ → Bool) (few : Few) (kinds : List Si
   object (src.MakeOn c r false a args) todo o h = go _ _ h
   object (src.MakeOn c r true a args) todo o h = go _ _ h
   object (src.OwnField k i) todo o h = absurd o
+  object (src.GetOwn k i) todo o h = absurd o
   object (src.FieldOf k i a) todo o h = absurd o
   object (src.Bind a b) todo o h = absurd o
   object x todo o h = go _ _ h
 
   -- but for what finds a field and what is bound there
-  pub eval : (a : Expr) (todo : List Todo) → IsOther a → With (λ ps c i w K. Now t ps c i w K (piece.Eval a ∷ todo) s.run.operands) → StepBuilds t heads few kinds (quiet.eval_step a todo s)
+  pub eval : (a : Expr) (todo : List Todo) → IsOther a → With (λ ps c i w K. Now t heads ps c i w K (piece.Eval a ∷ todo) s.run.operands) → StepBuilds t heads few kinds (quiet.eval_step a todo s)
   eval (src.Update op k p a) todo o h = go _ _ (converts k (piece.KeepNow ∷ todo) (plain (src.Update op k p a) todo o h))
   eval (src.StepBehind op k p) todo o h = go _ _ (converts k (piece.StoreNow ∷ (piece.DropBelowNow ∷ todo)) (plain (src.StepBehind op k p) todo o h))
   eval src.Fail todo o h = stays todo _ (plain src.Fail todo o h)
@@ -290,9 +293,9 @@ module _ (t : Table) (heads : ℕ → ℕ → Bool) (few : Few) (kinds : List Si
 
   -- nothing is left to be bound, whatever is to do
   pub free : (todo : List Todo) → Nothing_left → Holding todo
-  free todo h = lost (λ ps c i w K. Behind t ps c i todo) h
+  free todo h = lost (λ ps c i w K. Behind t heads ps c i todo) h
 
-  gone : (todo : List Todo) (vs : List Value) → Nothing_left → BuildsBy t heads few kinds (of_run t (at todo vs s).run) (at todo vs s)
+  gone : (todo : List Todo) (vs : List Value) → Nothing_left → BuildsBy t heads few kinds (of_run t heads (at todo vs s).run) (at todo vs s)
   gone todo vs h = go todo vs (free todo h)
 
   event_step : (a : EventStmt) (todo : List Todo) → Nothing_left → StepBuilds t heads few kinds (quiet.event_step a todo s)
@@ -304,31 +307,31 @@ module _ (t : Table) (heads : ℕ → ℕ → Bool) (few : Few) (kinds : List Si
   event_step (src.Disable line events cell a) todo h = gone _ _ h
 
   -- what is left of a statement that is neither a head nor binds
-  none : (a : Stmt) (todo : List Todo) → ((ps : List Ty) (c i : ℕ) → BindsBy t ps c i a → ⊥) → ((ps : List Ty) (c i : ℕ) → IsHead a (Behind t ps c i todo) → ⊥) → With (λ ps c i w K. Now t ps c i w K (piece.Do a ∷ todo) s.run.operands) → Nothing_left
-  none a todo f g h = more (λ ps c i w K. Now t ps c i w K (piece.Do a ∷ todo) s.run.operands) (λ ps c i w K. ⊥) (λ ps c i w K x. by ps c i x) h
+  none : (a : Stmt) (todo : List Todo) → ((ps : List Ty) (c i : ℕ) → BindsBy t ps c (λ m. Stays t heads ps c i todo m) i a → ⊥) → ((ps : List Ty) (c i : ℕ) → IsHead a (Behind t heads ps c i todo) → ⊥) → With (λ ps c i w K. Now t heads ps c i w K (piece.Do a ∷ todo) s.run.operands) → Nothing_left
+  none a todo f g h = more (λ ps c i w K. Now t heads ps c i w K (piece.Do a ∷ todo) s.run.operands) (λ ps c i w K. ⊥) (λ ps c i w K x. by ps c i x) h
     where
-      by : (ps : List Ty) (c i : ℕ) → (BindsBy t ps c i a × AllLeft todo) ⊎ IsHead a (Behind t ps c i todo) → ⊥
+      by : (ps : List Ty) (c i : ℕ) → (BindsBy t ps c (λ m. Stays t heads ps c i todo m) i a × AllLeft todo) ⊎ IsHead a (Behind t heads ps c i todo) → ⊥
       by ps c i (inl x) = f ps c i x.0
       by ps c i (inr x) = g ps c i x
 
-  task_step : (a : TaskStmt) (todo : List Todo) → With (λ ps c i w K. Now t ps c i w K (piece.Do (src.OfTasks a) ∷ todo) s.run.operands) → StepBuilds t heads few kinds (quiet.task_step a todo s)
-  task_step (src.SetUp r) todo h = go _ _ (more (λ ps c i w K. Now t ps c i w K (piece.Do (src.OfTasks (src.SetUp r)) ∷ todo) s.run.operands) (λ ps c i w K. Behind t ps c i todo) (λ ps c i w K x. by ps c i x) h)
+  task_step : (a : TaskStmt) (todo : List Todo) → With (λ ps c i w K. Now t heads ps c i w K (piece.Do (src.OfTasks a) ∷ todo) s.run.operands) → StepBuilds t heads few kinds (quiet.task_step a todo s)
+  task_step (src.SetUp r) todo h = go _ _ (more (λ ps c i w K. Now t heads ps c i w K (piece.Do (src.OfTasks (src.SetUp r)) ∷ todo) s.run.operands) (λ ps c i w K. Behind t heads ps c i todo) (λ ps c i w K x. by ps c i x) h)
     where
-      by : (ps : List Ty) (c i : ℕ) → (⊥ × AllLeft todo) ⊎ Behind t ps c i todo → Behind t ps c i todo
+      by : (ps : List Ty) (c i : ℕ) → (⊥ × AllLeft todo) ⊎ Behind t heads ps c i todo → Behind t heads ps c i todo
       by ps c i (inl x) = absurd x.0
       by ps c i (inr x) = x
   task_step a todo h = gone _ _ (none (src.OfTasks a) todo (λ ps c i x. x) (λ ps c i x. x) h)
 
-  pub stmt : (a : Stmt) (todo : List Todo) → With (λ ps c i w K. Now t ps c i w K (piece.Do a ∷ todo) s.run.operands) → StepBuilds t heads few kinds (quiet.stmt_step a todo s)
+  pub stmt : (a : Stmt) (todo : List Todo) → With (λ ps c i w K. Now t heads ps c i w K (piece.Do a ∷ todo) s.run.operands) → StepBuilds t heads few kinds (quiet.stmt_step a todo s)
   stmt (src.Evaluate line e) todo h =
-      go_now _ _ (more (λ ps c i w K. Now t ps c i w K (piece.Do (src.Evaluate line e) ∷ todo) s.run.operands) (λ ps c i w K. Now t ps c i w K (piece.Eval e ∷ (piece.DropNow ∷ (piece.Within line ∷ todo))) s.run.operands) (λ ps c i w K x. by ps c i w K x) h)
+      go_now _ _ (more (λ ps c i w K. Now t heads ps c i w K (piece.Do (src.Evaluate line e) ∷ todo) s.run.operands) (λ ps c i w K. Now t heads ps c i w K (piece.Eval e ∷ (piece.DropNow ∷ (piece.Within line ∷ todo))) s.run.operands) (λ ps c i w K x. by ps c i w K x) h)
     where
-      by : (ps : List Ty) (c i : ℕ) (w : Value) (K : Ty → Value → Type 0) → (BindsField t ps c i e × AllLeft todo) ⊎ Behind t ps c i todo → Now t ps c i w K (piece.Eval e ∷ (piece.DropNow ∷ (piece.Within line ∷ todo))) s.run.operands
+      by : (ps : List Ty) (c i : ℕ) (w : Value) (K : Ty → Value → Type 0) → (BindsField t ps c (λ m. Stays t heads ps c i todo m) i e × AllLeft todo) ⊎ Behind t heads ps c i todo → Now t heads ps c i w K (piece.Eval e ∷ (piece.DropNow ∷ (piece.Within line ∷ todo))) s.run.operands
       by ps c i w K (inl x) = inl (inl x)
       by ps c i w K (inr x) = inr x
-  stmt (src.Fill line m e d) todo h = go _ _ (more (λ ps c i w K. Now t ps c i w K (piece.Do (src.Fill line m e d) ∷ todo) s.run.operands) (λ ps c i w K. Behind t ps c i todo) (λ ps c i w K x. by ps c i x) h)
+  stmt (src.Fill line m e d) todo h = go _ _ (more (λ ps c i w K. Now t heads ps c i w K (piece.Do (src.Fill line m e d) ∷ todo) s.run.operands) (λ ps c i w K. Behind t heads ps c i todo) (λ ps c i w K x. by ps c i x) h)
     where
-      by : (ps : List Ty) (c i : ℕ) → (⊥ × AllLeft todo) ⊎ Behind t ps c i todo → Behind t ps c i todo
+      by : (ps : List Ty) (c i : ℕ) → (⊥ × AllLeft todo) ⊎ Behind t heads ps c i todo → Behind t heads ps c i todo
       by ps c i (inl x) = absurd x.0
       by ps c i (inr x) = x
   stmt (src.Loop line order c e b) todo h = gone _ _ (none (src.Loop line order c e b) todo (λ ps c i x. x) (λ ps c i x. x) h)
@@ -353,7 +356,7 @@ module _ (t : Table) (heads : ℕ → ℕ → Bool) (few : Few) (kinds : List Si
 
   pub land : (w : Option UnwindReason) (todo : List Todo) → Holding todo → StepBuilds t heads few kinds (quiet.land_step w todo s)
   land None todo h = go _ _ h
-  land (Some why) todo h = go (piece.Unwind ∷ todo) [] (more (λ ps c i w K. Behind t ps c i todo) (λ ps c i w K. AllLeft todo) (λ ps c i w K x. building.left t ps c i todo x) h)
+  land (Some why) todo h = go (piece.Unwind ∷ todo) [] (more (λ ps c i w K. Behind t heads ps c i todo) (λ ps c i w K. AllLeft todo) (λ ps c i w K x. building.left t heads ps c i todo x) h)
 
   -- mutex objects
 
@@ -435,15 +438,15 @@ module _ (t : Table) (heads : ℕ → ℕ → Bool) (few : Few) (kinds : List Si
   deliver v todo h = go _ _ h
 
   -- the running activation is told anew, and no return unwinds it
-  told : (b : Active) → b.frame ≡ s.run.frame → b.this ≡ s.run.this → b.handles ≡ s.run.handles → With (λ ps c i w K. Now t ps c i w K b.control b.operands) → ((home : ℕ) → b.raised ≡ Some (reason.ReturnTo home) → ⊥) → BuildsBy t heads few kinds (of_run t b) (record s { run = b })
+  told : (b : Active) → b.frame ≡ s.run.frame → b.this ≡ s.run.this → b.handles ≡ s.run.handles → With (λ ps c i w K. Now t heads ps c i w K b.control b.operands) → ((home : ℕ) → b.raised ≡ Some (reason.ReturnTo home) → ⊥) → BuildsBy t heads few kinds (of_run t heads b) (record s { run = b })
   told b e q v h none = record {
     apart = ((subst (λ f. IsApart f s.callers) (sym e) apart.0.0, subst (λ o. HomedBy o b.frame (length s.callers)) (sym v) (subst (λ f. HomedBy s.run.handles f (length s.callers)) (sym e) apart.0.1), λ home r. absurd (none home r)), apart.1);
-    run = subst (λ v. Builds t heads few kinds s.env.exec (of_run t b) s.env.frames b.frame v s.callers) (sym q) (subst (λ f. Builds t heads few kinds s.env.exec (of_run t b) s.env.frames f s.run.this s.callers) (sym e) (builds_more t heads few kinds s.env.exec (λ ps c i w K. Now t ps c i w K b.control b.operands × NotBack s.run) (of_run t b) (λ ps c i w K x. (x.0, λ r. none b.frame r)) s.env.frames s.run.frame s.run.this s.callers h));
+    run = subst (λ v. Builds t heads few kinds s.env.exec (of_run t heads b) s.env.frames b.frame v s.callers) (sym q) (subst (λ f. Builds t heads few kinds s.env.exec (of_run t heads b) s.env.frames f s.run.this s.callers) (sym e) (builds_more t heads few kinds s.env.exec (λ ps c i w K. Now t heads ps c i w K b.control b.operands × NotBack s.run) (of_run t heads b) (λ ps c i w K x. (x.0, λ r. none b.frame r)) s.env.frames s.run.frame s.run.this s.callers h));
     callers = callers;
   }
 
   unwinding : (todo : List Todo) → Holding todo → Holding (piece.Unwind ∷ todo)
-  unwinding todo h = more (λ ps c i w K. Behind t ps c i todo) (λ ps c i w K. AllLeft todo) (λ ps c i w K x. building.left t ps c i todo x) h
+  unwinding todo h = more (λ ps c i w K. Behind t heads ps c i todo) (λ ps c i w K. AllLeft todo) (λ ps c i w K x. building.left t heads ps c i todo x) h
 
   pub throws : (e : Event) (todo : List Todo) → Holding todo → StepBuilds t heads few kinds (raising.throw_step e todo s)
   throws e todo h = told _ refl refl refl (unwinding todo h) (λ home r. absurd (cc))
@@ -505,11 +508,11 @@ module _ (t : Table) (heads : ℕ → ℕ → Bool) (few : Few) (kinds : List Si
   unwind_past piece.IsFinish todo calm h = main_left s.run.raised todo h
   unwind_past piece.IsFinishCoroutine todo calm h = coroutine_left s.run.raised todo calm h
 
-  pub unwinds : BuildsBy t heads few kinds (of_wait t s.run) s → (todo : List Todo) → GoesOn (piece.Unwind ∷ todo) s.run.raised → With (λ ps c i w K. AllLeft todo) → StepBuilds t heads few kinds (raising.unwind_step todo s)
+  pub unwinds : BuildsBy t heads few kinds (of_wait t heads s.run) s → (todo : List Todo) → GoesOn (piece.Unwind ∷ todo) s.run.raised → With (λ ps c i w K. AllLeft todo) → StepBuilds t heads few kinds (raising.unwind_step todo s)
   unwinds stay [] calm h = leaves stay s.callers apart.0.2 life.frames life.stack.1 callers apart.1
   unwinds stay (p ∷ ps) calm h = unwind_past (piece.sort p) ps calm h
 
-  pub exits : BuildsBy t heads few kinds (of_wait t s.run) s → (w : Way) (todo : List Todo) → Nothing_left → StepBuilds t heads few kinds (quiet.exit_step w todo s)
+  pub exits : BuildsBy t heads few kinds (of_wait t heads s.run) s → (w : Way) (todo : List Todo) → Nothing_left → StepBuilds t heads few kinds (quiet.exit_step w todo s)
   exits stay w [] h = end_step stay w
   exits stay w (p ∷ ps) h = gone _ _ h
 

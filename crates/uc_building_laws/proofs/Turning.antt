@@ -17,17 +17,17 @@ use Rattle.uc_building_laws.proofs.Building.{awaits_more}
 
 -- what is still to be bound, where more is known
 
-module _ (t : Table) (ps : List Ty) (c i : ℕ) (w : Value) (K L : Ty → Value → Type 0) (more : (a : Ty) (v : Value) → K a v → L a v) where
-  onwards_more : (a : Ty) (todo : List Todo) (vs : List Value) → Onwards t ps c i w K a todo vs → Onwards t ps c i w L a todo vs
+module _ (t : Table) (heads : ℕ → ℕ → Bool) (ps : List Ty) (c i : ℕ) (w : Value) (K L : Ty → Value → Type 0) (more : (a : Ty) (v : Value) → K a v → L a v) where
+  onwards_more : (a : Ty) (todo : List Todo) (vs : List Value) → Onwards t heads ps c i w K a todo vs → Onwards t heads ps c i w L a todo vs
   onwards_more a (piece.FieldNow s m ∷ todo) vs h = (h.0, h.1, h.2, h.3, h.4, onwards_more (t.fields h.0 m) todo vs h.5)
   onwards_more a (piece.BindNow ∷ todo) vs h = h
   onwards_more a todo vs h = absurd h
 
-  starts_more : (e : Expr) (todo : List Todo) → Starts t ps c i w K e todo → Starts t ps c i w L e todo
+  starts_more : (e : Expr) (todo : List Todo) → Starts t heads ps c i w K e todo → Starts t heads ps c i w L e todo
   starts_more (src.OfObject (src.OwnField s m)) (piece.Eval e ∷ (piece.BindNow ∷ todo)) h = h
   starts_more e todo h = absurd h
 
-  pub now_more : (todo : List Todo) (vs : List Value) → Now t ps c i w K todo vs → Now t ps c i w L todo vs
+  pub now_more : (todo : List Todo) (vs : List Value) → Now t heads ps c i w K todo vs → Now t heads ps c i w L todo vs
   now_more (piece.Do a ∷ todo) vs h = h
   now_more (piece.Eval e ∷ todo) vs (inl (inl h)) = inl (inl h)
   now_more (piece.Eval e ∷ todo) vs (inl (inr (inl h))) = inl (inr (inl (starts_more e todo h)))
@@ -87,7 +87,7 @@ module _ (t : Table) (heads : ℕ → ℕ → Bool) (few : Few) (gs hs : List Si
 
     pub all_by : (fs : List (List Value)) (cs : List Active) → AllMade gs hs cs → AllBuild t heads few gs n fs cs → AllBuild t heads few hs n fs cs
     all_by fs [] m h = tt
-    all_by fs (a ∷ older) m h = (builds_by (of_wait t a) (of_wait t a) (λ K L more ps c i w y. y) fs a.frame a.this older m.1 h.0, all_by fs older m.1 h.1)
+    all_by fs (a ∷ older) m h = (builds_by (of_wait t heads a) (of_wait t heads a) (λ K L more ps c i w y. y) fs a.frame a.this older m.1 h.0, all_by fs older m.1 h.1)
 
   pub stands_by : (u : State) → AllMade gs hs (u.run ∷ u.callers) → Stands t heads few gs u → Stands t heads few hs u
   stands_by u m h = nears_more _ _ (λ c todo x k i d. built_more u.env.exec (AtScope t few gs u.env.exec u.run.frame u.run.this u.callers c todo) (AtScope t few hs u.env.exec u.run.frame u.run.this u.callers c todo) (at_more u.env.exec u.run.frame u.run.this u.callers m.0 c todo) u.env.frames u.run.frame (variable u.env.exec u.run.frame k) i (x k i d)) u.run.control h

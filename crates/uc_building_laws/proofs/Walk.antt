@@ -36,7 +36,7 @@ use Rattle.uc_life_laws.specs.Things.{Few, LiesBefore}
 use Rattle.uc_building_laws.proofs.Laid.{lying}
 use Rattle.uc_building_laws.proofs.Building.{Lying}
 
-module _ (t : Table) (heads : ℕ → ℕ → Bool) (few : Few) (kinds : List Sig) (source : Source) (Z : ℕ → ℕ → Type 0) (s : State) (life : StackState Z s) (st : BuildsBy t heads few kinds (of_run t s.run) s) (lies : Lying t heads few kinds s.env.exec (λ g k i. LiesBefore t (length (frame_at g s.env.frames)) (Frame s.env.exec g) (variable s.env.exec g k) (Obj i)) s.callers) where
+module _ (t : Table) (heads : ℕ → ℕ → Bool) (few : Few) (kinds : List Sig) (source : Source) (Z : ℕ → ℕ → Type 0) (s : State) (life : StackState Z s) (st : BuildsBy t heads few kinds (of_run t heads s.run) s) (lies : Lying t heads few kinds s.env.exec (λ g k i. LiesBefore t (length (frame_at g s.env.frames)) (Frame s.env.exec g) (variable s.env.exec g k) (Obj i)) s.callers) where
   abbrev Holding : List Todo → Type 0
   Holding todo = steps.Holding t heads few kinds Z s life st.callers st.apart todo
 
@@ -45,42 +45,43 @@ module _ (t : Table) (heads : ℕ → ℕ → Bool) (few : Few) (kinds : List Si
 
   -- what is left as this is to do
   abbrev Before : List Todo → Type 0
-  Before l = steps.With t heads few kinds Z s life st.callers st.apart (λ ps c i w K. Now t ps c i w K l s.run.operands)
+  Before l = steps.With t heads few kinds Z s life st.callers st.apart (λ ps c i w K. Now t heads ps c i w K l s.run.operands)
 
-  go : (todo : List Todo) (vs : List Value) → Holding todo → BuildsBy t heads few kinds (of_run t (at todo vs s).run) (at todo vs s)
+  go : (todo : List Todo) (vs : List Value) → Holding todo → BuildsBy t heads few kinds (of_run t heads (at todo vs s).run) (at todo vs s)
   go = steps.go t heads few kinds Z s life st.callers st.apart
 
-  stays : (todo : List Todo) (vs : List Value) → Holding todo → BuildsBy t heads few kinds (of_wait t (at todo vs s).run) (at todo vs s)
+  stays : (todo : List Todo) (vs : List Value) → Holding todo → BuildsBy t heads few kinds (of_wait t heads (at todo vs s).run) (at todo vs s)
   stays = steps.stays t heads few kinds Z s life st.callers st.apart
 
-  gone : (todo : List Todo) (vs : List Value) → Nothing_left → BuildsBy t heads few kinds (of_run t (at todo vs s).run) (at todo vs s)
+  gone : (todo : List Todo) (vs : List Value) → Nothing_left → BuildsBy t heads few kinds (of_run t heads (at todo vs s).run) (at todo vs s)
   gone todo vs h = go todo vs (steps.free t heads few kinds Z s life st.callers st.apart todo h)
 
   -- as it stands, where nothing is evaluated
-  stay : (l : List Todo) → s.run.control ≡ l → Holding l → BuildsBy t heads few kinds (of_wait t s.run) s
+  stay : (l : List Todo) → s.run.control ≡ l → Holding l → BuildsBy t heads few kinds (of_wait t heads s.run) s
   stay l e h = record {
     apart = st.apart;
-    run = subst (λ l. Builds t heads few kinds s.env.exec (λ ps c i w K. Behind t ps c i l × NotBack s.run) s.env.frames s.run.frame s.run.this s.callers) (sym e) h;
+    run = subst (λ l. Builds t heads few kinds s.env.exec (λ ps c i w K. Behind t heads ps c i l × NotBack s.run) s.env.frames s.run.frame s.run.this s.callers) (sym e) h;
     callers = st.callers;
   }
 
   -- the statements that are left of a block
-  then_do : (ps : List Ty) (c i : ℕ) (w : Value) (K : Ty → Value → Type 0) (a : Stmt) (ss : Stmts) (todo : List Todo) → InHead t ps c i (src.Then a ss) × AllLeft todo → Now t ps c i w K (piece.Do a ∷ (piece.Rest ss ∷ todo)) s.run.operands
+  then_do : (ps : List Ty) (c i : ℕ) (w : Value) (K : Ty → Value → Type 0) (a : Stmt) (ss : Stmts) (todo : List Todo) → InHead t heads ps c i (src.Then a ss) × AllLeft todo → Now t heads ps c i w K (piece.Do a ∷ (piece.Rest ss ∷ todo)) s.run.operands
   then_do ps c i w K a ss todo (inl h, l) = inl (h, l)
-  then_do ps c i w K a ss todo (inr h, l) = inr (building.head_more a (InHead t ps c i ss) (InHead t ps c i ss × AllLeft todo) (λ x. (x, l)) h)
+  then_do ps c i w K a ss todo (inr h, l) = inr (building.head_more a (InHead t heads ps c i ss) (InHead t heads ps c i ss × AllLeft todo) (λ x. (x, l)) h)
 
   rests : (ss : Stmts) (todo : List Todo) → Before (piece.Rest ss ∷ todo) → StepBuilds t heads few kinds (quiet.rest_step ss todo s)
-  rests src.Nil todo h = gone _ _ (steps.more t heads few kinds Z s life st.callers st.apart (λ ps c i w K. Now t ps c i w K (piece.Rest src.Nil ∷ todo) s.run.operands) (λ ps c i w K. ⊥) (λ ps c i w K x. x.0) h)
-  rests (src.Then a ss) todo h = steps.go_now t heads few kinds Z s life st.callers st.apart _ _ (steps.more t heads few kinds Z s life st.callers st.apart (λ ps c i w K. Now t ps c i w K (piece.Rest (src.Then a ss) ∷ todo) s.run.operands) (λ ps c i w K. Now t ps c i w K (piece.Do a ∷ (piece.Rest ss ∷ todo)) s.run.operands) (λ ps c i w K x. then_do ps c i w K a ss todo x) h)
-  rests (src.Scoped c ss) todo h = gone _ _ (steps.more t heads few kinds Z s life st.callers st.apart (λ ps d i w K. Now t ps d i w K (piece.Rest (src.Scoped c ss) ∷ todo) s.run.operands) (λ ps d i w K. ⊥) (λ ps d i w K x. x.0) h)
+  rests src.Nil todo h = gone _ _ (steps.more t heads few kinds Z s life st.callers st.apart (λ ps c i w K. Now t heads ps c i w K (piece.Rest src.Nil ∷ todo) s.run.operands) (λ ps c i w K. ⊥) (λ ps c i w K x. x.0) h)
+  rests (src.Then a ss) todo h = steps.go_now t heads few kinds Z s life st.callers st.apart _ _ (steps.more t heads few kinds Z s life st.callers st.apart (λ ps c i w K. Now t heads ps c i w K (piece.Rest (src.Then a ss) ∷ todo) s.run.operands) (λ ps c i w K. Now t heads ps c i w K (piece.Do a ∷ (piece.Rest ss ∷ todo)) s.run.operands) (λ ps c i w K x. then_do ps c i w K a ss todo x) h)
+  rests (src.Scoped c ss) todo h = gone _ _ (steps.more t heads few kinds Z s life st.callers st.apart (λ ps d i w K. Now t heads ps d i w K (piece.Rest (src.Scoped c ss) ∷ todo) s.run.operands) (λ ps d i w K. ⊥) (λ ps d i w K x. x.0) h)
   rests (src.Built c ss) todo h = go _ _ h
 
   -- an expression
   evals : (a : src.Expr) (todo : List Todo) → Before (piece.Eval a ∷ todo) → StepBuilds t heads few kinds (quiet.eval_step a todo s)
   evals (src.Get k) todo h = making.get t heads few kinds Z s life st.callers st.apart k todo h
   evals (src.OfObject (src.OwnField k j)) todo h = making.own t heads few kinds Z s life st.callers st.apart k j todo h
+  evals (src.OfObject (src.GetOwn k j)) todo h = making.value t heads few kinds Z s life st.callers st.apart k j todo h
   evals (src.OfObject (src.FieldOf k j a)) todo h = making.field_of t heads few kinds Z s life st.callers st.apart k j a todo h
-  evals (src.OfObject (src.Bind a b)) todo h = steps.go_now t heads few kinds Z s life st.callers st.apart _ _ (steps.more t heads few kinds Z s life st.callers st.apart (λ ps c i w K. Now t ps c i w K (piece.Eval (src.OfObject (src.Bind a b)) ∷ todo) s.run.operands) (λ ps c i w K. Now t ps c i w K (piece.Eval a ∷ (piece.Eval b ∷ (piece.BindNow ∷ todo))) s.run.operands) (λ ps c i w K x. steps.binds t ps c i w K a b todo s.run.operands x) h)
+  evals (src.OfObject (src.Bind a b)) todo h = steps.go_now t heads few kinds Z s life st.callers st.apart _ _ (steps.more t heads few kinds Z s life st.callers st.apart (λ ps c i w K. Now t heads ps c i w K (piece.Eval (src.OfObject (src.Bind a b)) ∷ todo) s.run.operands) (λ ps c i w K. Now t heads ps c i w K (piece.Eval a ∷ (piece.Eval b ∷ (piece.BindNow ∷ todo))) s.run.operands) (λ ps c i w K x. steps.binds t heads ps c i w K a b todo s.run.operands x) h)
   evals (src.OfObject y) todo h = steps.eval t heads few kinds Z s life st.callers st.apart (src.OfObject y) todo tt h
   evals a todo h = steps.eval t heads few kinds Z s life st.callers st.apart a todo tt h
 
@@ -231,7 +232,7 @@ module _ (t : Table) (heads : ℕ → ℕ → Bool) (few : Few) (kinds : List Si
 
   going : (s : State) → BuildsRest t heads few kinds s → BuildsState t heads few kinds s
   going s h = record {
-    builds = record { apart = h.builds.apart; run = building.builds_more t heads few kinds s.env.exec (of_wait t s.run) (of_run t s.run) (λ ps c i w K x. (building.now t ps c i w K s.run.control s.run.operands x.0, x.1)) s.env.frames s.run.frame s.run.this s.callers h.builds.run; callers = h.builds.callers };
+    builds = record { apart = h.builds.apart; run = building.builds_more t heads few kinds s.env.exec (of_wait t heads s.run) (of_run t heads s.run) (λ ps c i w K x. (building.now t heads ps c i w K s.run.control s.run.operands x.0, x.1)) s.env.frames s.run.frame s.run.this s.callers h.builds.run; callers = h.builds.callers };
     stands = h.stands;
   }
 

@@ -150,12 +150,12 @@ module _ (p : Program) (formed : IsFormed p) (accepted : breaks_of p ≡ []) whe
 
     -- of the running execution
     abbrev Runs_by : List Sig → List Ty → State → Type 0
-    Runs_by gs given s = Lives t few s.env.exec gs (stopped s) × BuildsBy t (heads_of p) few gs (Left t given s.run) s × Stands t (heads_of p) few gs s
+    Runs_by gs given s = Lives t few s.env.exec gs (stopped s) × BuildsBy t (heads_of p) few gs (Left t (heads_of p) given s.run) s × Stands t (heads_of p) few gs s
 
     operand : (a : Ty) (given : List Ty) (v : Value) (s : State) → S (a ∷ given) s → ((gs : List Sig) → Known t few s.env.exec (AtHand t few s.env.exec gs (s.run ∷ s.callers)) a v) → S given (with_operand v s)
     operand a given v s x i =
         let y = answers.brought_claims t few J a given v s x.0 i in
-        let b : BuildsBy t (heads_of p) few x.0.sigs (of_wait t (with_operand v s).run) (with_operand v s) = record { apart = x.1.1.apart; run = x.1.1.run; callers = x.1.1.callers } in
+        let b : BuildsBy t (heads_of p) few x.0.sigs (of_wait t (heads_of p) (with_operand v s).run) (with_operand v s) = record { apart = x.1.1.apart; run = x.1.1.run; callers = x.1.1.callers } in
         (y.0, subst (λ gs. Runs_by gs given (with_operand v s)) (sym y.1) (record { frames = x.1.0.frames; stack = (x.1.0.stack.0, x.1.0.stack.1, x.1.0.stack.2) }, rest_left t (heads_of p) few x.0.sigs given (with_operand v s) b, x.1.2))
 
     member : (given : List Ty) (m : Option Members) (o : ℕ) (s : State) → MembersBy P (home.Object o) m → S given s → S given (entered m o s)

@@ -35,7 +35,7 @@ module _ (t : Table) (heads : ℕ → ℕ → Bool) (few : Few) (kinds : List Si
     pub purpose : (q : Routine) → slice_get source.routines r ≡ Some q → q.purpose ≡ Builder
     pub plain : t.mutex i ≡ false
     pub makes : (q : Routine) → slice_get source.routines r ≡ Some q → (m : ℕ) → IsField t i m →
-        heads i m ≡ true → InHead t (t.routine r).params i m q.body ⊎ IsUnbound t (t.fields i m)
+        heads i m ≡ true → InHead t heads (t.routine r).params i m q.body ⊎ IsUnbound t (t.fields i m)
     pub object : (q : Routine) → slice_get source.routines r ≡ Some q →
         top (drop q.params s.run.operands) ≡ variable s.env.exec s.run.frame k
     pub given : (q : Routine) → slice_get source.routines r ≡ Some q → (j : ℕ) (b : Ty) →

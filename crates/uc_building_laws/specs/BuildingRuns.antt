@@ -74,7 +74,7 @@ pub record LawHeads : Type 0 where
   pub binds : (p : Program) → IsFormed p → breaks_of p ≡ [] → (r d : ℕ) (x : ArePaired p r d) →
       (q : Routine) → slice_get (source_of p).routines r ≡ Some q → (i : ℕ) →
       heads_of p x.class i ≡ true →
-      InHead (table_of p) ((table_of p).routine r).params x.class i q.body ⊎ IsUnbound (table_of p) ((table_of p).fields x.class i)
+      InHead (table_of p) (heads_of p) ((table_of p).routine r).params x.class i q.body ⊎ IsUnbound (table_of p) ((table_of p).fields x.class i)
   pub given : (t : Table) (few : Few) (source : Source) → Sound t source → (s : State) (x : KnowsState t few [] s) →
       (r line : ℕ) (c : CleanUp) (rest : Stmts) (todo : List Todo) →
       (s.run.control ≡ CallOnNow r ∷ (DropNow ∷ (Within line ∷ (Rest (Scoped c rest) ∷ todo)))) ⊎

@@ -43,12 +43,12 @@ abbrev pub NotBack : Active → Type 0
 NotBack a = a.raised ≡ Some (reason.ReturnTo a.frame) → ⊥
 
 -- what is left to bind to an activation that runs, and to one that waits
-module _ (t : Table) (a : Active) (ps : List Ty) (c i : ℕ) (w : Value) (K : Ty → Value → Type 0) where
+module _ (t : Table) (heads : ℕ → ℕ → Bool) (a : Active) (ps : List Ty) (c i : ℕ) (w : Value) (K : Ty → Value → Type 0) where
   abbrev pub of_run : Type 0
-  of_run = Now t ps c i w K a.control a.operands × NotBack a
+  of_run = Now t heads ps c i w K a.control a.operands × NotBack a
 
   abbrev pub of_wait : Type 0
-  of_wait = Behind t ps c i a.control × NotBack a
+  of_wait = Behind t heads ps c i a.control × NotBack a
 
 -- the place of a variable in the frame of a depth
 abbrev pub variable : Exec → ℕ → ℕ → Value
@@ -94,7 +94,7 @@ module _ (t : Table) (heads : ℕ → ℕ → Bool) (few : Few) (kinds : List Si
 
   abbrev pub AllBuild : List (List Value) → List Active → Type 0
   AllBuild fs [] = Unit {0}
-  AllBuild fs (a ∷ older) = Builds (of_wait t a) fs a.frame a.this older × AllBuild fs older
+  AllBuild fs (a ∷ older) = Builds (of_wait t heads a) fs a.frame a.this older × AllBuild fs older
 
 -- an activation with this frame shares it with none of these that has it as its own and is left as a whole by an unwinding, as a constructor is
 abbrev pub IsApart : ℕ → List Active → Type 0
@@ -120,7 +120,7 @@ module _ (t : Table) (heads : ℕ → ℕ → Bool) (few : Few) where
   -- an execution of this name that does not run, by the kinds of its frames
   pub record BuildsEx (n : Exec) (kinds : List Sig) (x : Execution (List Todo) Value) : Type 0 where
     pub apart : AllApart (x.run ∷ x.callers)
-    pub run : Builds t heads few kinds n (of_run t x.run) x.frames x.run.frame x.run.this x.callers
+    pub run : Builds t heads few kinds n (of_run t heads x.run) x.frames x.run.frame x.run.this x.callers
     pub callers : AllBuild t heads few kinds n x.frames x.callers
 
 module _ (t : Table) (heads : ℕ → ℕ → Bool) (few : Few) (kinds : List Sig) where
@@ -135,12 +135,12 @@ module _ (t : Table) (heads : ℕ → ℕ → Bool) (few : Few) (kinds : List Si
   Stands s = Nears (λ c todo. (k i : ℕ) → CleansAt t (Obj i) (Variable k) c → IsBuilt t heads few kinds s.env.exec s.env.frames s.run.frame (variable s.env.exec s.run.frame k) i (AtScope t few kinds s.env.exec s.run.frame s.run.this s.callers c todo)) s.run.control
 
   pub record BuildsState (s : State) : Type 0 where
-    pub builds : BuildsBy (of_run t s.run) s
+    pub builds : BuildsBy (of_run t heads s.run) s
     pub stands : Stands s
 
   -- one that has asked, or may be sliced: nothing is being bound
   pub record BuildsRest (s : State) : Type 0 where
-    pub builds : BuildsBy (of_wait t s.run) s
+    pub builds : BuildsBy (of_wait t heads s.run) s
     pub stands : Stands s
 
   -- nobody goes on behind an end and behind a fault
@@ -151,7 +151,7 @@ module _ (t : Table) (heads : ℕ → ℕ → Bool) (few : Few) (kinds : List Si
 
   -- one that has asked this
   pub record BuildsAsk (r : Request) (s : State) : Type 0 where
-    pub builds : BuildsBy (of_wait t s.run) s
+    pub builds : BuildsBy (of_wait t heads s.run) s
     pub stands : StandsBehind r s
 
   abbrev pub BuildsStep : Step → Type 0
@@ -160,9 +160,9 @@ module _ (t : Table) (heads : ℕ → ℕ → Bool) (few : Few) (kinds : List Si
   BuildsStep (Asks r s) = BuildsAsk r s
 
 -- what is left to bind to an activation that is to be given these operands
-abbrev pub Left : Table → List Ty → Active → List Ty → ℕ → ℕ → Value → (Ty → Value → Type 0) → Type 0
-Left t [] a = of_run t a
-Left t (b ∷ given) a = of_wait t a
+abbrev pub Left : Table → (ℕ → ℕ → Bool) → List Ty → Active → List Ty → ℕ → ℕ → Value → (Ty → Value → Type 0) → Type 0
+Left t heads [] a = of_run t heads a
+Left t heads (b ∷ given) a = of_wait t heads a
 
 module _ (t : Table) (heads : ℕ → ℕ → Bool) (few : Few) where
   -- that is claimed of executions by their kinds, beside what variables in scope hold
@@ -173,4 +173,4 @@ module _ (t : Table) (heads : ℕ → ℕ → Bool) (few : Few) where
   -- are built
   abbrev pub BuiltState : List Ty → State → Type 0
   BuiltState given s = (x : ClaimsState t few Built given s) ×
-      (Lives t few s.env.exec x.sigs (stopped s) × BuildsBy t heads few x.sigs (Left t given s.run) s × Stands t heads few x.sigs s)
+      (Lives t few s.env.exec x.sigs (stopped s) × BuildsBy t heads few x.sigs (Left t heads given s.run) s × Stands t heads few x.sigs s)

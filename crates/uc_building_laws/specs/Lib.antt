@@ -5,4 +5,5 @@ pub mod BuildingRuns
 pub mod BuiltRuns
 pub mod BuiltEndings
 pub mod BuiltLasting
+pub mod BuiltReads
 pub mod Awaiting

@@ -5,6 +5,7 @@ ghost use Rattle.uc_building_laws.specs.BuildingLaws.{LawClears, LawKept, LawSte
 ghost use Rattle.uc_building_laws.specs.BuildingRuns.{LawBuilt, LawHeads};
 ghost use Rattle.uc_building_laws.specs.BuiltEndings.{LawBuiltEndings};
 ghost use Rattle.uc_building_laws.specs.BuiltLasting.{LawBuiltLasting};
+ghost use Rattle.uc_building_laws.specs.BuiltReads.{LawBuiltReads};
 ghost use Rattle.uc_building_laws.specs.BuiltRuns.{LawBuiltRuns};
 
 /// Of an object whose scope opens behind its constructor, each field in which something is bound holds
@@ -64,4 +65,10 @@ pub fn law_built_lasting()
 /// known, and what the next step reads of bindings is of its type. What binds leaves what it is to leave.
 pub fn law_built_runs()
     ensures { LawBuiltRuns }
+{}
+
+/// In the constructor of an object that is a variable what a field is bound to of which it is told is known
+/// where it is read, once no statement is left that may bind it: so such a step finds what it is to find.
+pub fn law_built_reads()
+    ensures { LawBuiltReads }
 {}

@@ -10,10 +10,11 @@ use Rattle.uc_machine.specs.Pieces.{Link, Value, Number, Place, Running, Object,
 use Rattle.uc_machine.specs.Quiet.{call_frame}
 use Rattle.uc_life_laws.proofs.HomedCells.{set_length}
 use Rattle.uc_cell_laws.specs.Sites.{Telling}
+use Rattle.uc_cell_laws.specs.CellTodos.{Mark, Any}
 use Rattle.uc_cell_laws.specs.CellStates.{IsOwnCell, IsFree, Cells, AllCells, IsRooted, IsOf, AllWait}
 
 -- of a cell that is written, and of all others
-cell_tested : (P : Value → Type 0) (f : Value → Value) (vs : List Value) (j k : ℕ) → (j ≡ k → P (slice_index_or vs j nought) → P (f (slice_index_or vs j nought))) → P (slice_index_or vs j nought) → P (slice_index_or (value_changed k f nought vs) j nought)
+pub cell_tested : (P : Value → Type 0) (f : Value → Value) (vs : List Value) (j k : ℕ) → (j ≡ k → P (slice_index_or vs j nought) → P (f (slice_index_or vs j nought))) → P (slice_index_or vs j nought) → P (slice_index_or (value_changed k f nought vs) j nought)
 cell_tested P f [] j k g h = h
 cell_tested P f (x ∷ vs) zero zero g h = g refl h
 cell_tested P f (x ∷ vs) zero (suc k) g h = h
@@ -36,7 +37,7 @@ cell_anew P z (x ∷ vs) zero (suc k) n h = h
 cell_anew P z (x ∷ vs) (suc j) (suc k) n h = cell_anew P z vs j k n h
 
 -- so many numbers, and what lies in front of them
-zeros_hold : (P : Value → Type 0) → P nought → (k j : ℕ) → P (slice_index_or (replicate k nought) j nought)
+pub zeros_hold : (P : Value → Type 0) → P nought → (k j : ℕ) → P (slice_index_or (replicate k nought) j nought)
 zeros_hold P z zero j = z
 zeros_hold P z (suc k) zero = z
 zeros_hold P z (suc k) (suc j) = zeros_hold P z k j
@@ -79,6 +80,22 @@ shallower (q ∷ rs) d r l e =
 pub newest : (rs : List ℕ) (q d : ℕ) → d ≡ length rs → at_depth (q ∷ rs) d ≡ Some q
 newest rs q d e = ap (λ (b : Bool). if b then Some q else at_depth rs d) (eq-eqb d (length rs) e)
 
+-- what may stand in own cells
+
+module _ (tg : Telling) where
+  pub number_free : (q : Value) (c : ℕ) (z : ℤ) → IsFree tg q c (Number z)
+  number_free q c z = λ o e. absurd (cc)
+
+  pub running_free : (q : Value) (c : ℕ) (x : Exec) → IsFree tg q c (Running x)
+  running_free q c x = λ o e. absurd (cc)
+
+  pub free_stored : (q : Value) (c : ℕ) (w x : Value) → IsFree tg q c w → IsFree tg q c x → IsFree tg q c (stored w x)
+  free_stored q c w (Number z) a b = a
+  free_stored q c w (Place o p) a b = b
+  free_stored q c w (Running e) a b = b
+  free_stored q c w (Object o) a b = b
+  free_stored q c w Nothing a b = a
+
 module _ (tg : Telling) (n : Exec) where
   pub rooted_newer : (rs : List ℕ) (r level wide q : ℕ) (v : Value) → level ≤ wide → IsRooted tg n rs level q v → IsRooted tg n (r ∷ rs) wide q v
   rooted_newer rs r level wide q v l (inl h) = inl h
@@ -92,8 +109,8 @@ module _ (tg : Telling) (n : Exec) where
   rooted_older rs level q v l (inl h) = inl h
   rooted_older rs level q v l (inr h) = let k = h.2 in inr (h.0, h.1, h.2, shallower rs h.0 h.1 (omega (arith, k, l)) h.3, h.4)
 
-  pub one_newer : (many : ℕ) (rs : List ℕ) (r level : ℕ) (a : Active) → IsOf tg n many rs level a → IsOf tg n many (r ∷ rs) level a
-  one_newer many rs r level a h = record {
+  pub one_newer : (given : List Mark) (rs : List ℕ) (r level : ℕ) (a : Active) → IsOf tg n given rs level a → IsOf tg n given (r ∷ rs) level a
+  one_newer given rs r level a h = record {
     routine = h.routine;
     frame = deeper rs r a.frame h.routine h.frame;
     low = h.low;
@@ -105,7 +122,7 @@ module _ (tg : Telling) (n : Exec) where
 
   pub all_newer : (rs : List ℕ) (r : ℕ) (cs : List Active) → AllWait tg n rs cs → AllWait tg n (r ∷ rs) cs
   all_newer rs r [] h = tt
-  all_newer rs r (a ∷ older) h = (one_newer 1 rs r (length older) a h.0, all_newer rs r older h.1)
+  all_newer rs r (a ∷ older) h = (one_newer (Any ∷ []) rs r (length older) a h.0, all_newer rs r older h.1)
 
   pub all_older : (rs : List ℕ) (cs : List Active) → length cs ≤ length (others rs) → AllWait tg n rs cs → AllWait tg n (others rs) cs
   all_older rs [] l h = tt
@@ -125,38 +142,25 @@ module _ (tg : Telling) (n : Exec) where
 
   -- cells
 
-  pub number_free : (q : Value) (z : ℤ) → IsFree tg n q (Number z)
-  number_free q z = λ o e. absurd (cc)
-
-  pub running_free : (q : Value) (x : Exec) → IsFree tg n q (Running x)
-  running_free q x = λ o e. absurd (cc)
-
-  free_stored : (q w x : Value) → IsFree tg n q w → IsFree tg n q x → IsFree tg n q (stored w x)
-  free_stored q w (Number z) a b = a
-  free_stored q w (Place o p) a b = b
-  free_stored q w (Running e) a b = b
-  free_stored q w (Object o) a b = b
-  free_stored q w Nothing a b = a
-
-  pub cells_written : (r d cell : ℕ) (w : Value) (vs : List Value) → ((x : List Link) → IsOwnCell tg r (Frame n d) x → address x < LAST_ADDRESS → address x ≡ cell → IsFree tg n (Place (Frame n d) x) w) → Cells tg n r d vs → Cells tg n r d (value_changed cell (stored w) nought vs)
-  cells_written r d cell w vs f h = λ x o l.
-      cell_tested (IsFree tg n (Place (Frame n d) x)) (stored w) vs (address x) cell (λ e b. free_stored (Place (Frame n d) x) w (slice_index_or vs (address x) nought) (f x o l e) b) (h x o l)
+  pub cells_written : (r d cell : ℕ) (w : Value) (vs : List Value) → ((x : List Link) (c : ℕ) → IsOwnCell tg r (Frame n d) x c → address x < LAST_ADDRESS → address x ≡ cell → IsFree tg (Place (Frame n d) x) c w) → Cells tg n r d vs → Cells tg n r d (value_changed cell (stored w) nought vs)
+  cells_written r d cell w vs f h = λ x c o l.
+      cell_tested (IsFree tg (Place (Frame n d) x) c) (stored w) vs (address x) cell (λ e b. free_stored tg (Place (Frame n d) x) c w (slice_index_or vs (address x) nought) (f x c o l e) b) (h x c o l)
 
   pub cells_anew : (r d k m : ℕ) (vs : List Value) → Cells tg n r d vs → Cells tg n r d (values_cleared k m nought vs)
-  cells_anew r d k m vs h = λ x o l. cell_anew (IsFree tg n (Place (Frame n d) x)) (number_free (Place (Frame n d) x) _) vs (address x) k m (h x o l)
+  cells_anew r d k m vs h = λ x c o l. cell_anew (IsFree tg (Place (Frame n d) x) c) (number_free tg (Place (Frame n d) x) c _) vs (address x) k m (h x c o l)
 
   pub cells_zero : (r d k : ℕ) → Cells tg n r d (replicate k nought)
-  cells_zero r d k = λ x o l. zeros_hold (IsFree tg n (Place (Frame n d) x)) (number_free (Place (Frame n d) x) _) k (address x)
+  cells_zero r d k = λ x c o l. zeros_hold (IsFree tg (Place (Frame n d) x) c) (number_free tg (Place (Frame n d) x) c _) k (address x)
 
   pub cells_none : (r d : ℕ) → Cells tg n r d []
-  cells_none r d = λ x o l. number_free (Place (Frame n d) x) _
+  cells_none r d = λ x c o l. number_free tg (Place (Frame n d) x) c _
 
   -- own cells of a routine lie behind its parameters
-  pub cells_called : (r d : ℕ) (q : Routine) (vs : List Value) → ((x : List Link) → IsOwnCell tg r (Frame n d) x → address x < LAST_ADDRESS → q.params ≤ address x) → Cells tg n r d (call_frame q vs)
-  cells_called r d q vs f = λ x o l.
-      let k = f x o l in
-      let P : Value → Type 0 = IsFree tg n (Place (Frame n d) x) in
-      behind_operands P q.params 0 vs (replicate (q.cells - q.params) nought) (λ j m. zeros_hold P (number_free (Place (Frame n d) x) _) (q.cells - q.params) j) (address x) (omega (arith, k))
+  pub cells_called : (r d : ℕ) (q : Routine) (vs : List Value) → ((x : List Link) (c : ℕ) → IsOwnCell tg r (Frame n d) x c → address x < LAST_ADDRESS → q.params ≤ address x) → Cells tg n r d (call_frame q vs)
+  cells_called r d q vs f = λ x c o l.
+      let k = f x c o l in
+      let P : Value → Type 0 = IsFree tg (Place (Frame n d) x) c in
+      behind_operands P q.params 0 vs (replicate (q.cells - q.params) nought) (λ j m. zeros_hold P (number_free tg (Place (Frame n d) x) c _) (q.cells - q.params) j) (address x) (omega (arith, k))
 
   -- frames
 

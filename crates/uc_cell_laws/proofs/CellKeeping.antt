@@ -1,5 +1,5 @@
--- What own cells of frames hold goes on where members, executions and who runs change.
-use Rattle.std.proofs.Common.{◌≡◌, ℕ, ℤ, Bool, length, ap, ◌∙◌, true, false, List, Option, Some, None, refl, sym, subst}
+-- What own cells of frames and of mutex objects hold goes on where members, executions and who runs change.
+use Rattle.std.proofs.Common.{◌≡◌, ℕ, ℤ, Bool, length, ap, ◌∙◌, true, false, List, [], Option, Some, None, refl, sym, subst}
 use Rattle.std.specs.Prelude.{if◌then◌else◌}
 use Rattle.uc_entry.specs.declared.fault.RunFault.TheVariants.{ResumeInUse, SwitchInUnwind}
 use Rattle.uc_entry.specs.Keyed.{find}
@@ -21,12 +21,14 @@ use Rattle.uc_life_laws.proofs.HomedCells.{either, set_length}
 use Rattle.uc_life_laws.proofs.Parked as parked
 use Rattle.uc_life_laws.proofs.Parked.{Ex, at_home}
 use Rattle.uc_cell_laws.specs.Sites.{Telling}
-use Rattle.uc_cell_laws.specs.CellStates.{IsFree, AllCells, IsOf, AllWait, CellEx, CellEnv, CellRest, CellState, OwnerFits, Fits}
+use Rattle.uc_cell_laws.specs.CellTodos.{Mark}
+use Rattle.uc_cell_laws.specs.CellStates.{IsFree, HandCells, AllCells, IsOf, AllWait, CellEx, CellEnv, CellRest, CellState, OwnerFits, Fits}
 use Rattle.uc_cell_laws.proofs.CellFrames.{cells_written, all_changed, number_free}
+use Rattle.uc_cell_laws.proofs.CellFields.{KeepsFields, fields_written, same_values, change_env, slot_env}
 
 module _ (tg : Telling) where
   pub like : {e f : Env} → CellEnv tg e → f.hand ≡ e.hand → f.house ≡ e.house → f.own ≡ e.own → CellEnv tg f
-  like s h g o = parked.like (CellEx tg) s h g o
+  like s h g o = record { rests = parked.like (CellEx tg) s.rests h g o; fields = subst (HandCells tg) (sym h) s.fields }
 
   -- a task changes, but who runs stays; its frames hold what they held, if they are of routines of these numbers, and so do all of executions that do not run
   pub record Keeps (rs : List ℕ) (e f : Env) : Type 0 where
@@ -50,8 +52,8 @@ module _ (tg : Telling) where
   pub keeps_like : {rs : List ℕ} {e f : Env} → CellEnv tg e → f.exec ≡ e.exec → f.frames ≡ e.frames → f.hand ≡ e.hand → f.house ≡ e.house → f.own ≡ e.own → Keeps rs e f
   keeps_like s x q h g o = keeps_frames x q (like s h g o)
 
-  keeps_change : {rs : List ℕ} (h : Home) (f : Members → Members) (e : Env) → parked.KeepsParked (CellEx tg) h f → CellEnv tg e → Keeps rs e (change h f e)
-  keeps_change h f e k s = keeps_frames (parked.change_exec h f e) (parked.change_frames h f e) (parked.change_rests (CellEx tg) h f e k s)
+  keeps_change : {rs : List ℕ} (h : Home) (f : Members → Members) (e : Env) → parked.KeepsParked (CellEx tg) h f → KeepsFields tg h f → CellEnv tg e → Keeps rs e (change h f e)
+  keeps_change h f e k v s = keeps_frames (parked.change_exec h f e) (parked.change_frames h f e) (change_env tg h f e k v s)
 
   -- writes
 
@@ -63,19 +65,23 @@ module _ (tg : Telling) where
   frames_kept h n f (Some x) m same r s =
       parked.update_parked (CellEx tg) h n (Some (record x { frames = f x.frames })) m.parked (record { routines = r.routines; frames = (same (at_home h n) r.routines x.frames).0 ∙ r.frames; cells = (same (at_home h n) r.routines x.frames).1 r.cells; run = r.run; callers = r.callers }) s
 
+  frames_values : (n : ℕ) (f : List (List Value) → List (List Value)) (o : Option Ex) (m : Members) → (frames_by n f o m).values ≡ m.values
+  frames_values n f None m = refl
+  frames_values n f (Some x) m = refl
+
   with_frames_keeps : {rs : List ℕ} (n : Exec) (f : List (List Value) → List (List Value)) (e : Env) → KeepsFrames f → CellEnv tg e → Keeps rs e (with_frames n f e)
   with_frames_keeps {rs} n f e same s =
-      either (Keeps rs e) (exec_eq n e.exec) (record e { frames = f e.frames }) (change n.home (frames_changed n.serial f) e) (record { exec = refl; frames = (same e.exec rs e.frames).0; cells = (same e.exec rs e.frames).1; env = like s refl refl refl }) (keeps_change n.home (frames_changed n.serial f) e (λ m h. frames_kept n.home n.serial f (joined (find n.serial m.parked)) m same (parked.found_parked (CellEx tg) n.home n.serial m.parked h) h) s)
+      either (Keeps rs e) (exec_eq n e.exec) (record e { frames = f e.frames }) (change n.home (frames_changed n.serial f) e) (record { exec = refl; frames = (same e.exec rs e.frames).0; cells = (same e.exec rs e.frames).1; env = like s refl refl refl }) (keeps_change n.home (frames_changed n.serial f) e (λ m h. frames_kept n.home n.serial f (joined (find n.serial m.parked)) m same (parked.found_parked (CellEx tg) n.home n.serial m.parked h) h) (same_values tg n.home (frames_changed n.serial f) (λ m. frames_values n.serial f (joined (find n.serial m.parked)) m)) s)
 
   -- a value that is no object is written anywhere
 
   abbrev IsNone : Value → Type 0
-  IsNone w = (n : Exec) (q : Value) → IsFree tg n q w
+  IsNone w = (q : Value) (c : ℕ) → IsFree tg q c w
 
   none_keeps : {rs : List ℕ} (o : Owner) (k : ℕ) (w : Value) (e : Env) → IsNone w → CellEnv tg e → Keeps rs e (with_owned o (value_changed k (stored w) nought) e)
   none_keeps (Frame n d) k w e a s =
-      with_frames_keeps n (frame_changed d (value_changed k (stored w) nought)) e (λ n rs fs. (set_length fs d (value_changed k (stored w) nought (list_in (at_depth fs d))), λ h. all_changed tg n d (value_changed k (stored w) nought) rs fs (λ r i vs c. cells_written tg n r d k w vs (λ x o l q. a n (Place (Frame n d) x)) c) h)) s
-  none_keeps (Fields o) k w e a s = keeps_change (home.Object o) _ e (λ m h. h) s
+      with_frames_keeps n (frame_changed d (value_changed k (stored w) nought)) e (λ n rs fs. (set_length fs d (value_changed k (stored w) nought (list_in (at_depth fs d))), λ h. all_changed tg n d (value_changed k (stored w) nought) rs fs (λ r i vs c. cells_written tg n r d k w vs (λ x i o l q. a (Place (Frame n d) x) i) c) h)) s
+  none_keeps (Fields o) k w e a s = keeps_change (home.Object o) (λ m. record m { values = value_changed k (stored w) nought m.values }) e (λ m h. h) (λ m h. fields_written tg o k w m.values (λ x c i l q. a (Place (Fields o) x) c) h) s
 
   pub written_none : {rs : List ℕ} (v w : Value) (e : Env) → IsNone w → CellEnv tg e → Keeps rs e (written v w e)
   written_none (Number n) w e a s = keeps_like s refl refl refl refl refl
@@ -85,7 +91,7 @@ module _ (tg : Telling) where
   written_none Nothing w e a s = keeps_like s refl refl refl refl refl
 
   pub written_number : {rs : List ℕ} (v : Value) (z : ℤ) (e : Env) → CellEnv tg e → Keeps rs e (written v (Number z) e)
-  written_number v z e s = written_none v (Number z) e (λ n q. number_free tg n q z) s
+  written_number v z e s = written_none v (Number z) e (λ q c. number_free tg q c z) s
 
   -- a value is written that fits there
 
@@ -100,32 +106,36 @@ module _ (tg : Telling) where
 
   owner_fits : {rs : List ℕ} (o : Owner) (k : ℕ) (w : Value) (e : Env) → OwnerFits tg rs o k w e → CellEnv tg e → Keeps rs e (with_owned o (value_changed k (stored w) nought) e)
   owner_fits (Frame n d) k w e a s = fits_at n d k w e a s
-  owner_fits (Fields o) k w e a s = keeps_change (home.Object o) _ e (λ m h. h) s
+  owner_fits (Fields o) k w e a s = keeps_change (home.Object o) (λ m. record m { values = value_changed k (stored w) nought m.values }) e (λ m h. h) (λ m h. fields_written tg o k w m.values a h) s
 
   pub written_fits : {rs : List ℕ} (v w : Value) (e : Env) → Fits tg rs v w e → CellEnv tg e → Keeps rs e (written v w e)
   written_fits (Number n) w e a s = keeps_like s refl refl refl refl refl
   written_fits (Place o p) w e a s = owner_fits o (address p) w e a s
   written_fits (Running x) w e a s = keeps_like s refl refl refl refl refl
-  written_fits (Object o) w e a s = keeps_change (home.Object o) _ e (λ m h. h) s
+  written_fits (Object o) w e a s = owner_fits (Fields o) 0 w e a s
   written_fits Nothing w e a s = keeps_like s refl refl refl refl refl
 
   -- executions are made and go, and their links change
 
   -- whatever the name of one that is made
   pub born_keeps : {rs : List ℕ} (h : Home) (x : Ex) (e : Env) → ((n : Exec) → CellEx tg n x) → CellEnv tg e → Keeps rs e (sw.born h x e)
-  born_keeps h x e r s = keeps_change h (sw.one_more x) e (λ m p. parked.more_parked (CellEx tg) h m.serial x m.parked (r (at_home h m.serial)) p) s
+  born_keeps h x e r s = keeps_change h (sw.one_more x) e (λ m p. parked.more_parked (CellEx tg) h m.serial x m.parked (r (at_home h m.serial)) p) (same_values tg h (sw.one_more x) (λ m. refl)) s
 
   pub forgotten_keeps : {rs : List ℕ} (o : Option Exec) (e : Env) → CellEnv tg e → Keeps rs e (sw.forgotten o e)
   forgotten_keeps None e s = keeps_like s refl refl refl refl refl
-  forgotten_keeps (Some n) e s = keeps_change n.home (sw.slot_gone n.serial) e (λ m h. parked.without_parked (CellEx tg) n.home n.serial m.parked h) s
+  forgotten_keeps (Some n) e s = keeps_change n.home (sw.slot_gone n.serial) e (λ m h. parked.without_parked (CellEx tg) n.home n.serial m.parked h) (same_values tg n.home (sw.slot_gone n.serial) (λ m. refl)) s
 
   links_kept : (h : Home) (g : Links → Links) (n : ℕ) (o : Option Ex) (m : Members) → SlotBy (CellEx tg) (at_home h n) o → ParkedBy (CellEx tg) h m.parked → ParkedBy (CellEx tg) h (sw.links_by g n o m).parked
   links_kept h g n None m r s = s
   links_kept h g n (Some x) m r s = parked.update_parked (CellEx tg) h n (Some (record x { links = g x.links })) m.parked (record { routines = r.routines; frames = r.frames; cells = r.cells; run = r.run; callers = r.callers }) s
 
+  links_values : (g : Links → Links) (n : ℕ) (o : Option Ex) (m : Members) → (sw.links_by g n o m).values ≡ m.values
+  links_values g n None m = refl
+  links_values g n (Some x) m = refl
+
   pub links_keeps : {rs : List ℕ} (g : Links → Links) (n : Exec) (e : Env) → CellEnv tg e → Keeps rs e (sw.with_links g n e)
   links_keeps {rs} g n e s =
-      either (Keeps rs e) (exec_eq n e.exec) (record e { links = g e.links }) (change n.home (sw.links_changed g n.serial) e) (keeps_like s refl refl refl refl refl) (keeps_change n.home (sw.links_changed g n.serial) e (λ m h. links_kept n.home g n.serial (joined (find n.serial m.parked)) m (parked.found_parked (CellEx tg) n.home n.serial m.parked h) h) s)
+      either (Keeps rs e) (exec_eq n e.exec) (record e { links = g e.links }) (change n.home (sw.links_changed g n.serial) e) (keeps_like s refl refl refl refl refl) (keeps_change n.home (sw.links_changed g n.serial) e (λ m h. links_kept n.home g n.serial (joined (find n.serial m.parked)) m (parked.found_parked (CellEx tg) n.home n.serial m.parked h) h) (same_values tg n.home (sw.links_changed g n.serial) (λ m. links_values g n.serial (joined (find n.serial m.parked)) m)) s)
 
   pub enlivened_keeps : {rs : List ℕ} (o : Option Exec) (e : Env) → CellEnv tg e → Keeps rs e (sw.enlivened o e)
   enlivened_keeps None e s = keeps_like s refl refl refl refl refl
@@ -149,7 +159,7 @@ module _ (tg : Telling) where
     cells = r.cells;
     run = r.run;
     callers = r.callers;
-    env = like (parked.slot_rests (CellEx tg) s.env.exec (Some (sw.stopped s)) (sw.set_slot n None s.env) (record { routines = h.routines; frames = h.frames; cells = h.cells; run = h.run; callers = h.callers }) (parked.slot_rests (CellEx tg) n None s.env tt h.env)) refl refl refl;
+    env = like (slot_env tg s.env.exec (Some (sw.stopped s)) (sw.set_slot n None s.env) (record { routines = h.routines; frames = h.frames; cells = h.cells; run = h.run; callers = h.callers }) (slot_env tg n None s.env tt h.env)) refl refl refl;
   }
 
   able_stage : (g : Stage) (n : Exec) (x : Ex) → CellEx tg n x → LifeNext (sw.able_at g n x)
@@ -163,7 +173,7 @@ module _ (tg : Telling) where
 
   able_rests : (o : Option Exec) (e : Env) → CellEnv tg e → LifeNext (sw.able o e)
   able_rests None e s = tt
-  able_rests (Some n) e s = able_slot n (parked_at n e) (parked.parked_rests (CellEx tg) n e s)
+  able_rests (Some n) e s = able_slot n (parked_at n e) (parked.parked_rests (CellEx tg) n e s.rests)
 
   or_rests : (a b : Option (Exec × Ex)) → LifeNext a → LifeNext b → LifeNext (sw.or_else a b)
   or_rests None b h k = k
@@ -184,7 +194,7 @@ module _ (tg : Telling) where
 
   wake_one_rests : (o : Option Exec) (s : State) → CellState tg s → LifeMoved (sw.wake_one o s)
   wake_one_rests None s h = tt
-  wake_one_rests (Some n) s h = either LifeMoved (exec_eq n s.env.exec) (Stops ResumeInUse) (sw.wake_by n (parked_at n s.env) s) tt (wake_slot n (parked_at n s.env) s (parked.parked_rests (CellEx tg) n s.env h.env) h)
+  wake_one_rests (Some n) s h = either LifeMoved (exec_eq n s.env.exec) (Stops ResumeInUse) (sw.wake_by n (parked_at n s.env) s) tt (wake_slot n (parked_at n s.env) s (parked.parked_rests (CellEx tg) n s.env h.env.rests) h)
 
   pub wake_rests : (o : Option Exec) (s : State) → CellState tg s → LifeMoved (sw.wake o s)
   wake_rests o s h = either LifeMoved (sw.in_destruction s.env) (Stops SwitchInUnwind) (sw.wake_one o s) tt (wake_one_rests o s h)
@@ -220,18 +230,18 @@ module _ (tg : Telling) where
   taken_down_rests s h = go_on_rests (sw.able s.env.links.destroyer s.env) (sw.ended s) (able_rests s.env.links.destroyer s.env h.env) (ended_rests s h)
 
   -- the same running execution, in a task that has changed
-  pub with_env : {e : Env} (many : ℕ) (s : State) (h : CellRest tg many s) → Keeps h.routines s.env e → CellRest tg many (record s { env = e })
-  with_env {e} many s h k = record {
+  pub with_env : {e : Env} (given : List Mark) (s : State) (h : CellRest tg given s) → Keeps h.routines s.env e → CellRest tg given (record s { env = e })
+  with_env {e} given s h k = record {
     routines = h.routines;
     frames = k.frames ∙ h.frames;
     cells = subst (λ n. AllCells tg n h.routines e.frames) (sym k.exec) (k.cells h.cells);
-    run = subst (λ n. IsOf tg n many h.routines (length s.callers) s.run) (sym k.exec) h.run;
+    run = subst (λ n. IsOf tg n given h.routines (length s.callers) s.run) (sym k.exec) h.run;
     callers = subst (λ n. AllWait tg n h.routines s.callers) (sym k.exec) h.callers;
     env = k.env;
   }
 
   over_rests : (n : Exec) (s : State) → CellState tg s → CellState tg (sw.over n s)
-  over_rests n s h = with_env 0 s h (links_keeps (λ l. record l { live = false; stage = Ended }) n s.env h.env)
+  over_rests n s h = with_env [] s h (links_keeps (λ l. record l { live = false; stage = Ended }) n s.env h.env)
 
   take_down_stage : (g : Stage) (n : Exec) (x : Ex) (s : State) → CellEx tg n x → CellState tg s → LifeMoved (sw.take_down_at g n x s)
   take_down_stage Fresh n x s r h = over_rests n s h
@@ -244,4 +254,4 @@ module _ (tg : Telling) where
 
   pub take_down_rests : (o : Option Exec) (s : State) → CellState tg s → LifeMoved (sw.take_down o s)
   take_down_rests None s h = h
-  take_down_rests (Some n) s h = take_down_slot n (parked_at n s.env) s (parked.parked_rests (CellEx tg) n s.env h.env) h
+  take_down_rests (Some n) s h = take_down_slot n (parked_at n s.env) s (parked.parked_rests (CellEx tg) n s.env h.env.rests) h

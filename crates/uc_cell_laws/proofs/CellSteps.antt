@@ -1,6 +1,6 @@
--- A quiet step of a task in which the own cells of frames hold no object or what is at home there leads to one.
+-- A quiet step of a task in which the own cells of frames and of mutex objects hold no object or what is at home there leads to one.
 use Rattle.std.proofs.Common.{◌≡◌, ℕ, ℤ, pos, negsuc, zero, suc, ◌≤◌, ◌<◌, ◌⊎◌, inl, inr, ◌++◌, Bool, true, false, List, [], ◌∷◌, length, drop, Option, Some, None, refl, arith, ap, ◌∙◌, subst, sym}
-use Rattle.std.specs.Prelude.{nat_eq, nat_lt, if◌then◌else◌}
+use Rattle.std.specs.Prelude.{nat_eq, nat_lt, slice_set, if◌then◌else◌}
 use Rattle.std.proofs.lemmas.Bool.{ltb-true}
 use Rattle.uc_tree.specs.declared.limits.TheConstants.{CALLS, PENDING_EVENTS}
 use Rattle.uc_tree.specs.Source as src
@@ -26,19 +26,21 @@ use Rattle.uc_machine.specs.Monitors as monitors
 use Rattle.uc_machine.specs.Polls as polls
 use Rattle.uc_machine.specs.Quiet as quiet
 use Rattle.uc_machine.specs.Pieces as piece
-use Rattle.uc_machine.specs.Pieces.{Link, Value, Number, Object, Nothing, LAST_ADDRESS, Todo, Sort, Active, State, Env, Step, Asks, Outcome, Gives, Faults, at, in_env, fault, top, below, number, nought, address, written}
+use Rattle.uc_machine.specs.Pieces.{Link, Value, Number, Object, Nothing, LAST_ADDRESS, loaded, Todo, Sort, Active, State, Env, Step, Asks, Outcome, Gives, Faults, at, in_env, fault, top, below, number, nought, address, written}
 use Rattle.uc_typing.specs.Typing.{Ty, Cell, Obj, Row}
 use Rattle.uc_state_laws.specs.Counted.{params_at, params, count, CountedExpr}
 use Rattle.uc_state_laws.proofs.ValueSteps.{exec_same}
+use Rattle.uc_life_laws.specs.HomedStates.{Inside, all_of_it}
 use Rattle.uc_life_laws.specs.LifeStates.{frame_at}
 use Rattle.uc_life_laws.proofs.HomedCells.{either, set_length, others_length}
-use Rattle.uc_cell_laws.specs.Sites.{Telling, IsNoMaker, CallsMutex, EndsAt, SitedExpr}
-use Rattle.uc_cell_laws.specs.CellTodos.{Around, around, Mark, Any, Sited, Lent, rest, rests, anys, FirstSited, FirstRow, FirstBound, Meets, Holds, Finding, CodeExpr, CodeClean, CodeStmt, CodeStmts, CodeHandlers, CallFits, MakeFits, LeftBy, Ok, Left}
-use Rattle.uc_cell_laws.specs.CellStates.{IsOwnCell, AllCells, IsRooted, IsOf, AllWait, CellEx, CellRest, CellState, CellStep, Fits, FindsNumber}
+use Rattle.uc_cell_laws.specs.Sites.{Telling, IsNoMaker, SitedExpr}
+use Rattle.uc_cell_laws.specs.CellTodos.{Around, around, Mark, Any, Sited, Lent, Classed, mark_of, made_mark, rest, rests, anys, FirstSited, FirstClassed, FirstCell, FirstRow, FirstBound, Meets, Holds, Finding, CodeExpr, CodeClean, CodeStmt, CodeStmts, CodeHandlers, CallFits, BindFits, LeftBy, Ok, Left}
+use Rattle.uc_cell_laws.specs.CellStates.{IsOwnCell, IsFree, AllCells, IsRooted, IsOf, AllWait, CellEx, CellRest, CellState, CellStep, Fits, FindsNumber}
 use Rattle.uc_cell_laws.proofs.CellMarks as marks
 use Rattle.uc_cell_laws.proofs.CellMarks.{holds_below, holds_drop, bound_under}
 use Rattle.uc_cell_laws.proofs.CellLists as todos
 use Rattle.uc_cell_laws.proofs.CellFrames.{newest, deeper, all_newer, all_older, all_others, all_changed, cells_anew, cells_none, cells_zero, cells_called, lengths, running_free, rooted_newer, rooted_wider}
+use Rattle.uc_cell_laws.proofs.CellFields.{part_read}
 use Rattle.uc_cell_laws.proofs.CellPlaces.{MayWrite, variable_meets, field_meets, lent_meets, element_meets, Lies, sited_lies, fits_home, fits_bound}
 use Rattle.uc_cell_laws.proofs.CellKeeping as kept
 use Rattle.uc_cell_laws.proofs.CellKeeping.{Keeps}
@@ -51,6 +53,9 @@ index_below n (pos i) j e = by (nat_lt i n) refl e
     by true q e = let l : i < n = ltb-true i n q in let same : i ≡ j = cc in omega (arith, l, same)
     by false q e = absurd (cc)
 index_below n (negsuc i) j e = absurd (cc)
+
+no_operand : (o : ℕ) → top [] ≡ Object o → ⊥
+no_operand o e = cc
 
 module _ (tg : Telling) where
   -- a handler that is found stands in code of the routine whose frame it uses, and has its object at hand
@@ -77,12 +82,12 @@ module _ (tg : Telling) where
   AllLeave n rs [] = Unit {0}
   AllLeave n rs (a ∷ older) = Leaves n rs (length older) a × AllLeave n rs older
 
-  leaving : (n : Exec) (many : ℕ) (rs : List ℕ) (level : ℕ) (a : Active) → IsOf tg n many rs level a → Leaves n rs level a
-  leaving n many rs level a h = record { routine = h.routine; frame = h.frame; low = h.low; this = h.this; left = marks.left tg h.routine (anys many h.marks) a.control h.ok }
+  leaving : (n : Exec) (given : List Mark) (rs : List ℕ) (level : ℕ) (a : Active) → IsOf tg n given rs level a → Leaves n rs level a
+  leaving n given rs level a h = record { routine = h.routine; frame = h.frame; low = h.low; this = h.this; left = marks.left tg h.routine (given ++ h.marks) a.control h.ok }
 
   all_leave : (n : Exec) (rs : List ℕ) (cs : List Active) → AllWait tg n rs cs → AllLeave n rs cs
   all_leave n rs [] h = tt
-  all_leave n rs (a ∷ older) h = (leaving n 1 rs (length older) a h.0, all_leave n rs older h.1)
+  all_leave n rs (a ∷ older) h = (leaving n (Any ∷ []) rs (length older) a h.0, all_leave n rs older h.1)
 
   found_or : (n : Exec) (rs : List ℕ) (level : ℕ) (o : Option Hit) (a : Active) (cs : List Active) (other : Option Found) → length cs ≤ level → (h : Leaves n rs (length cs) a) → todos.OfHit tg h.routine o → IsFound n rs level other → IsFound n rs level (raising.found_or o a cs other)
   found_or n rs level None a cs other l h k f = f
@@ -123,8 +128,8 @@ module _ (tg : Telling) where
     gone ms todo h = marks.left tg R ms todo h
 
     -- the running activation with something else to do, and other operands, where so many come in front of these
-    now : (many : ℕ) (b : Active) → b.frame ≡ s.run.frame → b.this ≡ s.run.this → (ns : List Mark) → Holds tg R (around s.env.exec b) ns b.operands → O (anys many ns) b.control → IsOf tg s.env.exec many st.routines (length s.callers) b
-    now many b e f ns k h = record {
+    now : (given : List Mark) (b : Active) → b.frame ≡ s.run.frame → b.this ≡ s.run.this → (ns : List Mark) → Holds tg R (around s.env.exec b) ns b.operands → O (given ++ ns) b.control → IsOf tg s.env.exec given st.routines (length s.callers) b
+    now given b e f ns k h = record {
       routine = R;
       frame = ap (at_depth st.routines) e ∙ st.run.frame;
       low = let low = st.run.low in omega (arith, low, e);
@@ -135,18 +140,18 @@ module _ (tg : Telling) where
     }
 
     -- it is told anew
-    pub told : (many : ℕ) (b : Active) → b.frame ≡ s.run.frame → b.this ≡ s.run.this → (ns : List Mark) → Holds tg R (around s.env.exec b) ns b.operands → O (anys many ns) b.control → CellRest tg many (record s { run = b })
-    told many b e f ns k h = record { routines = st.routines; frames = st.frames; cells = st.cells; run = now many b e f ns k h; callers = st.callers; env = st.env }
+    pub told : (given : List Mark) (b : Active) → b.frame ≡ s.run.frame → b.this ≡ s.run.this → (ns : List Mark) → Holds tg R (around s.env.exec b) ns b.operands → O (given ++ ns) b.control → CellRest tg given (record s { run = b })
+    told given b e f ns k h = record { routines = st.routines; frames = st.frames; cells = st.cells; run = now given b e f ns k h; callers = st.callers; env = st.env }
 
     -- of which nothing need be known
     pub told_anew : (b : Active) → b.frame ≡ s.run.frame → b.this ≡ s.run.this → O [] b.control → CellState tg (record s { run = b })
-    told_anew b e f h = told 0 b e f [] tt h
+    told_anew b e f h = told [] b e f [] tt h
 
-    pub finds : (many : ℕ) (ns : List Mark) (todo : List Todo) (vs : List Value) → H ns vs → O (anys many ns) todo → CellRest tg many (at todo vs s)
-    finds many ns todo vs k h = told many (record s.run { control = todo; operands = vs }) refl refl ns k h
+    pub finds : (given ns : List Mark) (todo : List Todo) (vs : List Value) → H ns vs → O (given ++ ns) todo → CellRest tg given (at todo vs s)
+    finds given ns todo vs k h = told given (record s.run { control = todo; operands = vs }) refl refl ns k h
 
     pub go : (ns : List Mark) (todo : List Todo) (vs : List Value) → H ns vs → O ns todo → CellState tg (at todo vs s)
-    go ns todo vs k h = finds 0 ns todo vs k h
+    go ns todo vs k h = finds [] ns todo vs k h
 
     -- with something to do before which nothing need be known
     pub anew : (todo : List Todo) (vs : List Value) → O [] todo → CellState tg (at todo vs s)
@@ -157,21 +162,21 @@ module _ (tg : Telling) where
     unwound todo vs h = anew (piece.Unwind ∷ todo) vs h
 
     -- and with another rest of the task
-    pub told_in : (many : ℕ) (b : Active) (e : Env) → b.frame ≡ s.run.frame → b.this ≡ s.run.this → (ns : List Mark) → Holds tg R (around s.env.exec b) ns b.operands → O (anys many ns) b.control → Keeps tg st.routines s.env e → CellRest tg many (record s { run = b; env = e })
-    told_in many b e x y ns k h i = record {
+    pub told_in : (given : List Mark) (b : Active) (e : Env) → b.frame ≡ s.run.frame → b.this ≡ s.run.this → (ns : List Mark) → Holds tg R (around s.env.exec b) ns b.operands → O (given ++ ns) b.control → Keeps tg st.routines s.env e → CellRest tg given (record s { run = b; env = e })
+    told_in given b e x y ns k h i = record {
       routines = st.routines;
       frames = i.frames ∙ st.frames;
       cells = subst (λ n. AllCells tg n st.routines e.frames) (sym i.exec) (i.cells st.cells);
-      run = subst (λ n. IsOf tg n many st.routines (length s.callers) b) (sym i.exec) (now many b x y ns k h);
+      run = subst (λ n. IsOf tg n given st.routines (length s.callers) b) (sym i.exec) (now given b x y ns k h);
       callers = subst (λ n. AllWait tg n st.routines s.callers) (sym i.exec) st.callers;
       env = i.env;
     }
 
-    pub rest_in : (many : ℕ) (ns : List Mark) (todo : List Todo) (vs : List Value) (e : Env) → H ns vs → O (anys many ns) todo → Keeps tg st.routines s.env e → CellRest tg many (at todo vs (in_env e s))
-    rest_in many ns todo vs e k h i = told_in many _ e refl refl ns k h i
+    pub rest_in : (given ns : List Mark) (todo : List Todo) (vs : List Value) (e : Env) → H ns vs → O (given ++ ns) todo → Keeps tg st.routines s.env e → CellRest tg given (at todo vs (in_env e s))
+    rest_in given ns todo vs e k h i = told_in given _ e refl refl ns k h i
 
     pub go_in : (ns : List Mark) (todo : List Todo) (vs : List Value) (e : Env) → H ns vs → O ns todo → Keeps tg st.routines s.env e → CellState tg (at todo vs (in_env e s))
-    go_in ns todo vs e k h i = rest_in 0 ns todo vs e k h i
+    go_in ns todo vs e k h i = rest_in [] ns todo vs e k h i
 
     -- nothing that is told of changes
     pub same : {e : Env} → e.exec ≡ s.env.exec → e.frames ≡ s.env.frames → e.hand ≡ s.env.hand → e.house ≡ s.env.house → e.own ≡ s.env.own → Keeps tg st.routines s.env e
@@ -218,7 +223,7 @@ module _ (tg : Telling) where
         all_older tg s.env.exec st.routines (a ∷ cs) (omega (arith, n, m)) h
 
     -- the one that waited goes on
-    behind_end : (b a : Active) (cs : List Active) → b.frame ≡ a.frame → b.this ≡ a.this → (h : IsOf tg s.env.exec 1 (others st.routines) (length cs) a) → (ns : List Mark) → Holds tg h.routine (around s.env.exec b) ns b.operands → Ok tg h.routine ns b.control → IsOf tg s.env.exec 0 (others st.routines) (length cs) b
+    behind_end : (b a : Active) (cs : List Active) → b.frame ≡ a.frame → b.this ≡ a.this → (h : IsOf tg s.env.exec (Any ∷ []) (others st.routines) (length cs) a) → (ns : List Mark) → Holds tg h.routine (around s.env.exec b) ns b.operands → Ok tg h.routine ns b.control → IsOf tg s.env.exec [] (others st.routines) (length cs) b
     behind_end b a cs e f h ns k o = record {
       routine = h.routine;
       frame = ap (at_depth (others st.routines)) e ∙ h.frame;
@@ -229,7 +234,7 @@ module _ (tg : Telling) where
       ok = o;
     }
 
-    left_of : (a : Active) (cs : List Active) (h : IsOf tg s.env.exec 1 (others st.routines) (length cs) a) → Ok tg h.routine [] (piece.Unwind ∷ a.control)
+    left_of : (a : Active) (cs : List Active) (h : IsOf tg s.env.exec (Any ∷ []) (others st.routines) (length cs) a) → Ok tg h.routine [] (piece.Unwind ∷ a.control)
     left_of a cs h = marks.left tg h.routine (Any ∷ h.marks) a.control h.ok
 
     pub returned : (given : Value) (cs : List Active) → length s.env.frames ≡ suc (length cs) → AllWait tg s.env.exec st.routines cs → CellStep tg (piece.return_step given cs s)
@@ -335,7 +340,7 @@ module _ (tg : Telling) where
           routines = st.routines;
           frames = set_length s.env.frames s.run.frame (values_cleared k m nought (frame_at s.run.frame s.env.frames)) ∙ st.frames;
           cells = all_changed tg s.env.exec s.run.frame (values_cleared k m nought) st.routines s.env.frames (λ r i vs c. cells_anew tg s.env.exec r s.run.frame k m vs c) st.cells;
-          run = now 0 _ refl refl ms q h;
+          run = now [] _ refl refl ms q h;
           callers = st.callers;
           env = kept.like tg st.env refl refl refl;
         })
@@ -366,7 +371,7 @@ module _ (tg : Telling) where
             holds = tt;
             ok = todos.handled tg f.routine x.handler [] f.code tt;
           };
-          callers = all_newer tg s.env.exec st.routines 0 (record s.run { control = piece.DropNow ∷ todo; operands = below (below (below s.run.operands)) } ∷ s.callers) (now 1 _ refl refl (rests 3 ms) (holds_below tg R here (rests 2 ms) _ (holds_below tg R here (rests 1 ms) _ (holds_below tg R here ms _ k))) (tt, h), st.callers);
+          callers = all_newer tg s.env.exec st.routines 0 (record s.run { control = piece.DropNow ∷ todo; operands = below (below (below s.run.operands)) } ∷ s.callers) (now (Any ∷ []) _ refl refl (rests 3 ms) (holds_below tg R here (rests 2 ms) _ (holds_below tg R here (rests 1 ms) _ (holds_below tg R here ms _ k))) (tt, h), st.callers);
           env = kept.like tg st.env refl refl refl;
         }
 
@@ -421,13 +426,13 @@ module _ (tg : Telling) where
     -- printing
 
     pub prints : (o : Option (List Piece)) (p : Piece) (todo : List Todo) (vs : List Value) → O [] todo → CellStep tg (piece.print_step o p todo vs s)
-    prints None p todo vs h = finds 0 [] todo vs tt h
+    prints None p todo vs h = finds [] [] todo vs tt h
     prints (Some ps) p todo vs h = go_in [] _ _ _ tt h (same refl refl refl refl refl)
 
     pub flushes : (o : Option (List Piece)) (todo : List Todo) (vs : List Value) → O [] todo → CellStep tg (piece.flush_step o todo vs s)
     flushes None todo vs h = anew _ _ h
     flushes (Some []) todo vs h = go_in [] _ _ _ tt h (same refl refl refl refl refl)
-    flushes (Some (p ∷ ps)) todo vs h = rest_in 0 [] todo vs _ tt h (same refl refl refl refl refl)
+    flushes (Some (p ∷ ps)) todo vs h = rest_in [] [] todo vs _ tt h (same refl refl refl refl refl)
 
     -- with what is known of the operands
     module _ (ms : List Mark) (holds : H ms s.run.operands) where
@@ -447,17 +452,19 @@ module _ (tg : Telling) where
       below_args n r a e = todos.under tg R (FirstSited a) n r (Sited a ∷ ms) e refl
 
       -- what calls a constructor or a destructor of a mutex class
-      mutex_fits : (r : ℕ) (ns : List Mark) → CallsMutex tg R r → CallFits tg R r ns
-      mutex_fits r ns (inl n) = inl n
-      mutex_fits r ns (inr c) = inr (c.0, c.1, inl c.2)
-
-      ends_mutex : (r : ℕ) (a : Expr) → EndsAt tg R r a → CallsMutex tg R r
-      ends_mutex r (src.Load p) h = h.0
-      ends_mutex r a h = absurd h
+      mutex_fits : (n r c : ℕ) → (tg.table.routine r).this ≡ Some c → tg.table.mutex c ≡ true → n ≡ params tg.source r → (ns : List Mark) → FirstClassed c ns → CallFits tg R r (anys n ns)
+      mutex_fits n r c this mutex e ns f = inr (c, this, inl (mutex, todos.under tg R (FirstClassed c) n r ns e f))
 
       -- the new object takes the place of its place below the arguments
-      made_on : (n r : ℕ) (m : Mark) (todo : List Todo) → n ≡ params tg.source r → O (Any ∷ ms) todo → O (Any ∷ rests (suc (params tg.source r)) (anys (params tg.source r) (Any ∷ rests (suc (params tg.source r)) (anys n (m ∷ ms))))) todo
-      made_on n r m todo e h = todos.called_on tg R (params tg.source r) r Any (rests (suc (params tg.source r)) (anys n (m ∷ ms))) todo refl (on n r m todo e h)
+      made_on : (n r : ℕ) (m k : Mark) (todo : List Todo) → n ≡ params tg.source r → O (Any ∷ ms) todo → O (Any ∷ rests (suc (params tg.source r)) (anys (params tg.source r) (k ∷ rests (suc (params tg.source r)) (anys n (m ∷ ms))))) todo
+      made_on n r m k todo e h = todos.called_on tg R (params tg.source r) r k (rests (suc (params tg.source r)) (anys n (m ∷ ms))) todo refl (on n r m todo e h)
+
+      -- which is known by its class
+      made_classed : (r c : ℕ) (ns : List Mark) → (tg.table.routine r).this ≡ Some c → FirstClassed c (made_mark tg R r ∷ ns)
+      made_classed r c ns e = subst (λ o. FirstClassed c (mark_of o ∷ ns)) (sym e) refl
+
+      made_fits : (r c : ℕ) (ns : List Mark) → (tg.table.routine r).this ≡ Some c → tg.table.mutex c ≡ true → CallFits tg R r (anys (params tg.source r) (made_mark tg R r ∷ ns))
+      made_fits r c ns this mutex = mutex_fits (params tg.source r) r c this mutex refl (made_mark tg R r ∷ ns) (made_classed r c ns this)
 
       object : (x : ObjectExpr) (todo : List Todo) → CountedExpr tg.source (src.OfObject x) → SitedExpr tg R (src.OfObject x) → O (Any ∷ ms) todo → CellStep tg (quiet.object_step x todo s)
       object src.This todo n q h = go (Any ∷ ms) _ _ (tt, holds) h
@@ -473,16 +480,28 @@ module _ (tg : Telling) where
       object (src.CallUnwritten r a) todo n (inr c, q) h =
           go ms _ _ holds ((n.0, q), inr (inl (Obj c.0, c.2, (inr (c.0, c.1, inr (below_args 0 r (Obj c.0) n.1)), on 0 r (Sited (Obj c.0)) todo n.1 h))))
       object (src.EnterOn m r a args) todo n q h = go ms _ _ holds ((n.0, q.1.0), inl ((n.1, q.1.1), (tt, (tt, (inl q.0, on (count args) r Any todo n.2 h)))))
-      object (src.EndOn r false a) todo n q h = go ms _ _ holds ((n.0, q.1), inl (tt, (mutex_fits r (Any ∷ ms) (ends_mutex r a q.0), on 0 r Any todo n.1 h)))
-      object (src.EndOn r true a) todo n q h = go ms _ _ holds ((n.0, q.1), inl (tt, (tt, (mutex_fits r (Any ∷ ms) (ends_mutex r a q.0), on 0 r Any todo n.1 h))))
+      object (src.EndOn r written (src.Load a)) todo n q h = ends written
+        where
+          c : ℕ
+          c = q.0.0
+
+          fits : CallFits tg R r (Classed c ∷ ms)
+          fits = mutex_fits 0 r c q.0.1 q.0.2 n.1 (Classed c ∷ ms) refl
+
+          ends : (written : Bool) → CellStep tg (quiet.object_step (src.EndOn r written (src.Load a)) todo s)
+          ends false = go ms _ _ holds ((n.0, q.1), inr (inr (inr (c, q.0.2, q.0.3, (tt, (fits, on 0 r (Classed c) todo n.1 h))))))
+          ends true = go ms _ _ holds ((n.0, q.1), inr (inr (inr (c, q.0.2, q.0.3, (tt, (tt, (fits, on 0 r (Classed c) todo n.1 h)))))))
+      object (src.EndOn r written a) todo n q h = absurd q.0
       object (src.Bind a b) todo n (inl p, q) h = go ms _ _ holds ((n.0, q.0), inr (inl (Cell p.0, p.2, ((n.1, q.1), inl (p.1, h)))))
-      object (src.Bind a b) todo n (inr l, q) h = go ms _ _ holds ((n.0, q.0), inr (inr (l, ((n.1, q.1), inl (tt, h)))))
+      object (src.Bind a b) todo n (inr l, q) h = go ms _ _ holds ((n.0, q.0), inr (inr (inl (l, ((n.1, q.1), inl (tt, h))))))
       object (src.MakeOn c r false a args) todo n q h =
-          let b = q.0.1 in
-          go ms _ _ holds ((n.0, q.1.0), inr (inl (Cell (Obj b.0), b.1, ((n.1, q.1.1), ((b.0, below_args (count args) r (Cell (Obj b.0)) n.2), (mutex_fits r (anys (params tg.source r) (Any ∷ rests (suc (params tg.source r)) (anys (count args) (Sited (Cell (Obj b.0)) ∷ ms)))) q.0.0, made_on (count args) r (Sited (Cell (Obj b.0))) todo n.2 h))))))
+          let b = q.0 in
+          let m : Mark = Sited (Cell (Obj b.0)) in
+          go ms _ _ holds ((n.0, q.1.0), inr (inl (Cell (Obj b.0), b.3, ((n.1, q.1.1), ((b.0, b.1, b.2, below_args (count args) r (Cell (Obj b.0)) n.2), (made_fits r b.0 (rests (suc (params tg.source r)) (anys (count args) (m ∷ ms))) b.1 b.2, made_on (count args) r m (made_mark tg R r) todo n.2 h))))))
       object (src.MakeOn c r true a args) todo n q h =
-          let b = q.0.1 in
-          go ms _ _ holds ((n.0, q.1.0), inr (inl (Cell (Obj b.0), b.1, ((n.1, q.1.1), (tt, ((b.0, below_args (count args) r (Cell (Obj b.0)) n.2), (mutex_fits r (anys (params tg.source r) (Any ∷ rests (suc (params tg.source r)) (anys (count args) (Sited (Cell (Obj b.0)) ∷ ms)))) q.0.0, made_on (count args) r (Sited (Cell (Obj b.0))) todo n.2 h)))))))
+          let b = q.0 in
+          let m : Mark = Sited (Cell (Obj b.0)) in
+          go ms _ _ holds ((n.0, q.1.0), inr (inl (Cell (Obj b.0), b.3, ((n.1, q.1.1), (tt, ((b.0, b.1, b.2, below_args (count args) r (Cell (Obj b.0)) n.2), (made_fits r b.0 (rests (suc (params tg.source r)) (anys (count args) (m ∷ ms))) b.1 b.2, made_on (count args) r m (made_mark tg R r) todo n.2 h)))))))
       object src.NewCluster todo n q h = go ms _ _ holds (tt, h)
       object (src.NewProcessor a) todo n q h = go ms _ _ holds ((n, q.1), inl (tt, h))
       object (src.EndCluster a) todo n q h = go ms _ _ holds ((n, q.1), inl (tt, h))
@@ -499,7 +518,7 @@ module _ (tg : Telling) where
       eval (src.Variable k) todo n q h = go (Any ∷ ms) _ _ (tt, holds) h
       eval (src.Element m k a i) todo n q h = go ms _ _ holds ((n.0, q.0), inl ((n.1, q.1), inl (inl h)))
       eval (src.Get k) todo n q h = go (Any ∷ ms) _ _ (tt, holds) h
-      eval (src.Load a) todo n q h = go ms _ _ holds ((n, q), inl (tt, h))
+      eval (src.Load a) todo n q h = go ms _ _ holds ((n, q), inl (inl h))
       eval (src.Negated a) todo n q h = go ms _ _ holds ((n, q), inl (tt, h))
       eval (src.Not a) todo n q h = go ms _ _ holds ((n, q), inl (tt, h))
       eval (src.AsCharacter a) todo n q h = go ms _ _ holds ((n, q), inl (tt, h))
@@ -510,10 +529,10 @@ module _ (tg : Telling) where
       eval (src.Set k a) todo n q h = go ms _ _ holds ((n, q), inl (tt, h))
       eval (src.Assign p a) todo n q h = go ms _ _ holds ((n.0, q.0), inl ((n.1, q.1), inl (tt, h)))
       eval (src.First a b) todo n q h = go ms _ _ holds ((n.0, q.0), inl ((n.1, q.1), inl (tt, h)))
-      eval (src.Update op k p a) todo n q h = go ms _ _ holds ((n.0, q.0), inl (tt, (tt, ((n.1, q.1), inl (tt, todos.converts tg R k (Any ∷ ms) _ (tt, h))))))
+      eval (src.Update op k p a) todo n q h = go ms _ _ holds ((n.0, q.0), inl (tt, inl ((n.1, q.1), inl (tt, todos.converts tg R k (Any ∷ ms) _ (tt, h)))))
       eval (src.StepBehind op k p) todo n q h =
-          go ms _ _ holds ((n, q), inl (tt, (tt, (tt, (tt, ((tt, tt), inl (tt, todos.converts tg R k (Any ∷ (Any ∷ (Any ∷ ms))) _ (tt, (tt, h)))))))))
-      eval src.Fail todo n q h = finds 1 ms todo _ holds h
+          go ms _ _ holds ((n, q), inl (tt, inl (tt, (tt, ((tt, tt), inl (tt, todos.converts tg R k (Any ∷ (Any ∷ (Any ∷ ms))) _ (tt, (tt, h))))))))
+      eval src.Fail todo n q h = finds (Any ∷ []) ms todo _ holds h
       eval (src.Call r args) todo n q h = go ms _ _ holds ((n.0, q.1), (tt, (tt, todos.called tg R args r ms todo n.1 h)))
       eval (src.OfObject x) todo n q h = object x todo n q h
 
@@ -521,10 +540,12 @@ module _ (tg : Telling) where
       finding : (e : Expr) (todo : List Todo) → CountedExpr tg.source e → SitedExpr tg R e → Finding tg R e (λ m. O (m ∷ ms) todo) → CellStep tg (quiet.eval_step e todo s)
       finding (src.Variable k) todo n q (inl h) = go (Sited h.0 ∷ ms) _ _ (variable_meets tg R here k h.0 h.1, holds) h.2
       finding (src.OfObject (src.OwnField k i)) todo n q (inl h) = go (Sited h.0 ∷ ms) _ _ (field_meets tg R here k i h.0 h.1, holds) h.2
-      finding (src.OfObject (src.OwnField k i)) todo n q (inr h) = go (Lent ∷ ms) _ _ (lent_meets tg R here k i h.0, holds) h.1
+      finding (src.OfObject (src.OwnField k i)) todo n q (inr (inl h)) = go (Lent ∷ ms) _ _ (lent_meets tg R here k i h.0, holds) h.1
       finding (src.Element m k a i) todo n q (inl h) = go ms _ _ holds ((n.0, q.0), inr (inl (Row m h.0, h.1.1, ((n.1, q.1), inl (inr (refl, h.1.0, h.2))))))
       finding e todo n q (inl h) = absurd h.1
-      finding e todo n q (inr h) = absurd h.0
+      finding (src.Load e) todo n q (inr (inr h)) = go ms _ _ holds ((n, q), inr (inl (Cell (Obj h.0), h.2, inr (h.1, h.3))))
+      finding e todo n q (inr (inl h)) = absurd h.0
+      finding e todo n q (inr (inr h)) = absurd h
 
       pub evals : (e : Expr) (todo : List Todo) → O ms (piece.Eval e ∷ todo) → CellStep tg (quiet.eval_step e todo s)
       evals e todo (n, inl h) = eval e todo n.0 n.1 h
@@ -545,6 +566,10 @@ module _ (tg : Telling) where
       wide_low : length s.callers ≤ length s.env.frames
       wide_low = let l = st.frames in omega (arith, l)
 
+      first_classed : (c : ℕ) (ns : List Mark) (vs : List Value) → FirstClassed c ns → H ns vs → Meets tg R here (Classed c) (top vs)
+      first_classed c (Classed d ∷ ns) vs e h = subst (λ z. Meets tg R here (Classed z) (top vs)) e h.0
+      first_classed c ns vs e h = absurd e
+
       first_sited : (a : Ty) (ns : List Mark) (vs : List Value) → FirstSited a ns → H ns vs → Meets tg R here (Sited a) (top vs)
       first_sited a (Sited b ∷ ns) vs e h = subst (λ z. Meets tg R here (Sited z) (top vs)) e h.0
       first_sited a ns vs e h = absurd e
@@ -557,17 +582,20 @@ module _ (tg : Telling) where
           v : Value
           v = top (drop (params tg.source q) s.run.operands)
 
-          by : (tg.table.mutex c.0 ≡ true) ⊎ FirstSited (Obj c.0) (rests (params tg.source q) ms) → IsRooted tg s.env.exec st.routines (length s.env.frames) q v
-          by (inl m) = inl (f c.0 c.1 m)
+          by : ((tg.table.mutex c.0 ≡ true) × FirstClassed c.0 (rests (params tg.source q) ms)) ⊎ FirstSited (Obj c.0) (rests (params tg.source q) ms) → IsRooted tg s.env.exec st.routines (length s.env.frames) q v
+          by (inl m) =
+              let o = f x c.0 c.1 m.0 in
+              let told = first_classed c.0 (rests (params tg.source q) ms) (drop (params tg.source q) s.run.operands) m.1 (dropped (params tg.source q)) o.0 o.1 in
+              inl (c.0, c.1, record { number = o.0; class = c.0; told = told; mutex = m.0; inside = subst (λ u. Inside tg.table tg.owns (Object o.0) (Obj c.0) u (Obj c.0)) (sym o.1) all_of_it })
           by (inr e) = lies (sited_lies tg s.env.exec st.routines (length s.env.frames) R s.run.frame (length s.callers) s.run.this running_low wide_low st.run.frame st.run.this v (Obj c.0) (first_sited (Obj c.0) (rests (params tg.source q) ms) (drop (params tg.source q) s.run.operands) e (dropped (params tg.source q))))
             where
               lies : Lies tg s.env.exec st.routines (length s.env.frames) v (Obj c.0) → IsRooted tg s.env.exec st.routines (length s.env.frames) q v
-              lies (inl u) = inl u
+              lies (inl u) = inl (c.0, c.1, u)
               lies (inr u) = inr (u.0, u.1, u.2, u.3, (c.0, c.1, u.4))
 
       abbrev pub Starts : ℕ → Option Routine → Type 0
       Starts n None = Unit {0}
-      Starts n (Some q) = CodeStmts tg n q.body × ((d : ℕ) (x : List Link) → IsOwnCell tg n (Frame s.env.exec d) x → address x < LAST_ADDRESS → q.params ≤ address x)
+      Starts n (Some q) = CodeStmts tg n q.body × ((d : ℕ) (x : List Link) (c : ℕ) → IsOwnCell tg n (Frame s.env.exec d) x c → address x < LAST_ADDRESS → q.params ≤ address x)
 
       begun : (n : ℕ) (q : Routine) (this : Value) (counts : Bool) (ns : List Mark) (todo : List Todo) (vs : List Value) → Starts n (Some q) → (tg.special n ≡ true → IsRooted tg s.env.exec st.routines (length s.env.frames) n this) → H ns vs → O (Any ∷ ns) todo → CellStep tg (quiet.begun_step q this counts todo vs s)
       begun n q this counts ns todo vs b f k h =
@@ -586,13 +614,13 @@ module _ (tg : Telling) where
               holds = tt;
               ok = todos.routine tg n q b.0;
             };
-            callers = all_newer tg s.env.exec st.routines n (record s.run { control = todo; operands = vs } ∷ s.callers) (now 1 _ refl refl ns k h, st.callers);
+            callers = all_newer tg s.env.exec st.routines n (record s.run { control = todo; operands = vs } ∷ s.callers) (now (Any ∷ []) _ refl refl ns k h, st.callers);
             env = kept.like tg st.env refl refl refl;
           }
 
-      pub call : (n : ℕ) (x : Option Routine) (todo : List Todo) → Starts n x → O (Any ∷ rests (params_at x) ms) todo → CellStep tg (quiet.call_step x todo s)
-      call n None todo b h = ends _ _
-      call n (Some x) todo b h = either (CellStep tg) (nat_lt s.env.links.calls CALLS) _ _ (begun n x _ true (rests x.params ms) todo _ b (λ i. inl refl) (dropped x.params) h) (stop Depth todo _)
+      pub call : (n : ℕ) (x : Option Routine) (todo : List Todo) → Starts n x → IsNoMaker tg n → O (Any ∷ rests (params_at x) ms) todo → CellStep tg (quiet.call_step x todo s)
+      call n None todo b free h = ends _ _
+      call n (Some x) todo b free h = either (CellStep tg) (nat_lt s.env.links.calls CALLS) _ _ (begun n x _ true (rests x.params ms) todo _ b (λ i. absurd (free i)) (dropped x.params) h) (stop Depth todo _)
 
       pub call_on : (n : ℕ) (x : Option Routine) (todo : List Todo) → Starts n x → (tg.special n ≡ true → IsRooted tg s.env.exec st.routines (length s.env.frames) n (top (drop (params_at x) s.run.operands))) → O (Any ∷ rests (suc (params_at x)) ms) todo → CellStep tg (quiet.call_on_step x todo s)
       call_on n None todo b f h = ends _ _
@@ -617,7 +645,7 @@ module _ (tg : Telling) where
           let c = quiet.home_at s.run.this s.env in
           let x = quiet.fresh q s.run.this in
           let i : Keeps tg st.routines s.env (sw.born c x s.env) = kept.born_keeps tg c x s.env (λ m. fresh m k q s.run.this b.0 free) st.env in
-          go_in [] todo _ _ tt h (kept.keeps_both tg i (kept.written_none tg s.run.this _ (sw.born c x s.env) (λ m p. running_free tg m p _) i.env))
+          go_in [] todo _ _ tt h (kept.keeps_both tg i (kept.written_none tg s.run.this _ (sw.born c x s.env) (λ p k. running_free tg p k _) i.env))
 
       -- mutex objects
 
@@ -626,7 +654,7 @@ module _ (tg : Telling) where
 
       enter_at : (d : Option ℕ) (o m : ℕ) (todo : List Todo) → O ms todo → CellStep tg (monitors.enter_at d o m todo s)
       enter_at (Some d) o m todo h = go_in ms _ _ _ holds h (same refl refl refl refl refl)
-      enter_at None o m todo h = rest_in 0 ms todo _ _ holds h (same refl refl refl refl refl)
+      enter_at None o m todo h = rest_in [] ms todo _ _ holds h (same refl refl refl refl refl)
 
       pub enter : (m : ℕ) (q : Option Routine) (todo : List Todo) → O ms todo → CellStep tg (monitors.enter_step m q todo s)
       enter m None todo h = ends _ _
@@ -637,24 +665,28 @@ module _ (tg : Telling) where
       pub leave : (b : Bool) (o : ℕ) (todo : List Todo) → O ms todo → CellStep tg (monitors.leave_at b o todo s)
       leave false o todo h = go_in ms _ _ _ holds h (same refl refl refl refl refl)
       leave true o todo h =
-          unless o _ todo (told_in 0 _ _ refl refl ms holds (todos.polled tg R s.run.raised ms todo h) (same refl refl refl refl refl))
+          unless o _ todo (told_in [] _ _ refl refl ms holds (todos.polled tg R s.run.raised ms todo h) (same refl refl refl refl refl))
 
       pub make : (c k : ℕ) (q : Option Routine) (todo : List Todo) → O ms (piece.MakeNow c k ∷ todo) → CellStep tg (monitors.make_step c k q todo s)
       make c k None todo h = ends _ _
       make c k (Some q) todo h =
-          either (CellStep tg) (monitors.may_call q.written s) _ _ (rest_in 1 ms (piece.BindMadeNow c k ∷ todo) _ _ holds h (same refl refl refl refl refl)) (stop Depth todo _)
+          either (CellStep tg) (monitors.may_call q.written s) _ _ (rest_in (made_mark tg R k ∷ []) ms (piece.BindMadeNow c k ∷ todo) _ _ holds ((h.0.0, h.0.1, h.0.2, made_classed k h.0.0 ms h.0.1, h.0.3), h.1) (same refl refl refl refl refl)) (stop Depth todo _)
 
       module _ (may : MayWrite tg) where
-        -- what is bound is at home there
-        pub bind : (k : ℕ) (q : Option Routine) (todo : List Todo) → params_at q ≡ params tg.source k → MakeFits tg R (rests (params tg.source k) (rest ms)) → ((o : ℕ) → top s.run.operands ≡ Object o → tg.few.home o ≡ top (drop (params tg.source k) (below s.run.operands))) → O (anys (params tg.source k) (Any ∷ rests (suc (params tg.source k)) (rest ms))) todo → CellStep tg (monitors.bind_step q todo s)
+        -- what is bound is at home there, and of its class
+        pub bind : (k : ℕ) (q : Option Routine) (todo : List Todo) → params_at q ≡ params tg.source k → BindFits tg R k ms → ((o : ℕ) → top s.run.operands ≡ Object o → tg.few.home o ≡ top (drop (params tg.source k) (below s.run.operands))) → O (anys (params tg.source k) (made_mark tg R k ∷ rests (suc (params tg.source k)) (rest ms))) todo → CellStep tg (monitors.bind_step q todo s)
         bind k None todo e m f h = ends _ _
         bind k (Some q) todo e m f h =
             let vs = below s.run.operands in
             let w = top s.run.operands in
-            let there : Meets tg R here (Sited (Cell (Obj m.0))) (top (drop q.params vs)) = subst (λ z. Meets tg R here (Sited (Cell (Obj m.0))) (top (drop z vs))) (sym e) (first_sited (Cell (Obj m.0)) (rests (params tg.source k) (rest ms)) (drop (params tg.source k) vs) m.1 (holds_drop tg R here (params tg.source k) (rest ms) vs one)) in
-            let lies = sited_lies tg s.env.exec st.routines (length s.env.frames) R s.run.frame (length s.callers) s.run.this running_low wide_low st.run.frame st.run.this (top (drop q.params vs)) (Cell (Obj m.0)) there in
-            let fits : Fits tg st.routines (top (drop q.params vs)) w s.env = fits_home tg may s.env st.routines (length s.env.frames) (top (drop q.params vs)) w (Obj m.0) lies (λ o x. f o x ∙ ap (λ z. top (drop z vs)) (sym e)) in
-            go_in (anys q.params (Any ∷ rests (suc q.params) (rest ms))) todo _ _ (bound_under tg R here q.params w (rest ms) vs one) (subst (λ z. O (anys z (Any ∷ rests (suc z) (rest ms))) todo) (sym e) h) (kept.written_fits tg (top (drop q.params vs)) w s.env fits st.env)
+            let cell : Ty = Cell (Obj m.0) in
+            let there : Meets tg R here (Sited cell) (top (drop q.params vs)) = subst (λ z. Meets tg R here (Sited cell) (top (drop z vs))) (sym e) (first_sited cell (rests (params tg.source k) (rest ms)) (drop (params tg.source k) vs) m.4 (holds_drop tg R here (params tg.source k) (rest ms) vs one)) in
+            let told : Meets tg R here (Classed m.0) w = first_classed m.0 ms s.run.operands m.3 holds in
+            let lies = sited_lies tg s.env.exec st.routines (length s.env.frames) R s.run.frame (length s.callers) s.run.this running_low wide_low st.run.frame st.run.this (top (drop q.params vs)) cell there in
+            let free : IsFree tg (top (drop q.params vs)) m.0 w = λ o x. (f o x ∙ ap (λ z. top (drop z vs)) (sym e), told o x) in
+            let fits : Fits tg st.routines (top (drop q.params vs)) w s.env = fits_home tg may s.env st.routines (length s.env.frames) (top (drop q.params vs)) w m.0 lies free in
+            let mark : Meets tg R here (made_mark tg R k) (top (drop q.params (slice_set vs q.params w))) = subst (λ o. Meets tg R here (mark_of o) (top (drop q.params (slice_set vs q.params w)))) (sym m.1) (marks.set_operand (Meets tg R here (Classed m.0)) q.params w vs told (λ o x. absurd (no_operand o x))) in
+            go_in (anys q.params (made_mark tg R k ∷ rests (suc q.params) (rest ms))) todo _ _ (bound_under tg R here q.params (made_mark tg R k) w (rest ms) vs mark one) (subst (λ z. O (anys z (made_mark tg R k ∷ rests (suc z) (rest ms))) todo) (sym e) h) (kept.written_fits tg (top (drop q.params vs)) w s.env fits st.env)
 
         -- what is bound is no mutex object, or the place is a reference
         pub binding : (todo : List Todo) → FirstBound tg.table (rest ms) → O (Any ∷ rest (rest ms)) todo → CellStep tg (piece.goes todo (top s.run.operands ∷ below (below s.run.operands)) (in_env (written (top (below s.run.operands)) (top s.run.operands) s.env) s))
@@ -665,9 +697,21 @@ module _ (tg : Telling) where
             spread [] vs h = tt
             spread (m ∷ ns) vs h = h
 
+        -- of what is loaded from the place of a mutex object the class is told
+        pub load : (todo : List Todo) → O (Any ∷ rest ms) todo ⊎ FirstCell tg.table ms (λ m. O (m ∷ rest ms) todo) → CellState tg (at todo (loaded (top s.run.operands) s.env ∷ below s.run.operands) s)
+        load todo (inl h) = go (Any ∷ rest ms) todo _ (tt, one) h
+        load todo (inr h) = by ms holds one h
+          where
+            by : (ns : List Mark) → H ns s.run.operands → H (rest ns) (below s.run.operands) → FirstCell tg.table ns (λ m. O (m ∷ rest ns) todo) → CellState tg (at todo (loaded (top s.run.operands) s.env ∷ below s.run.operands) s)
+            by (Sited (Cell (Obj c)) ∷ ns) k l f =
+                let lies = sited_lies tg s.env.exec st.routines (length s.env.frames) R s.run.frame (length s.callers) s.run.this running_low wide_low st.run.frame st.run.this (top s.run.operands) (Cell (Obj c)) k.0 in
+                let free = part_read tg may s.env st.routines (length s.env.frames) st.cells st.env (top s.run.operands) c f.0 lies in
+                go (Classed c ∷ ns) todo _ ((λ o e. (free o e).1), l) f.1
+            by ns k l f = absurd f
+
       pub accept : (mask o site : ℕ) (todo : List Todo) (vs : List Value) → O [] todo → CellStep tg (monitors.accept_by mask o site todo vs s)
       accept zero o site todo vs h = anew _ _ h
-      accept (suc mask) o site todo vs h = unless o _ todo (finds 2 [] (piece.FailedNow ∷ (piece.PollNow ∷ todo)) vs tt (tt, (tt, h)))
+      accept (suc mask) o site todo vs h = unless o _ todo (finds (Any ∷ (Any ∷ [])) [] (piece.FailedNow ∷ (piece.PollNow ∷ todo)) vs tt (tt, (tt, h)))
 
       pub failed : (b : Bool) (todo : List Todo) (vs : List Value) → O [] todo → CellStep tg (monitors.failed_step b todo vs s)
       failed true todo vs h = anew _ _ h
@@ -684,7 +728,7 @@ module _ (tg : Telling) where
       pend_at (Some n) e todo vs h = either (CellStep tg) (sw.is_live (Some n) s.env) _ _ (pend n e todo vs h) (stop NotLive todo vs)
 
       pub raise_at : (v : Value) (e : Event) (todo : List Todo) (vs : List Value) → O [] todo → CellStep tg (polls.raise_at_step v e todo vs s)
-      raise_at (Object o) e todo vs h = finds 0 [] todo vs tt h
+      raise_at (Object o) e todo vs h = finds [] [] todo vs tt h
       raise_at v e todo vs h = pend_at (piece.exec_at v s.env) e todo vs h
 
       pub enables : (events cell : ℕ) (todo : List Todo) → O [] todo → CellStep tg (polls.enable_step events cell todo s)
@@ -697,7 +741,7 @@ module _ (tg : Telling) where
       quiet_poll (Some p) todo h = go_in (Any ∷ (Any ∷ (Any ∷ ms))) _ _ _ (tt, (tt, (tt, holds))) (tt, h) (same refl refl refl refl refl)
 
       poll_by : (b : Bool) (todo : List Todo) → O ms todo → CellStep tg (polls.poll_by b todo s)
-      poll_by true todo h = finds 3 ms (piece.DeliverNow ∷ todo) _ holds (tt, h)
+      poll_by true todo h = finds (Any ∷ (Any ∷ (Any ∷ []))) ms (piece.DeliverNow ∷ todo) _ holds (tt, h)
       poll_by false todo h = quiet_poll (inside.oldest_enabled s.env.links) todo h
 
       pub poll : (todo : List Todo) → O ms todo → CellStep tg (polls.poll_step todo s)

@@ -1,12 +1,13 @@
--- Every quiet step of a task in which the own cells of frames hold no object, or what is at home there, and answers to it.
+-- Every quiet step of a task in which the own cells of frames and of mutex objects hold no object, or what is at home there, and answers to it.
 use Rattle.std.proofs.Common.{◌≡◌, ℕ, inl, List, [], ◌∷◌, drop, Option, Some, None, refl, arith, subst}
 use Rattle.std.specs.Prelude.{nat_lt, slice_get}
 use Rattle.uc_tree.specs.Source as src
-use Rattle.uc_tree.specs.Source.{Routine, routine_or_none, routine_of}
+use Rattle.uc_tree.specs.Source.{Routine, routine_or_none, routine_of, cells_of_class}
 use Rattle.uc_entry.specs.declared.fault.RunFault.TheVariants.{NoReturn}
 use Rattle.uc_entry.specs.declared.request.Answer.{Answer}
 use Rattle.uc_entry.specs.declared.request.Answer.TheVariants as answer
-use Rattle.uc_machine.specs.declared.exec.Home.TheVariants as home
+use Rattle.uc_entry.specs.declared.request.Request.{Request}
+use Rattle.uc_entry.specs.declared.request.Request.TheVariants as ask
 use Rattle.uc_machine.specs.Raising as raising
 use Rattle.uc_machine.specs.Monitors as monitors
 use Rattle.uc_machine.specs.Quiet as quiet
@@ -14,13 +15,15 @@ use Rattle.uc_machine.specs.Quiet.{first_state}
 use Rattle.uc_machine.specs.Pieces as piece
 use Rattle.uc_machine.specs.Pieces.{Value, Todo, State, Members, at, top, below, number}
 use Rattle.uc_machine.specs.Answering.{answered, entered, new_members, with_operand}
-use Rattle.uc_answer_laws.specs.Suiting.{Form, AnObject, AClause, ANumber, AValue, AnEvent, JustGo, IsForm}
+use Rattle.uc_answer_laws.specs.Suiting.{Form, AnObject, AClause, ANumber, AValue, AnEvent, JustGo, IsForm, form_of_request}
+use Rattle.uc_state_laws.specs.Marked.{operands}
 use Rattle.uc_life_laws.proofs.HomedCells.{either}
 use Rattle.uc_life_laws.proofs.Parked as parked
 use Rattle.uc_cell_laws.specs.Sites.{Telling, IsNoMaker}
-use Rattle.uc_cell_laws.specs.CellTodos.{around, Mark, Any, Holds, rest, CodeExpr, CodeStmt, CodeRoutine, Ok}
-use Rattle.uc_cell_laws.specs.CellStates.{CellEx, CellMembers, CellRest, CellState, CellsFor, CellStep, FindsAt, CellFinds}
+use Rattle.uc_cell_laws.specs.CellTodos.{Around, around, Mark, Any, mark_of, asked_class, Meets, Holds, rest, anys, CodeExpr, CodeStmt, CodeRoutine, Ok}
+use Rattle.uc_cell_laws.specs.CellStates.{CellEx, CellMembers, CellRest, CellState, CellAsk, CellStep, TellsClass, FindsAt, CellFinds}
 use Rattle.uc_cell_laws.proofs.CellFrames.{cells_zero}
+use Rattle.uc_cell_laws.proofs.CellFields.{fields_zero, more_fields}
 use Rattle.uc_cell_laws.proofs.CellMarks.{holds_below}
 use Rattle.uc_cell_laws.proofs.CellLists as todos
 use Rattle.uc_cell_laws.proofs.CellPlaces.{MayWrite}
@@ -66,12 +69,12 @@ module _ (tg : Telling) (known : Known tg) (may : MayWrite tg) where
 
     starts : (r : ℕ) (q : Option Routine) → slice_get tg.source.routines r ≡ q → steps.Starts tg s st ms holds r q
     starts r None e = tt
-    starts r (Some q) e = (subst (CodeRoutine tg r) e (known r), λ d x i l. may.behind r q e s.env.exec d x i l)
+    starts r (Some q) e = (subst (CodeRoutine tg r) e (known r), λ d x i k l. may.behind r q e s.env.exec d x i k l)
 
     -- one piece, with what is to do behind it
     acts : (p : Todo) (todo : List Todo) → s.run.control ≡ p ∷ todo → Ok tg R ms (p ∷ todo) → CellStep tg (quiet.act tg.source p todo s)
     acts (piece.Eval a) todo c h = steps.evals tg s st ms holds a todo h
-    acts piece.LoadNow todo c h = go (Any ∷ rest ms) _ _ (tt, one) h.1
+    acts piece.LoadNow todo c h = steps.load tg s st ms holds may todo h
     acts (piece.ElementNow m k) todo c h = steps.element tg s st ms m k (top s.run.operands) (top (below s.run.operands)) (below (below s.run.operands)) todo (spread (rest ms) (below s.run.operands) one) h
     acts (piece.FieldNow k i) todo c h = go (Any ∷ rest ms) _ _ (tt, one) h.1
     acts piece.NegateNow todo c h = steps.outcome tg s st (rest ms) _ todo _ one h.1
@@ -93,7 +96,7 @@ module _ (tg : Telling) (known : Known tg) (may : MayWrite tg) where
     acts (piece.TurnNow o t e b) todo c h = anew _ _ (h.0.2, (h.0, h.1))
     acts (piece.Arguments src.NoExprs) todo c h = go ms _ _ holds h.1
     acts (piece.Arguments (src.MoreExprs e es)) todo c h = go ms _ _ holds ((h.0.0.0, h.0.1.0), inl ((h.0.0.1, h.0.1.1), h.1))
-    acts (piece.CallNow r) todo c h = steps.call tg s st ms holds r (slice_get tg.source.routines r) todo (starts r (slice_get tg.source.routines r) refl) h.1
+    acts (piece.CallNow r) todo c h = steps.call tg s st ms holds r (slice_get tg.source.routines r) todo (starts r (slice_get tg.source.routines r) refl) (subst (λ l. FindsAt tg l s) c finds) h.1
     acts (piece.CallOnNow r) todo c h = steps.call_on tg s st ms holds r (slice_get tg.source.routines r) todo (starts r (slice_get tg.source.routines r) refl) (steps.rooted tg s st ms holds r h.0 (subst (λ l. FindsAt tg l s) c finds)) h.1
     acts (piece.CallUnwrittenNow r) todo c h = steps.call_unwritten tg s st ms holds r (slice_get tg.source.routines r) todo (starts r (slice_get tg.source.routines r) refl) (steps.rooted tg s st ms holds r h.0 (subst (λ l. FindsAt tg l s) c finds)) h.1
     acts (piece.CountNow m) todo c h = steps.told_anew tg s st _ refl refl h.1
@@ -104,7 +107,7 @@ module _ (tg : Telling) (known : Known tg) (may : MayWrite tg) where
     acts (piece.TextNow k) todo c h = steps.prints tg s st s.env.gathered _ todo _ h.1
     acts piece.GatherNow todo c h = steps.go_in tg s st [] _ _ _ tt h.1 (steps.same tg s st refl refl refl refl refl)
     acts piece.FlushNow todo c h = steps.flushes tg s st s.env.gathered todo _ h.1
-    acts (piece.ReadNow f) todo c h = steps.finds tg s st 1 ms todo _ holds h.1
+    acts (piece.ReadNow f) todo c h = steps.finds tg s st (Any ∷ []) ms todo _ holds h.1
     acts (piece.ClearNow k m) todo c h = steps.clears tg s st ms k m todo holds h.1
     acts (piece.Items []) todo c h = anew _ _ h.1
     acts (piece.Items (i ∷ is)) todo c h = anew _ _ (todos.item tg R i is _ h.0 ((h.0.0.1, h.0.1.1), h.1))
@@ -142,21 +145,21 @@ module _ (tg : Telling) (known : Known tg) (may : MayWrite tg) where
     acts piece.LeaveNow todo c h = steps.leave tg s st ms holds _ (monitors.this_object s) todo h.1
     acts (piece.MakeNow k r) todo c h = steps.make tg s st ms holds k r (slice_get tg.source.routines r) todo h
     acts (piece.BindMadeNow k r) todo c h = steps.bind tg s st ms holds may r (slice_get tg.source.routines r) todo refl h.0 (subst (λ l. FindsAt tg l s) c finds) h.1
-    acts piece.MadeNow todo c h = steps.unless tg s st ms holds (monitors.this_object s) _ todo (steps.rest_in tg s st 0 [] todo _ _ tt h.1 (steps.same tg s st refl refl refl refl refl))
-    acts (piece.SpawnNow r) todo c h = steps.unless tg s st ms holds (monitors.this_object s) _ (piece.ChildNow r ∷ todo) (steps.rest_in tg s st 0 [] (piece.ChildNow r ∷ todo) _ _ tt (h.0, h.1) (steps.same tg s st refl refl refl refl refl))
+    acts piece.MadeNow todo c h = steps.unless tg s st ms holds (monitors.this_object s) _ todo (steps.rest_in tg s st [] [] todo _ _ tt h.1 (steps.same tg s st refl refl refl refl refl))
+    acts (piece.SpawnNow r) todo c h = steps.unless tg s st ms holds (monitors.this_object s) _ (piece.ChildNow r ∷ todo) (steps.rest_in tg s st [] [] (piece.ChildNow r ∷ todo) _ _ tt (h.0, h.1) (steps.same tg s st refl refl refl refl refl))
     acts (piece.ChildNow r) todo c h = anew _ _ h.1
-    acts piece.GoneNow todo c h = steps.rest_in tg s st 0 [] todo _ _ tt h.1 (steps.same tg s st refl refl refl refl refl)
-    acts piece.GiveUpNow todo c h = steps.rest_in tg s st 0 [] todo _ _ tt h.1 (steps.same tg s st refl refl refl refl refl)
-    acts piece.ClusterNow todo c h = steps.finds tg s st 1 ms todo _ holds h.1
-    acts piece.ProcessorNow todo c h = steps.finds tg s st 1 (rest ms) todo _ one h.1
-    acts piece.ClusterEndNow todo c h = steps.finds tg s st 0 (Any ∷ rest ms) todo _ (tt, one) h.1
-    acts piece.ProcessorEndNow todo c h = steps.finds tg s st 0 (Any ∷ rest ms) todo _ (tt, one) h.1
+    acts piece.GoneNow todo c h = steps.rest_in tg s st [] [] todo _ _ tt h.1 (steps.same tg s st refl refl refl refl refl)
+    acts piece.GiveUpNow todo c h = steps.rest_in tg s st [] [] todo _ _ tt h.1 (steps.same tg s st refl refl refl refl refl)
+    acts piece.ClusterNow todo c h = steps.finds tg s st (Any ∷ []) ms todo _ holds h.1
+    acts piece.ProcessorNow todo c h = steps.finds tg s st (Any ∷ []) (rest ms) todo _ one h.1
+    acts piece.ClusterEndNow todo c h = steps.finds tg s st [] (Any ∷ rest ms) todo _ (tt, one) h.1
+    acts piece.ProcessorEndNow todo c h = steps.finds tg s st [] (Any ∷ rest ms) todo _ (tt, one) h.1
     acts (piece.ConditionNow k m) todo c h = steps.condition tg s st (rest ms) k _ todo one h.1
-    acts piece.WaitNow todo c h = steps.unless tg s st ms holds (monitors.this_object s) _ todo (steps.finds tg s st 0 (Any ∷ rest (rest ms)) todo _ (tt, two) h.1)
-    acts piece.SignalNow todo c h = steps.finds tg s st 0 (Any ∷ rest ms) todo _ (tt, one) h.1
-    acts piece.SignalBlockNow todo c h = steps.unless tg s st ms holds (monitors.this_object s) _ todo (steps.finds tg s st 0 (Any ∷ rest ms) todo _ (tt, one) h.1)
-    acts piece.EmptyNow todo c h = steps.finds tg s st 1 (rest ms) todo _ one h.1
-    acts piece.FrontNow todo c h = steps.finds tg s st 1 (rest ms) todo _ one h.1
+    acts piece.WaitNow todo c h = steps.unless tg s st ms holds (monitors.this_object s) _ todo (steps.finds tg s st [] (Any ∷ rest (rest ms)) todo _ (tt, two) h.1)
+    acts piece.SignalNow todo c h = steps.finds tg s st [] (Any ∷ rest ms) todo _ (tt, one) h.1
+    acts piece.SignalBlockNow todo c h = steps.unless tg s st ms holds (monitors.this_object s) _ todo (steps.finds tg s st [] (Any ∷ rest ms) todo _ (tt, one) h.1)
+    acts piece.EmptyNow todo c h = steps.finds tg s st (Any ∷ []) (rest ms) todo _ one h.1
+    acts piece.FrontNow todo c h = steps.finds tg s st (Any ∷ []) (rest ms) todo _ one h.1
     acts piece.YieldNow todo c h = anew _ _ h.1
     acts piece.MigrateNow todo c h = anew _ _ h.1
     acts (piece.Guards src.NoClauses) todo c h = anew _ _ h.1
@@ -182,8 +185,8 @@ module _ (tg : Telling) (known : Known tg) (may : MayWrite tg) where
     stepped = walk s.run.control refl st.run.ok
 
   begins : (r o : ℕ) → IsNoMaker tg r → (q : Option Routine) → slice_get tg.source.routines r ≡ q → CellState tg (first_state (routine_or_none q) o)
-  begins r o none None e = record { routines = r ∷ []; frames = refl; cells = (cells_zero tg _ r 0 0, tt); run = record { routine = r; frame = refl; low = omega arith; this = λ x. absurd (none x); marks = []; holds = tt; ok = ((tt, tt), (tt, tt)) }; callers = tt; env = record { house = (tt, tt); hand = tt } }
-  begins r o none (Some q) e = record { routines = r ∷ []; frames = refl; cells = (cells_zero tg _ r 0 q.cells, tt); run = record { routine = r; frame = refl; low = omega arith; this = λ x. absurd (none x); marks = []; holds = tt; ok = todos.routine tg r q (subst (CodeRoutine tg r) e (known r)) }; callers = tt; env = record { house = (tt, tt); hand = tt } }
+  begins r o none None e = record { routines = r ∷ []; frames = refl; cells = (cells_zero tg _ r 0 0, tt); run = record { routine = r; frame = refl; low = omega arith; this = λ x. absurd (none x); marks = []; holds = tt; ok = ((tt, tt), (tt, tt)) }; callers = tt; env = record { rests = record { house = (tt, tt); hand = tt }; fields = tt } }
+  begins r o none (Some q) e = record { routines = r ∷ []; frames = refl; cells = (cells_zero tg _ r 0 q.cells, tt); run = record { routine = r; frame = refl; low = omega arith; this = λ x. absurd (none x); marks = []; holds = tt; ok = todos.routine tg r q (subst (CodeRoutine tg r) e (known r)) }; callers = tt; env = record { rests = record { house = (tt, tt); hand = tt }; fields = tt } }
 
   -- a task begins so
   pub first : (r o : ℕ) → IsNoMaker tg r → CellState tg (first_state (routine_of tg.source r) o)
@@ -191,26 +194,42 @@ module _ (tg : Telling) (known : Known tg) (may : MayWrite tg) where
 
 -- an answer of its form brings the operands that a state is to find, and at most an object in which nothing is to do
 
+object_same : (n o : ℕ) → piece.Object n ≡ piece.Object o → n ≡ o
+object_same n o e = cc
+
 module _ (tg : Telling) where
-  new_there : (h : ℕ) (todo : List Todo) → CellMembers tg (home.Object h) (new_members tg.source todo)
-  new_there h [] = tt
-  new_there h (piece.BindMadeNow c r ∷ todo) = tt
-  new_there h (p ∷ todo) = tt
+  new_there : (o : ℕ) (todo : List Todo) → CellMembers tg o (new_members tg.source todo)
+  new_there o [] = (tt, tt)
+  new_there o (piece.BindMadeNow c r ∷ todo) = (tt, fields_zero tg o (cells_of_class tg.source c))
+  new_there o (p ∷ todo) = (tt, tt)
 
   -- with operands more it goes on
-  found : (many : ℕ) (s : State) (vs : List Value) (x : CellRest tg many s) (ms : List Mark) → Holds tg x.run.routine (around s.env.exec s.run) ms vs → Ok tg x.run.routine ms s.run.control → CellState tg (record s { run = record s.run { operands = vs } })
-  found many s vs x ms h k = record { routines = x.routines; frames = x.frames; cells = x.cells; run = record { routine = x.run.routine; frame = x.run.frame; low = x.run.low; this = x.run.this; marks = ms; holds = h; ok = k }; callers = x.callers; env = x.env }
+  found : (given : List Mark) (s : State) (vs : List Value) (x : CellRest tg given s) (ms : List Mark) → Holds tg x.run.routine (around s.env.exec s.run) ms vs → Ok tg x.run.routine ms s.run.control → CellState tg (record s { run = record s.run { operands = vs } })
+  found given s vs x ms h k = record { routines = x.routines; frames = x.frames; cells = x.cells; run = record { routine = x.run.routine; frame = x.run.frame; low = x.run.low; this = x.run.this; marks = ms; holds = h; ok = k }; callers = x.callers; env = x.env }
 
-  entered_there : (m : Option Members) (o : ℕ) (s : State) → CellMembers tg (home.Object o) m → CellRest tg 1 s → CellState tg (with_operand (piece.Object o) (entered m o s))
-  entered_there None o s k x = found 1 s _ x (Any ∷ x.run.marks) (tt, x.run.holds) x.run.ok
-  entered_there (Some m) o s k x = found 1 (entered (Some m) o s) _ (record { routines = x.routines; frames = x.frames; cells = x.cells; run = x.run; callers = x.callers; env = record { house = x.env.house; hand = parked.more_hand (CellEx tg) s.env.hand o m k x.env.hand } }) (Any ∷ x.run.marks) (tt, x.run.holds) x.run.ok
+  -- an object that is given, of which this is known whatever the activation
+  entered_there : (k : Mark) (m : Option Members) (o : ℕ) (s : State) → CellMembers tg o m → ((r : ℕ) (A : Around) → Meets tg r A k (piece.Object o)) → CellRest tg (k ∷ []) s → CellState tg (with_operand (piece.Object o) (entered m o s))
+  entered_there k None o s i h x = found (k ∷ []) s _ x (k ∷ x.run.marks) (h x.run.routine (around s.env.exec s.run), x.run.holds) x.run.ok
+  entered_there k (Some m) o s i h x = found (k ∷ []) (entered (Some m) o s) _ (record { routines = x.routines; frames = x.frames; cells = x.cells; run = x.run; callers = x.callers; env = record { rests = record { house = x.env.rests.house; hand = parked.more_hand (CellEx tg) s.env.hand o m i.0 x.env.rests.hand }; fields = more_fields tg s.env.hand o m i.1 x.env.fields } }) (k ∷ x.run.marks) (h x.run.routine (around s.env.exec s.run), x.run.holds) x.run.ok
 
-  pub answered_there : (form : Form) (given : Answer) (s : State) → IsForm form given → CellsFor tg form s → CellState tg (answered tg.source given s)
-  answered_there AnObject (answer.Object o) s k x = entered_there (new_members tg.source s.run.control) o s (new_there o s.run.control) x
-  answered_there AClause (answer.Clause n failed) s k x = found 2 s _ x (Any ∷ (Any ∷ x.run.marks)) (tt, (tt, x.run.holds)) x.run.ok
-  answered_there ANumber (answer.Number n) s k x = found 1 s _ x (Any ∷ x.run.marks) (tt, x.run.holds) x.run.ok
-  answered_there AValue (answer.Value n failed) s k x = found 1 s _ x (Any ∷ x.run.marks) (tt, x.run.holds) x.run.ok
-  answered_there AnEvent (answer.Event n u v) s k x = found 3 s _ x (Any ∷ (Any ∷ (Any ∷ x.run.marks))) (tt, (tt, (tt, x.run.holds))) x.run.ok
-  answered_there AnEvent answer.Nothing s k x = found 3 s _ x (Any ∷ (Any ∷ (Any ∷ x.run.marks))) (tt, (tt, (tt, x.run.holds))) x.run.ok
-  answered_there JustGo answer.Go s k x = x
-  answered_there form given s k x = absurd k
+  -- of the class that was asked for
+  of_class : (c : Option ℕ) (o : ℕ) → tg.class o ≡ c → (r : ℕ) (A : Around) → Meets tg r A (mark_of c) (piece.Object o)
+  of_class None o e r A = tt
+  of_class (Some c) o e r A = λ n q. subst (λ k. tg.class k ≡ Some c) (object_same o n q) e
+
+  by_form : (form : Form) (given : Answer) (s : State) → IsForm form given → CellRest tg (anys (operands form) []) s → CellState tg (answered tg.source given s)
+  by_form AnObject (answer.Object o) s k x = entered_there Any (new_members tg.source s.run.control) o s (new_there o s.run.control) (λ r A. tt) x
+  by_form AClause (answer.Clause n failed) s k x = found (Any ∷ (Any ∷ [])) s _ x (Any ∷ (Any ∷ x.run.marks)) (tt, (tt, x.run.holds)) x.run.ok
+  by_form ANumber (answer.Number n) s k x = found (Any ∷ []) s _ x (Any ∷ x.run.marks) (tt, x.run.holds) x.run.ok
+  by_form AValue (answer.Value n failed) s k x = found (Any ∷ []) s _ x (Any ∷ x.run.marks) (tt, x.run.holds) x.run.ok
+  by_form AnEvent (answer.Event n u v) s k x = found (Any ∷ (Any ∷ (Any ∷ []))) s _ x (Any ∷ (Any ∷ (Any ∷ x.run.marks))) (tt, (tt, (tt, x.run.holds))) x.run.ok
+  by_form AnEvent answer.Nothing s k x = found (Any ∷ (Any ∷ (Any ∷ []))) s _ x (Any ∷ (Any ∷ (Any ∷ x.run.marks))) (tt, (tt, (tt, x.run.holds))) x.run.ok
+  by_form JustGo answer.Go s k x = x
+  by_form form given s k x = absurd k
+
+  pub answered_there : (r : Request) (given : Answer) (s : State) → IsForm (form_of_request r) given → TellsClass tg r given s → (r ≡ ask.End → ⊥) → ((n : ℕ) → r ≡ ask.Fault n → ⊥) → CellAsk tg r s → CellState tg (answered tg.source given s)
+  answered_there (ask.Make m) (answer.Object o) s k told e f x = entered_there (mark_of (asked_class tg.table s.run.control)) (new_members tg.source s.run.control) o s (new_there o s.run.control) (of_class (asked_class tg.table s.run.control) o told) x
+  answered_there (ask.Make m) given s k told e f x = absurd k
+  answered_there ask.End given s k told e f x = absurd (e refl)
+  answered_there (ask.Fault n) given s k told e f x = absurd (f n refl)
+  answered_there r given s k told e f x = by_form (form_of_request r) given s k x

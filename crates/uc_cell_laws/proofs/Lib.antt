@@ -6,6 +6,7 @@ pub mod CellMarks
 pub mod CellLists
 pub mod CellPlaces
 pub mod CellFrames
+pub mod CellFields
 pub mod CellKeeping
 pub mod CellSteps
 pub mod CellWalk

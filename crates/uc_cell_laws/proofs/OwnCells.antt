@@ -1,46 +1,50 @@
 -- The own cells of frames in steps and in runs of programs.
-use Rattle.std.proofs.Common.{◌≡◌, ℕ, ◌≤◌, ◌<◌, Bool, true, false, List, [], ◌∷◌, Option, Some, None, sym, ap, ◌∙◌, subst}
-use Rattle.std.specs.Prelude.{slice_get, slice_index_or, if◌then◌else◌}
+use Rattle.std.proofs.Common.{◌≡◌, ℕ, ◌≤◌, ◌<◌, inl, true, false, List, [], ◌∷◌, Option, Some, None, refl, sym, ap, ◌∙◌, subst}
+use Rattle.std.specs.Prelude.{slice_get}
 use Rattle.uc_tree.specs.Programs.{Program}
 use Rattle.uc_tree.specs.Source.{Routine}
 use Rattle.uc_machine.specs.declared.exec.Exec.{Exec}
-use Rattle.uc_machine.specs.Executions.{at_depth, list_in, frames_in, parked_at}
-use Rattle.uc_machine.specs.Pieces.{Link, Slot, FieldAt, At, Value, Place, Object, State, Env, LAST_ADDRESS, address, further, loaded, nought}
+use Rattle.uc_machine.specs.Executions.{at_depth}
+use Rattle.uc_machine.specs.Pieces.{Link, Slot, FieldAt, Value, Place, Object, Env, LAST_ADDRESS, address, further}
 use Rattle.uc_machine.specs.declared.exec.Owner.{Owner}
-use Rattle.uc_machine.specs.declared.exec.Owner.TheVariants.{Frame}
+use Rattle.uc_machine.specs.declared.exec.Owner.TheVariants.{Frame, Fields}
 use Rattle.uc_resolve.specs.Resolve.{source_of}
 use Rattle.uc_rules.specs.Breaks.{breaks_of}
-use Rattle.uc_typing.specs.Typing.{Ty, Cell, Obj, Table, element_shape}
+use Rattle.uc_typing.specs.Typing.{Ty, Cell, Obj, Table}
 use Rattle.uc_state_laws.proofs.ValueSteps.{exec_same}
 use Rattle.uc_tree.specs.Numbering.{sites_of}
 use Rattle.uc_sound.proofs.SoundLemmas.{law_sound}
 use Rattle.uc_site_laws.proofs.Routines.{source_named}
 use Rattle.uc_state_laws.specs.Counted.{CountedRoutine}
 use Rattle.uc_state_laws.proofs.Arguments.{counted_source}
+use Rattle.uc_state_laws.specs.Limits.{IsWithinLimits}
 use Rattle.uc_sound.specs.SoundFormed.{IsFormed}
 use Rattle.uc_sound.specs.Tables.{table_of}
 use Rattle.uc_sound.proofs.Lists.{left_is}
 use Rattle.uc_life_laws.specs.Things.{Few, IsField, IsMutex, Within, field}
-use Rattle.uc_life_laws.specs.HomedStates.{Owns, Inside, all_of_it, own_field, own_element}
+use Rattle.uc_life_laws.proofs.Laying.{laid_out}
+use Rattle.uc_life_laws.specs.HomedStates.{Inside}
 use Rattle.uc_cell_laws.specs.Places.{LiesInScope}
 use Rattle.uc_cell_laws.specs.Sites.{Telling, IsNoMaker, SitedRoutine, SitedSource}
 use Rattle.uc_cell_laws.specs.CellTodos.{IsOwnPart, CodeRoutine}
-use Rattle.uc_cell_laws.specs.CellStates.{IsOwnCell, Fits, CellState}
+use Rattle.uc_cell_laws.specs.CellStates.{IsOwnCell, IsFree, Fits}
+use Rattle.uc_cell_laws.specs.Classes.{class_of}
 use Rattle.uc_cell_laws.specs.OwnCells.{owns_of, is_of_objects, telling_of, LawFits, LawCells}
-use Rattle.uc_cell_laws.proofs.CellFrames.{cells_at}
-use Rattle.uc_cell_laws.proofs.CellPlaces.{MayWrite, inside_within, part_lies}
-use Rattle.uc_cell_laws.proofs.Offsets.{IsSpot, spots, last_links, before_last, not_root, one_type}
-use Rattle.uc_cell_laws.proofs.Variables.{same_scope, same_variable, law_variables, behind_params}
+use Rattle.uc_cell_laws.proofs.CellFields.{cell_read, field_read}
+use Rattle.uc_cell_laws.proofs.CellPlaces as places
+use Rattle.uc_cell_laws.proofs.CellPlaces.{MayWrite, own_last, part_lies}
+use Rattle.uc_cell_laws.proofs.Offsets.{law_places}
+use Rattle.uc_cell_laws.proofs.Variables.{same_scope, same_variable, law_variables, law_addresses, behind_params}
 use Rattle.uc_cell_laws.proofs.MainRoutine.{no_maker}
 use Rattle.uc_cell_laws.proofs.CellWalk as walks
 use Rattle.uc_cell_laws.proofs.CellWorlds.{run_cells, leads_cells}
 
-module _ (p : Program) (formed : IsFormed p) (accepted : breaks_of p ≡ []) (few : Few) where
+module _ (p : Program) (formed : IsFormed p) (accepted : breaks_of p ≡ []) (few : Few) (class : ℕ → Option ℕ) where
   abbrev g : Telling
-  g = telling_of p few
+  g = telling_of p few class
 
-  own_behind : (r : ℕ) (q : Routine) → slice_get (source_of p).routines r ≡ Some q → (n : Exec) (d : ℕ) (x : List Link) → IsOwnCell g r (Frame n d) x → address x < LAST_ADDRESS → q.params ≤ address x
-  own_behind r q e n d x i lt = behind_params p formed accepted r q e (Frame n d) x i.0 (part_lies g r (Frame n d) (Place (Frame n d) x) (Cell i.0) i.2) lt
+  own_behind : (r : ℕ) (q : Routine) → slice_get (source_of p).routines r ≡ Some q → (n : Exec) (d : ℕ) (x : List Link) (c : ℕ) → IsOwnCell g r (Frame n d) x c → address x < LAST_ADDRESS → q.params ≤ address x
+  own_behind r q e n d x c i lt = behind_params p formed accepted r q e (Frame n d) x (Obj c) (part_lies g r (Frame n d) (Place (Frame n d) x) (Cell (Obj c)) i.1) lt
 
   -- writes
 
@@ -51,40 +55,37 @@ module _ (p : Program) (formed : IsFormed p) (accepted : breaks_of p ≡ []) (fe
     abbrev o : Owner
     o = Frame e.exec d
 
-    abbrev OwnAt : ℕ → List Link → Type 0
-    OwnAt q y = IsOwnCell g q o y
+    abbrev OwnAt : ℕ → List Link → ℕ → Type 0
+    OwnAt q y c = IsOwnCell g q o y c
 
     -- an own cell of the routine of the frame
-    here : (q : ℕ) (y : List Link) → at_depth rs d ≡ Some q → OwnAt q y → OwnAt r y
-    here q y i k = subst (λ n. OwnAt n y) (some_same q r (sym i ∙ at)) k
+    here : (q : ℕ) (y : List Link) (c : ℕ) → at_depth rs d ≡ Some q → OwnAt q y c → OwnAt r y c
+    here q y c i k = subst (λ n. OwnAt n y c) (some_same q r (sym i ∙ at)) k
 
-    lies : (y : List Link) (k : OwnAt r y) → LiesInScope (table_of p) (source_of p) r o (Place o y) (Cell k.0)
-    lies y k = part_lies g r o (Place o y) (Cell k.0) k.2
+    lies : (y : List Link) (c : ℕ) → OwnAt r y c → LiesInScope (table_of p) (source_of p) r o (Place o y) (Cell (Obj c))
+    lies y c k = part_lies g r o (Place o y) (Cell (Obj c)) k.1
 
-    fits_home : ((v : ℕ) → w ≡ Object v → few.home v ≡ Place o x) → Fits (telling_of p few) rs (Place o x) w e
-    fits_home f = (exec_same e.exec, λ q i y k lt a v j. f v j ∙ ap (Place o) (sym (law_variables p formed accepted r o y x (here q y i k).0 b (lies y (here q y i k)) h lt a).0))
+    one_place : (q : ℕ) (y : List Link) (c : ℕ) → at_depth rs d ≡ Some q → OwnAt q y c → address y < LAST_ADDRESS → address y ≡ address x → (y ≡ x) × (Obj c ≡ b)
+    one_place q y c i k lt a = law_variables p formed accepted r o y x (Obj c) b (lies y c (here q y c i k)) h lt a
 
-    fits_other : (IsMutex (table_of p) b → ⊥) → Fits (telling_of p few) rs (Place o x) w e
-    fits_other f = (exec_same e.exec, λ q i y k lt a v j. absurd (f (subst (IsMutex (table_of p)) (law_variables p formed accepted r o y x (here q y i k).0 b (lies y (here q y i k)) h lt a).1 (here q y i k).1)))
+    fits_other : (IsMutex (table_of p) b → ⊥) → Fits g rs (Place o x) w e
+    fits_other f = (exec_same e.exec, λ q i y c k lt a v j. absurd (f (subst (IsMutex (table_of p)) (one_place q y c i k lt a).1 k.0)))
 
-  -- an own part that is a field is an own field
-  own_last : (t : Table) (owns : Owns) {z : Value} {a : Ty} {v : Value} {q : Ty} (u : Value) (c i : ℕ) → Inside t owns z a v q → Within t z a u (Obj c) → IsSpot z → v ≡ further (FieldAt (t.shape c) i) u → owns c i ≡ true
-  own_last t owns u c i all_of_it g s e = absurd (not_root t g s (FieldAt (t.shape c) i) (sym e))
-  own_last t owns u c i (own_field {v = v} {c = d} h j f o) g s e =
-      let y = inside_within t owns h in
-      let l : FieldAt (t.shape d) j ≡ FieldAt (t.shape c) i = last_links t (FieldAt (t.shape d) j) (FieldAt (t.shape c) i) v u (spots t y s) (spots t g s) e in
-      let m : j ≡ i = cc in
-      let n : Obj d ≡ Obj c = one_type t y g s (before_last t y g s (FieldAt (t.shape d) j) (FieldAt (t.shape c) i) e) in
-      let k : d ≡ c = cc in
-      subst (λ n. owns n i ≡ true) k (subst (λ n. owns d n ≡ true) m o)
-  own_last t owns u c i (own_element {v = v} {m = n} {b = b} h j l) g s e =
-      let y = inside_within t owns h in
-      let m : At (element_shape t b) j ≡ FieldAt (t.shape c) i = last_links t (At (element_shape t b) j) (FieldAt (t.shape c) i) v u (spots t y s) (spots t g s) e in
-      absurd (cc)
+  object_same : (c d : ℕ) → Obj c ≡ Obj d → c ≡ d
+  object_same c d e = cc
 
-  fits_reference : (rs : List ℕ) (d r c i : ℕ) (v : Value) (x : List Link) (b : Ty) (w : Value) (e : Env) → at_depth rs d ≡ Some r → LiesInScope (table_of p) (source_of p) r (Frame e.exec d) v (Obj c) → IsField (table_of p) c i → owns_of p c i ≡ false → (table_of p).fields c i ≡ Cell b → further (FieldAt ((table_of p).shape c) i) v ≡ Place (Frame e.exec d) x → Fits (telling_of p few) rs (Place (Frame e.exec d) x) w e
+  fits_home : (rs : List ℕ) (d r : ℕ) (x : List Link) (b : ℕ) (w : Value) (e : Env) → at_depth rs d ≡ Some r → LiesInScope (table_of p) (source_of p) r (Frame e.exec d) (Place (Frame e.exec d) x) (Cell (Obj b)) → IsFree g (Place (Frame e.exec d) x) b w → Fits g rs (Place (Frame e.exec d) x) w e
+  fits_home rs d r x b w e at h f = (
+    exec_same e.exec,
+    λ q i y c k lt a v j.
+        let same = one_place rs d r x (Obj b) w e at h q y c i k lt a in
+        let told = f v j in
+        (told.0 ∙ ap (Place (Frame e.exec d)) (sym same.0), told.1 ∙ ap Some (sym (object_same c b same.1))),
+  )
+
+  fits_reference : (rs : List ℕ) (d r c i : ℕ) (v : Value) (x : List Link) (b : Ty) (w : Value) (e : Env) → at_depth rs d ≡ Some r → LiesInScope (table_of p) (source_of p) r (Frame e.exec d) v (Obj c) → IsField (table_of p) c i → owns_of p c i ≡ false → (table_of p).fields c i ≡ Cell b → further (FieldAt ((table_of p).shape c) i) v ≡ Place (Frame e.exec d) x → Fits g rs (Place (Frame e.exec d) x) w e
   unfolding part_lies
-  fits_reference rs d r c i v x b w e at h f none is place = (exec_same e.exec, λ q j y k lt a n m. absurd (clash q j y k lt a))
+  fits_reference rs d r c i v x b w e at h f none is place = (exec_same e.exec, λ q j y z k lt a n m. absurd (clash q j y z k lt a))
     where
       t : Table
       t = table_of p
@@ -101,20 +102,29 @@ module _ (p : Program) (formed : IsFormed p) (accepted : breaks_of p ≡ []) (fe
       lies : LiesInScope t (source_of p) r o (Place o x) (Cell b)
       lies = record { clean = h.clean; scope = h.scope; cell = h.cell; type = h.type; cleans = h.cleans; within = there }
 
-      clash : (q : ℕ) → at_depth rs d ≡ Some q → (y : List Link) → IsOwnCell g q o y → address y < LAST_ADDRESS → address y ≡ address x → ⊥
-      clash q j y k lt a =
+      clash : (q : ℕ) → at_depth rs d ≡ Some q → (y : List Link) (m : ℕ) → IsOwnCell g q o y m → address y < LAST_ADDRESS → address y ≡ address x → ⊥
+      clash q j y m k lt a =
           let s : q ≡ r = some_same q r (sym j ∙ at) in
-          let part : IsOwnPart t (owns_of p) (source_of p) r o (Place o y) (Cell k.0) = subst (λ n. IsOwnPart t (owns_of p) (source_of p) n o (Place o y) (Cell k.0)) s k.2 in
-          let own = part_lies g r o (Place o y) (Cell k.0) part in
-          let z = same_variable t part.type h.type part.cell h.cell part.clean h.clean (same_scope p formed accepted r o y x k.0 b own lies lt a) part.cleans h.cleans in
-          let same : y ≡ x = (law_variables p formed accepted r o y x k.0 b own lies lt a).0 in
-          let inner : Inside t (owns_of p) root h.type (Place o y) (Cell k.0) = subst (λ n. Inside t (owns_of p) (Place o (Slot n ∷ [])) h.type (Place o y) (Cell k.0)) z.0 (subst (λ n. Inside t (owns_of p) (Place o (Slot part.cell ∷ [])) n (Place o y) (Cell k.0)) z.1 part.inside) in
+          let cell : Ty = Cell (Obj m) in
+          let part : IsOwnPart t (owns_of p) (source_of p) r o (Place o y) cell = subst (λ n. IsOwnPart t (owns_of p) (source_of p) n o (Place o y) cell) s k.1 in
+          let own = part_lies g r o (Place o y) cell part in
+          let z = same_variable t part.type h.type part.cell h.cell part.clean h.clean (same_scope p formed accepted r o y x (Obj m) b own lies lt a) part.cleans h.cleans in
+          let same : y ≡ x = (law_variables p formed accepted r o y x (Obj m) b own lies lt a).0 in
+          let inner : Inside t (owns_of p) root h.type (Place o y) cell = subst (λ n. Inside t (owns_of p) (Place o (Slot n ∷ [])) h.type (Place o y) cell) z.0 (subst (λ n. Inside t (owns_of p) (Place o (Slot part.cell ∷ [])) n (Place o y) cell) z.1 part.inside) in
           let yes : owns_of p c i ≡ true = own_last t (owns_of p) v c i inner h.within tt (ap (Place o) same ∙ sym place) in
           let no : true ≡ false = sym yes ∙ none in
           cc
 
-  may_write : MayWrite g
-  may_write = record { home = fits_home; other = fits_other; lent = fits_reference; behind = own_behind }
+  pub may_write : IsWithinLimits p → MayWrite g
+  may_write within = record {
+    home = fits_home;
+    other = fits_other;
+    lent = fits_reference;
+    behind = own_behind;
+    low = λ r o x c i. law_addresses.variables p formed accepted within r o x (Obj c) (part_lies g r o (Place o x) (Cell (Obj c)) i.1);
+    low_field = λ o c x b h m. law_addresses.objects p formed accepted o c x b m h;
+    places = λ o c x y b d h k lt a. law_places.places p (table_of p) (laid_out p formed accepted) (Object o) (Obj c) tt (Fields o) x y b d h k lt a;
+  }
 
   -- each routine is code of its own, in which arguments are counted
   code : SitedSource g → (n : ℕ) → CodeRoutine g n (slice_get (source_of p).routines n)
@@ -127,24 +137,27 @@ module _ (p : Program) (formed : IsFormed p) (accepted : breaks_of p ≡ []) (fe
   main_none : IsNoMaker g (source_of p).main
   main_none h = no_maker p accepted (left_is ((table_of p).routine (source_of p).main).whole (is_of_objects p ((table_of p).routine (source_of p).main).this) h)
 
--- what is loaded from an own cell
-own_read : (p : Program) (few : Few) (s : State) (h : CellState (telling_of p few) s) (d r : ℕ) (x : List Link) → at_depth h.routines d ≡ Some r → IsOwnCell (telling_of p few) r (Frame s.env.exec d) x → address x < LAST_ADDRESS → (o : ℕ) → loaded (Place (Frame s.env.exec d) x) s.env ≡ Object o → few.home o ≡ Place (Frame s.env.exec d) x
-own_read p few s h d r x e i lt o q =
-    cells_at (telling_of p few) s.env.exec d r h.routines s.env.frames e h.cells x i lt o (sym (ap (λ (b : Bool). slice_index_or (list_in (at_depth (if b then s.env.frames else frames_in (parked_at s.env.exec s.env)) d)) (address x) nought) (exec_same s.env.exec)) ∙ q)
-
 pub law_fits : LawFits
 law_fits = record {
-  home = λ p formed accepted few rs d r x b w e at h f. fits_home p formed accepted few rs d r x b w e at h f;
-  other = λ p formed accepted few rs d r x b w e at h f. fits_other p formed accepted few rs d r x b w e at h f;
-  reference = λ p formed accepted few rs d r c i v x b w e at h f none is place. fits_reference p formed accepted few rs d r c i v x b w e at h f none is place;
+  home = λ p formed accepted few class rs d r x c w e at h f. fits_home p formed accepted few class rs d r x c w e at h f;
+  other = λ p formed accepted few class rs d r x b w e at h f. fits_other p formed accepted few class rs d r x b w e at h f;
+  reference = λ p formed accepted few class rs d r c i v x b w e at h f none is place. fits_reference p formed accepted few class rs d r c i v x b w e at h f none is place;
+  home_in = λ p formed accepted within few class rs v w c e h f. places.fits_home (telling_of p few class) (may_write p formed accepted few class within) e rs 0 v w c (inl h) f;
+  other_in = λ p formed accepted within few class rs v w b e h f. places.fits_other (telling_of p few class) (may_write p formed accepted few class within) e rs 0 v w b (inl h) f;
+  reference_in = λ p formed accepted within few class rs v w c i b e h f is none. places.fits_lent (telling_of p few class) (may_write p formed accepted few class within) e rs 0 c i v w b (inl h) f none is;
 }
 
 pub law_cells : LawCells
 law_cells = record {
-  begins = λ p formed accepted few sited r o n. walks.first (telling_of p few) (code p formed accepted few sited) (may_write p formed accepted few) r o n;
-  steps = λ p formed accepted few sited s h f. walks.stepped (telling_of p few) (code p formed accepted few sited) (may_write p formed accepted few) s h f;
-  told = λ p few form given s k h. walks.answered_there (telling_of p few) form given s k h;
-  reads = λ p few s h d r x e i lt o q. own_read p few s h d r x e i lt o q;
-  runs = λ p formed accepted few sited input opts range j w r fits meets. (run_cells (telling_of p few) (code p formed accepted few sited) (may_write p formed accepted few) (main_none p formed accepted few) input opts range r fits meets).1;
-  leads = λ p formed accepted few sited input opts range j w r fits meets on t s c l. leads_cells (telling_of p few) (code p formed accepted few sited) (may_write p formed accepted few) (main_none p formed accepted few) input opts range r fits meets on t s c l;
+  begins = λ p formed accepted within few class sited r o n. walks.first (telling_of p few class) (code p formed accepted few class sited) (may_write p formed accepted few class within) r o n;
+  steps = λ p formed accepted within few class sited s h f. walks.stepped (telling_of p few class) (code p formed accepted few class sited) (may_write p formed accepted few class within) s h f;
+  told = λ p few class r given s k told e f h. walks.answered_there (telling_of p few class) r given s k told e f h;
+  reads = λ p few class s h d r x c e i lt. cell_read (telling_of p few class) s.env h.routines h.cells d r e x c i lt;
+  fields = λ p few class s h n x c i lt. field_read (telling_of p few class) s.env h.env n x c i lt;
+  runs = λ p formed accepted within few input opts range j w r fits sited meets.
+      let class : ℕ → Option ℕ = λ o. class_of (table_of p) (source_of p) input opts j w r o in
+      (run_cells (telling_of p few class) (code p formed accepted few class sited) (may_write p formed accepted few class within) (main_none p formed accepted few class) input opts range r fits (λ o l. refl) meets).1;
+  leads = λ p formed accepted within few input opts range j w r fits sited meets on t s c l.
+      let class : ℕ → Option ℕ = λ o. class_of (table_of p) (source_of p) input opts j w r o in
+      leads_cells (telling_of p few class) (code p formed accepted few class sited) (may_write p formed accepted few class within) (main_none p formed accepted few class) input opts range r fits (λ o l. refl) meets on t s c l;
 }

@@ -1,20 +1,38 @@
 -- Within the variables of one frame places that have one address are one place.
-use Rattle.std.proofs.Common.{◌≡◌, ℕ, ◌+◌, ◌*◌, ◌≤◌, ◌<◌, ◌⊎◌, inl, inr, List, [], ◌∷◌, Option, Some, None, refl, sym, ap, ◌∙◌, subst, arith}
-use Rattle.std.specs.Prelude.{slice_get}
+use Rattle.std.proofs.Common.{◌≡◌, ℕ, ◌+◌, ◌*◌, ◌≤◌, ◌<◌, ◌⊎◌, inl, inr, true, false, List, [], ◌∷◌, Option, Some, None, refl, sym, ap, ◌∙◌, subst, arith}
+use Rattle.std.specs.Prelude.{nat_le, slice_get}
+use Rattle.std.proofs.lemmas.Bool.{leb-true}
 use Rattle.std.proofs.lemmas.Nat.{mul-le}
-use Rattle.uc_tree.specs.Programs.{Program}
+use Rattle.uc_tree.specs.declared.kinds.Kind.{Kind}
+use Rattle.uc_tree.specs.declared.kinds.Kind.TheVariants as kind
+use Rattle.uc_tree.specs.declared.kinds.Role.TheVariants as role
+use Rattle.uc_tree.specs.declared.limits.TheConstants.{CLASS_CELLS}
+use Rattle.uc_tree.specs.Cells.{class_cells}
+use Rattle.uc_tree.specs.Numbering.{is_event, is_mutex}
+use Rattle.uc_tree.specs.Objects.{class_at, class_shape, written_at}
+use Rattle.uc_tree.specs.Programs.{Class, Program}
 use Rattle.uc_tree.specs.Source as src
 use Rattle.uc_tree.specs.Source.{Expr, CleanUp, Routine, shape_cells}
 use Rattle.uc_machine.specs.declared.exec.Owner.{Owner}
-use Rattle.uc_machine.specs.Pieces.{Link, Slot, Place, LAST_ADDRESS, address}
+use Rattle.uc_machine.specs.declared.exec.Owner.TheVariants.{Fields}
+use Rattle.uc_machine.specs.Pieces.{Link, Slot, Place, Object, LAST_ADDRESS, address}
 use Rattle.uc_resolve.specs.Resolve.{source_of}
 use Rattle.uc_rules.specs.Breaks.{breaks_of}
+use Rattle.uc_rules.specs.declared.rule.Rule.TheVariants.{S6, S14}
+use Rattle.uc_rules.specs.Asked.{unless}
+use Rattle.uc_rules.specs.ClassBreaks.{is_well_mained, has_room}
 use Rattle.uc_typing.specs.Typing.{Ty, Num, Cell, Obj, Raw, Row, Clu, Pro, Table, element_shape, DestroysAt, CleansAt}
 use Rattle.uc_sound.specs.SoundFormed.{IsFormed}
-use Rattle.uc_sound.specs.Tables.{table_of}
+use Rattle.uc_sound.specs.Tables.{of_kind, table_of}
+use Rattle.uc_sound.specs.Told.{TellsMaker}
+use Rattle.uc_sound.proofs.Lists.{left_is}
+use Rattle.uc_sound.proofs.MemberLemmas.{tells_maker}
+use Rattle.uc_sound.proofs.Ties.{false_true}
+use Rattle.uc_sound.proofs.UnbrokenLemmas.{none_right, holds}
+use Rattle.uc_sound.proofs.Visited.{class_own}
 use Rattle.uc_state_laws.specs.FrameSizes.{MaybeRoutineFits}
-use Rattle.uc_state_laws.specs.Layout.{Sized}
-use Rattle.uc_state_laws.specs.Limits.{MOST_CELLS}
+use Rattle.uc_state_laws.specs.Layout.{destructor_by, destructor_of, Sized}
+use Rattle.uc_state_laws.specs.Limits.{IsWithinLimits, MOST_CELLS}
 use Rattle.uc_state_laws.specs.Rooms.{LiesAt, LiesIn, Destroyed, Lies}
 use Rattle.uc_state_laws.proofs.Limits.{law_limits}
 use Rattle.uc_life_laws.specs.Things.{Within}
@@ -191,8 +209,8 @@ behind_params p formed accepted r q e o x b h lt =
     omega (arith, low, first, params, f)
 
 -- in a program within its limits they have addresses
-pub law_addresses : LawAddresses
-law_addresses p formed accepted within r o x b h = by (slice_get (source_of p).routines r) refl (law_limits p within r)
+variables_low : (p : Program) → IsFormed p → breaks_of p ≡ [] → IsWithinLimits p → (r : ℕ) (o : Owner) (x : List Link) (b : Ty) → LiesInScope (table_of p) (source_of p) r o (Place o x) (Cell b) → address x < LAST_ADDRESS
+variables_low p formed accepted within r o x b h = by (slice_get (source_of p).routines r) refl (law_limits p within r)
   where
     by : (q : Option Routine) → slice_get (source_of p).routines r ≡ q → MaybeRoutineFits MOST_CELLS q → address x < LAST_ADDRESS
     by None e fits = absurd (subst (InRoutine h.clean) e h.scope)
@@ -207,3 +225,46 @@ law_addresses p formed accepted within r o x b h = by (slice_get (source_of p).r
         let few : q.cells ≤ MOST_CELLS = fits.cells in
         let most : MOST_CELLS < LAST_ADDRESS = omega arith in
         has_address x (omega (arith, high, last, cells, few, most))
+
+-- and so have bindings in mutex objects: the cells of a class are limited by a rule
+
+no_event : (k : Kind) → is_mutex k ≡ true → is_event k ≡ false
+no_event kind.Monitor h = refl
+no_event kind.Cormonitor h = refl
+no_event kind.Task h = refl
+no_event kind.Class h = refl
+no_event kind.Coroutine h = refl
+no_event kind.Event h = false_true h
+
+class_low : (p : Program) → IsFormed p → breaks_of p ≡ [] → (c : ℕ) → (table_of p).mutex c ≡ true → shape_cells (class_shape p c) ≤ CLASS_CELLS
+class_low p formed u c m = by (class_at p c) refl m
+  where
+    by : (o : Option Class) → class_at p c ≡ o → of_kind is_mutex o ≡ true → shape_cells (class_shape p c) ≤ CLASS_CELLS
+    by None e h = false_true h
+    by (Some x) e h =
+        let own = none_right (unless (is_well_mained x) S6 x.pos) _ (class_own p u c x e) in
+        let room : has_room p x c ≡ true = holds (has_room p x c) S14 x.pos _ own in
+        let low : class_cells p c ≤ CLASS_CELLS = leb-true (class_cells p c) CLASS_CELLS (left_is (nat_le (class_cells p c) CLASS_CELLS) _ room) in
+        let all : shape_cells (class_shape p c) ≤ class_cells p c = (laid_out p formed u).counted (destructor_of p c) (class_cells p c) c (c, refl, refl) (this (written_at p c role.Destructor) refl) in
+        omega (arith, low, all)
+      where
+        maker : TellsMaker (table_of p) p c role.Destructor
+        maker = tells_maker p formed u c x role.Destructor e (no_event x.kind h) refl
+
+        this : (o : Option ℕ) → written_at p c role.Destructor ≡ o → ((table_of p).routine (destructor_by p c o)).this ≡ Some c
+        this None q = maker.unwritten_this q
+        this (Some r) q = (maker.written r q).this
+
+objects_low : (p : Program) → IsFormed p → breaks_of p ≡ [] → (o c : ℕ) (x : List Link) (b : Ty) → (table_of p).mutex c ≡ true → Within (table_of p) (Object o) (Obj c) (Place (Fields o) x) (Cell b) → address x < LAST_ADDRESS
+objects_low p formed accepted o c x b m h =
+    let u = bounds (table_of p) (Sized p) (laid_out p formed accepted) tt tt h in
+    let high : offset x + 1 ≤ 0 + shape_cells (class_shape p c) = u.high in
+    let few = class_low p formed accepted c m in
+    let most : CLASS_CELLS < LAST_ADDRESS = omega arith in
+    has_address x (omega (arith, high, few, most))
+
+pub law_addresses : LawAddresses
+law_addresses = record {
+  variables = λ p formed accepted within r o x b h. variables_low p formed accepted within r o x b h;
+  objects = λ p formed accepted o c x b m h. objects_low p formed accepted o c x b m h;
+}

@@ -1,11 +1,11 @@
 -- To-do lists of a routine in which the places of what is built, destroyed and bound lie among the operands, as the code has them.
 use Rattle.std.specs.Prelude.{◌≡◌, ℕ, zero, suc, ◌⊎◌, true, false, List, [], ◌∷◌, Option, Some, None}
-use Rattle.uc_tree.specs.Source.{Shape, Expr, Exprs, Item, Target, Declared, CleanUp, Stmt, Stmts, Handlers, Clauses, Routine}
+use Rattle.uc_tree.specs.Source.{Shape, Expr, Exprs, Load, Item, Target, Declared, CleanUp, Stmt, Stmts, Handlers, Clauses, Routine}
 use Rattle.uc_machine.specs.declared.exec.Exec.{Exec}
 use Rattle.uc_machine.specs.declared.exec.Owner.{Owner}
 use Rattle.uc_machine.specs.declared.exec.Owner.TheVariants.{Frame}
 use Rattle.uc_machine.specs.Pieces as piece
-use Rattle.uc_machine.specs.Pieces.{Slot, FieldAt, Value, Place, further, Todo, Sort, sort, Active, top, below}
+use Rattle.uc_machine.specs.Pieces.{Slot, FieldAt, Value, Place, Object, further, Todo, Sort, sort, Active, top, below}
 use Rattle.uc_typing.specs.Typing.{Ty, Cell, Obj, Row, Table, element_shape, CleansAt}
 use Rattle.uc_tree.specs.Source.{Variable, Source}
 use Rattle.uc_state_laws.specs.Counted.{params, count, CountedExpr, CountedExprs, CountedMaybe, CountedItems, CountedTargets, CountedDeclared, CountedClean, CountedStmt, CountedStmts, CountedHandlers, CountedClauses}
@@ -32,11 +32,22 @@ pub record Around : Type 0 where
 abbrev pub around : Exec → Active → Around
 around n a = record { exec = n; frame = a.frame; this = a.this }
 
--- what is known of an operand: nothing, that it is a place of this type of the activation, or a field of its object that is a reference
+-- what is known of an operand: nothing, that it is a place of this type of the activation, a field of its object that is a reference, or that it is a mutex
+-- object of this class, if it is an object
 pub data Mark : Type 0 where
   Any : Mark
   Sited : Ty → Mark
   Lent : Mark
+  Classed : ℕ → Mark
+
+-- of the object that is asked for: its class, which the constructor that comes next tells
+abbrev pub asked_class : Table → List Todo → Option ℕ
+asked_class t (piece.BindMadeNow c q ∷ todo) = (t.routine q).this
+asked_class t todo = None
+
+abbrev pub mark_of : Option ℕ → Mark
+mark_of None = Any
+mark_of (Some c) = Classed c
 
 abbrev pub rest : List Mark → List Mark
 rest [] = []
@@ -52,7 +63,16 @@ abbrev pub anys : ℕ → List Mark → List Mark
 anys zero ms = ms
 anys (suc n) ms = anys n (Any ∷ ms)
 
--- the first is a place of this type; of so many elements of a type, kept in this shape; what may be bound
+-- the first is an object of this class; the place of a mutex object, which is loaded
+abbrev pub FirstClassed : ℕ → List Mark → Type 0
+FirstClassed c (Classed d ∷ ms) = d ≡ c
+FirstClassed c ms = ⊥
+
+abbrev pub FirstCell : Table → List Mark → (Mark → Type 0) → Type 0
+FirstCell t (Sited (Cell (Obj c)) ∷ ms) next = (t.mutex c ≡ true) × next (Classed c)
+FirstCell t ms next = ⊥
+
+-- it is a place of this type; of so many elements of a type, kept in this shape; what may be bound
 abbrev pub FirstSited : Ty → List Mark → Type 0
 FirstSited a (Sited b ∷ ms) = b ≡ a
 FirstSited a ms = ⊥
@@ -87,10 +107,14 @@ module _ (g : Telling) (r : ℕ) where
       pub binding : g.table.fields class number ≡ Cell type
       pub place : v ≡ further (FieldAt (g.table.shape class) number) A.this
 
+    abbrev pub IsClassed : ℕ → Value → Type 0
+    IsClassed c v = (o : ℕ) → v ≡ Object o → g.class o ≡ Some c
+
     abbrev pub Meets : Mark → Value → Type 0
     Meets Any v = Unit {0}
     Meets (Sited a) v = IsOwnPart g.table g.owns g.source r (Frame A.exec A.frame) v a ⊎ IsOfThis v a
     Meets Lent v = IsOfLent v
+    Meets (Classed c) v = IsClassed c v
 
     -- of the newest operands, the first mark for the newest; of what lies below nothing is known
     abbrev pub Holds : List Mark → List Value → Type 0
@@ -98,8 +122,12 @@ module _ (g : Telling) (r : ℕ) where
     Holds (m ∷ ms) vs = Meets m (top vs) × Holds ms (below vs)
 
   -- what an expression finds
+  abbrev pub Loading : Expr → (Mark → Type 0) → Type 0
+  Loading (Load e) next = (c : ℕ) × (g.table.mutex c ≡ true) × HasPlace g r e (Cell (Obj c)) × next (Classed c)
+  Loading e next = ⊥
+
   abbrev pub Finding : Expr → (Mark → Type 0) → Type 0
-  Finding e next = ((a : Ty) × HasPlace g r e a × next (Sited a)) ⊎ (IsLent g r e × next Lent)
+  Finding e next = ((a : Ty) × HasPlace g r e a × next (Sited a)) ⊎ ((IsLent g r e × next Lent) ⊎ Loading e next)
 
   -- code of the routine in which arguments are counted
   abbrev pub CodeExpr : Expr → Type 0
@@ -142,17 +170,23 @@ module _ (g : Telling) (r : ℕ) where
   CodeRoutine None = Unit {0}
   CodeRoutine (Some q) = CodeStmts q.body
 
-  -- what is called, if it is a constructor or a destructor, is so at a place of its class, or of a mutex class
+  -- what is called, if it is a constructor or a destructor, is so at a place of its class, or at a mutex object of it
   abbrev pub CallFits : ℕ → List Mark → Type 0
-  CallFits q ms = IsNoMaker g q ⊎ ((c : ℕ) × ((g.table.routine q).this ≡ Some c) × ((g.table.mutex c ≡ true) ⊎ FirstSited (Obj c) (rests (params g.source q) ms)))
+  CallFits q ms = IsNoMaker g q ⊎ ((c : ℕ) × ((g.table.routine q).this ≡ Some c) × (((g.table.mutex c ≡ true) × FirstClassed c (rests (params g.source q) ms)) ⊎ FirstSited (Obj c) (rests (params g.source q) ms)))
 
-  -- a mutex object is bound at a place of one
-  abbrev pub MakeFits : List Mark → Type 0
-  MakeFits ms = (b : ℕ) × FirstSited (Cell (Obj b)) ms
+  -- a mutex object is made, and bound, at a place of one
+  abbrev pub MakeFits : ℕ → List Mark → Type 0
+  MakeFits q ms = (c : ℕ) × ((g.table.routine q).this ≡ Some c) × (g.table.mutex c ≡ true) × FirstSited (Cell (Obj c)) (rests (params g.source q) ms)
+
+  abbrev pub BindFits : ℕ → List Mark → Type 0
+  BindFits q ms = (c : ℕ) × ((g.table.routine q).this ≡ Some c) × (g.table.mutex c ≡ true) × FirstClassed c ms × FirstSited (Cell (Obj c)) (rests (params g.source q) (rest ms))
+
+  -- the object that a constructor builds
+  abbrev pub made_mark : ℕ → Mark
+  made_mark q = mark_of (g.table.routine q).this
 
   -- the marks behind a piece; behind one of statements nothing is known
   abbrev pub after : Todo → List Mark → List Mark
-  after piece.LoadNow ms = Any ∷ rest ms
   after (piece.FieldNow k i) ms = Any ∷ rest ms
   after piece.NegateNow ms = Any ∷ rest ms
   after piece.NotNow ms = Any ∷ rest ms
@@ -167,8 +201,8 @@ module _ (g : Telling) (r : ℕ) where
   after piece.KeepNow ms = Any ∷ rest (rest ms)
   after (piece.SetNow k) ms = ms
   after piece.BindNow ms = Any ∷ rest (rest ms)
-  after (piece.MakeNow c q) ms = anys (params g.source q) (Any ∷ rests (suc (params g.source q)) ms)
-  after (piece.BindMadeNow c q) ms = anys (params g.source q) (Any ∷ rests (suc (params g.source q)) (rest ms))
+  after (piece.MakeNow c q) ms = anys (params g.source q) (made_mark q ∷ rests (suc (params g.source q)) ms)
+  after (piece.BindMadeNow c q) ms = anys (params g.source q) (made_mark q ∷ rests (suc (params g.source q)) (rest ms))
   after (piece.Choose e f) ms = Any ∷ rest ms
   after (piece.Arguments es) ms = anys (count es) ms
   after piece.TickNow ms = ms
@@ -203,8 +237,8 @@ module _ (g : Telling) (r : ℕ) where
   CodePiece (piece.Arguments es) ms = CodeExprs es
   CodePiece (piece.CallOnNow q) ms = CallFits q ms
   CodePiece (piece.CallUnwrittenNow q) ms = CallFits q ms
-  CodePiece (piece.MakeNow c q) ms = MakeFits (rests (params g.source q) ms)
-  CodePiece (piece.BindMadeNow c q) ms = MakeFits (rests (params g.source q) (rest ms))
+  CodePiece (piece.MakeNow c q) ms = MakeFits q ms
+  CodePiece (piece.BindMadeNow c q) ms = BindFits q ms
   CodePiece piece.BindNow ms = FirstBound g.table (rest ms)
   CodePiece (piece.FillNow n b d) ms = CodeExpr b × CodeExpr d
   CodePiece (piece.TurnNow o t e b) ms = CodeLoop t e b
@@ -242,10 +276,11 @@ module _ (g : Telling) (r : ℕ) where
   LeftBy piece.IsFinishCoroutine left ok = ok
 
   abbrev mutual
-    -- a to-do list is in order before operands of which this is known. Where a place is found something may be known of it or not
+    -- a to-do list is in order before operands of which this is known. Where a place is found, and where it is loaded, something may be known of it or not
     pub Ok : List Mark → List Todo → Type 0
     Ok ms [] = Unit {0}
     Ok ms (piece.Eval e ∷ todo) = CodeExpr e × (Ok (Any ∷ ms) todo ⊎ Finding e (λ m. Ok (m ∷ ms) todo))
+    Ok ms (piece.LoadNow ∷ todo) = Ok (Any ∷ rest ms) todo ⊎ FirstCell g.table ms (λ m. Ok (m ∷ rest ms) todo)
     Ok ms (piece.ElementNow n s ∷ todo) = Ok (Any ∷ rest (rest ms)) todo ⊎ FirstRow n s g.table (rest ms) (λ m. Ok (m ∷ rest (rest ms)) todo)
     Ok ms (piece.Exit w ∷ todo) = Left todo
     Ok ms (piece.Unwind ∷ todo) = Left todo

@@ -3,4 +3,5 @@ pub mod Places
 pub mod Sites
 pub mod CellTodos
 pub mod CellStates
+pub mod Classes
 pub mod OwnCells

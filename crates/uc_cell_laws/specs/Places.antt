@@ -1,12 +1,13 @@
 -- Where bindings lie: within one thing, and within the variables of one frame, places that have one address are one place, and of one type.
-use Rattle.std.specs.Prelude.{◌≡◌, ℕ, ◌<◌, List, [], ◌∷◌}
+use Rattle.std.specs.Prelude.{◌≡◌, ℕ, ◌<◌, true, List, [], ◌∷◌}
 use Rattle.uc_tree.specs.Programs.{Program}
 use Rattle.uc_tree.specs.Source.{Variable, CleanUp, Source}
 use Rattle.uc_machine.specs.declared.exec.Owner.{Owner}
-use Rattle.uc_machine.specs.Pieces.{Link, Slot, Value, Place, LAST_ADDRESS, address}
+use Rattle.uc_machine.specs.declared.exec.Owner.TheVariants.{Fields}
+use Rattle.uc_machine.specs.Pieces.{Link, Slot, Value, Place, Object, LAST_ADDRESS, address}
 use Rattle.uc_resolve.specs.Resolve.{source_of}
 use Rattle.uc_rules.specs.Breaks.{breaks_of}
-use Rattle.uc_typing.specs.Typing.{Ty, Cell, Table, CleansAt}
+use Rattle.uc_typing.specs.Typing.{Ty, Cell, Obj, Table, CleansAt}
 use Rattle.uc_sound.specs.SoundFormed.{IsFormed}
 use Rattle.uc_sound.specs.Tables.{table_of}
 use Rattle.uc_state_laws.specs.Layout.{Sized}
@@ -40,7 +41,9 @@ LawVariables = (p : Program) → IsFormed p → breaks_of p ≡ [] → (r : ℕ)
     LiesInScope (table_of p) (source_of p) r o (Place o y) (Cell c) →
     address x < LAST_ADDRESS → address x ≡ address y → (x ≡ y) × (b ≡ c)
 
--- and where the program is within its limits all of these have addresses
-abbrev pub LawAddresses : Type 0
-LawAddresses = (p : Program) → IsFormed p → breaks_of p ≡ [] → IsWithinLimits p → (r : ℕ) (o : Owner) (x : List Link) (b : Ty) →
-    LiesInScope (table_of p) (source_of p) r o (Place o x) (Cell b) → address x < LAST_ADDRESS
+-- and where the program is within its limits all of these have addresses; so have, in each such program, bindings in mutex objects
+pub record LawAddresses : Type 0 where
+  pub variables : (p : Program) → IsFormed p → breaks_of p ≡ [] → IsWithinLimits p → (r : ℕ) (o : Owner) (x : List Link) (b : Ty) →
+      LiesInScope (table_of p) (source_of p) r o (Place o x) (Cell b) → address x < LAST_ADDRESS
+  pub objects : (p : Program) → IsFormed p → breaks_of p ≡ [] → (o c : ℕ) (x : List Link) (b : Ty) → (table_of p).mutex c ≡ true →
+      Within (table_of p) (Object o) (Obj c) (Place (Fields o) x) (Cell b) → address x < LAST_ADDRESS

@@ -8,13 +8,15 @@ use Rattle.uc_life_laws.specs.Things.{Few, IsField, IsMutex}
 use Rattle.uc_life_laws.specs.HomedStates.{Owns}
 use Rattle.uc_cell_laws.specs.Scopes.{IsScopeOf}
 
--- a source with the table of its types, which fields hold what is their own, which routines are constructors and destructors, and what there is
+-- a source with the table of its types, which fields hold what is their own, which routines are constructors and destructors, what there is, and of which class
+-- each mutex object was made, by its number
 pub record Telling : Type 0 where
   pub table : Table
   pub source : Source
   pub owns : Owns
   pub special : ℕ → Bool
   pub few : Few
+  pub class : ℕ → Option ℕ
 
 -- a routine is no constructor and no destructor
 abbrev pub IsNoMaker : Telling → ℕ → Type 0
@@ -43,19 +45,16 @@ module _ (g : Telling) (r : ℕ) where
   IsLent (OfObject (OwnField h i)) = (b : Ty) × (f : IsAtField h i (Cell b)) × (g.owns f.class i ≡ false)
   IsLent e = ⊥
 
-  -- what is called, if it is a constructor or a destructor, is so at a place of its class; what makes or ends a mutex object calls what is of a mutex class
+  -- what is called, if it is a constructor or a destructor, is so at a place of its class
   abbrev pub CallsAt : ℕ → Expr → Type 0
   CallsAt q e = IsNoMaker g q ⊎ ((c : ℕ) × ((g.table.routine q).this ≡ Some c) × HasPlace e (Obj c))
 
-  abbrev pub CallsMutex : ℕ → Type 0
-  CallsMutex q = IsNoMaker g q ⊎ ((c : ℕ) × ((g.table.routine q).this ≡ Some c) × (g.table.mutex c ≡ true))
-
-  -- a mutex object is made, and ended, at a place of one
+  -- a mutex object is made, and ended, at a place of one, by what is of its class
   abbrev pub MakesAt : ℕ → Expr → Type 0
-  MakesAt q e = CallsMutex q × ((b : ℕ) × HasPlace e (Cell (Obj b)))
+  MakesAt q e = (c : ℕ) × ((g.table.routine q).this ≡ Some c) × (g.table.mutex c ≡ true) × HasPlace e (Cell (Obj c))
 
   abbrev pub EndsAt : ℕ → Expr → Type 0
-  EndsAt q (Load e) = CallsMutex q × ((b : ℕ) × (g.table.mutex b ≡ true) × HasPlace e (Cell (Obj b)))
+  EndsAt q (Load e) = MakesAt q e
   EndsAt q e = ⊥
 
   -- what is bound is a place of what is no mutex object, or a field that is a reference

@@ -20,20 +20,21 @@ pub fn law_variables()
     ensures { LawVariables }
 {}
 
-/// And where such a program is within its limits, these have addresses.
+/// And where such a program is within its limits, these have addresses. So have places of bindings in mutex
+/// objects, in each such program.
 pub fn law_addresses()
     ensures { LawAddresses }
 {}
 
-/// Each own cell of a frame holds no object, or the one that is at home there: of a task as it begins, and
-/// each step that finds what it is to find, and each answer, keep that; so it is in each run of a program
-/// that breaks no rule in which each step finds it.
+/// Each own cell of a frame, and each of a mutex object, holds no object, or the one that is at home there:
+/// of a task as it begins, and each step that finds what it is to find, and each answer, keep that; so it is
+/// in each run of a program that breaks no rule and is within its limits in which each step finds it.
 pub fn law_cells()
     ensures { LawCells }
 {}
 
 /// What is bound may be written where it is at home, where no mutex object is bound, and where a field is a
-/// reference.
+/// reference: in frames and in mutex objects.
 pub fn law_fits()
     ensures { LawFits }
 {}

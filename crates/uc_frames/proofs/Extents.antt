@@ -103,6 +103,11 @@ pub frame_count : (xs : List Extent) (cs : List Cell) → length (all_frames xs 
 frame_count [] cs = refl
 frame_count (x ∷ xs) cs = ap suc (frame_count xs (take x.floor cs))
 
+-- as many lists of operands
+pub operand_count : (xs : List Extent) (cs : List Cell) → length (all_operands xs cs) ≡ length xs
+operand_count [] cs = refl
+operand_count (x ∷ xs) cs = ap suc (operand_count xs (take x.floor cs))
+
 -- operands that are read and replaced
 
 -- the operand below so many

@@ -1,5 +1,5 @@
 -- Rows by their numbers, and those outwards of them.
-use Rattle.std.proofs.Common.{◌≡◌, ℕ, zero, suc, ◌+◌, ◌-◌, ◌<◌, ◌≤◌, List, [], ◌∷◌, ◌++◌, length, take, drop, reverse, Bool, true, false, Option, Some, None, refl, sym, ap, ◌∙◌, arith, get_or, inl, inr}
+use Rattle.std.proofs.Common.{◌≡◌, ℕ, zero, suc, ◌+◌, ◌-◌, ◌<◌, ◌≤◌, List, [], ◌∷◌, ◌++◌, length, take, drop, reverse, Bool, true, false, Option, Some, None, refl, sym, ap, subst, ◌∙◌, arith, get_or, inl, inr}
 use Rattle.std.specs.Prelude.{nat_eq, nat_le, ◌&&◌, if◌then◌else◌, slice_get}
 use Rattle.std.proofs.lemmas.Bool.{eq-eqb, ne_eqb, eqb-true, le-leb, leb-true, cases_lt}
 use Rattle.std.proofs.lemmas.List.{reverse-append, length-append, length-reverse, length-take-le, take-append-drop, take_more, reverse-reverse}
@@ -9,7 +9,7 @@ use Rattle.uc_code.specs.declared.rows.RowKind.TheVariants as kind
 use Rattle.uc_code.specs.Layout.{covers, counted_by, from_row, from_newest, chain}
 use Rattle.uc_code.specs.RowTable.{name_or, covering_from}
 use Rattle.uc_frames.specs.declared.search.HandlerQuery.{HandlerQuery}
-use Rattle.uc_frames.specs.Searches.{is_found, is_sought, first_in, behind_row, within, counted, own_row, named, last_of, IsHandler, IsSoughtAt}
+use Rattle.uc_frames.specs.Searches.{is_found, is_sought, first_in, behind_row, within, counted, own_row, named, last_of, IsCovered, IsHandler, IsSoughtAt}
 
 not_same : (n k : ℕ) → n ≤ k → nat_eq n (suc k) ≡ false
 not_same n k l = let d : n ≡ suc k → ⊥ = λ e. omega arith in ne_eqb n (suc k) d
@@ -172,6 +172,22 @@ newest_is (r ∷ rs) p =
     ap (λ n. if covers r p then n else newest_of rs p) e
     ∙ (ap (λ n. if covers r p then 0 + length (reverse rs) + 1 else n) (newest_is rs p)
     ∙ (sym (covering_snoc 0 (reverse rs) r p) ∙ ap (λ xs. covering_from 0 xs p) (sym v)))
+
+-- where one is told that covers an op, a row does
+
+name_none : (n : ℕ) → name_or n 0 ≡ n
+name_none zero = refl
+name_none (suc n) = let d : suc n ≡ 0 → ⊥ = λ e. omega arith in let f : nat_eq (suc n) 0 ≡ false = ne_eqb (suc n) 0 d in rw f refl
+
+covered_by : (b : Bool) (n k : ℕ) (r : HandlerRow) (rs : List HandlerRow) (p : ℕ) → covers r p ≡ b → (0 < n → IsCovered rs p) → 0 < name_or n (if b then k else 0) → IsCovered (r ∷ rs) p
+covered_by true n k r rs p q ih l = record { number = 0; row = r; there = refl; covers = q }
+covered_by false n k r rs p q ih l =
+    let h : IsCovered rs p = ih (subst (λ m. 0 < m) (name_none n) l) in
+    record { number = suc h.number; row = h.row; there = h.there; covers = h.covers }
+
+pub covered : (k : ℕ) (rows : List HandlerRow) (p : ℕ) → 0 < covering_from k rows p → IsCovered rows p
+covered k [] p l = absurd (omega arith)
+covered k (r ∷ rs) p l = covered_by (covers r p) (covering_from (k + 1) rs p) (k + 1) r rs p refl (covered (k + 1) rs p) l
 
 module _ (rows : List HandlerRow) (p : ℕ) where
   newest_rows : newest_of (reverse rows) p ≡ covering_from 0 rows p

@@ -191,7 +191,7 @@ impl Work {
         ensures { result ≡ line_at code.now.ops line self.now.callers }
     {
         let running = &*self.task.running;
-        line_from(code, &running.callers[..running.waiting], line)
+        line_from(code, &running.callers[..running.block.waiting()], line)
     }
 
     /// The line of the op before the next one; of one of no line that of the newest call around it that has one.

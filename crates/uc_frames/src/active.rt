@@ -16,11 +16,11 @@ use uc_machine::exec::{UnwindReason, Visited};
 #[derive(Clone, Copy)]
 pub struct Activation {
     pub next: u32,
-    pub this: Cell,
     pub frame: u32,
-    pub counts: bool,
     pub elements: u32,
+    pub counts: bool,
     pub(crate) is_exceptional: bool,
+    pub this: Cell,
     pub handles: Option<Visited>,
     pub raised: Option<UnwindReason>,
     pub result: Cell,
@@ -104,12 +104,12 @@ impl Activation {
         ensures { self.new ≡ other.now }
     {
         self.next = other.next;
+        self.frame = other.frame;
+        self.elements = other.elements;
+        self.counts = other.counts;
         if !(is_nothing(&self.this) && is_nothing(&other.this)) {
             self.this = other.this;
         }
-        self.frame = other.frame;
-        self.counts = other.counts;
-        self.elements = other.elements;
         if self.is_exceptional || other.is_exceptional {
             self.copy_exceptional(other);
         }
@@ -128,12 +128,12 @@ impl Activation {
             return false;
         }
         self.next = other.next;
+        self.frame = other.frame;
+        self.elements = other.elements;
+        self.counts = other.counts;
         if !(is_nothing(&self.this) && is_nothing(&other.this)) {
             self.this = other.this;
         }
-        self.frame = other.frame;
-        self.counts = other.counts;
-        self.elements = other.elements;
         true
     }
 
@@ -154,12 +154,12 @@ impl Activation {
         ensures { self.new ≡ record other.now { is_exceptional = true; raised = self.old.raised; result = self.old.result } }
     {
         self.next = other.next;
+        self.frame = other.frame;
+        self.elements = other.elements;
+        self.counts = other.counts;
         if !(is_nothing(&self.this) && is_nothing(&other.this)) {
             self.this = other.this;
         }
-        self.frame = other.frame;
-        self.counts = other.counts;
-        self.elements = other.elements;
         self.is_exceptional = true;
         self.handles = other.handles;
     }

@@ -221,10 +221,19 @@ impl Block {
         }
     }
 
+    // How many activations wait for the newest one.
+    #[inline(always)]
+    pub(crate) fn waiting(&self) -> usize
+        ensures { result ≡ length self.now.waiting }
+    {
+        self.older.len()
+    }
+
     // How many frames there are.
     #[inline(always)]
     pub(crate) fn depth(&self) -> usize
-        ensures { result ≡ length self.now.frames }
+        ensures frames { result ≡ length self.now.frames }
+        ensures waiting { result ≡ length self.now.waiting + 1 }
     {
         self.older.len() + 1
     }
@@ -262,6 +271,14 @@ impl Block {
     // The same where the frame is not the newest one.
     #[inline(never)]
     fn number_older(&self, depth: u32, at: u64) -> Option<i64>
+        ensures { result ≡ number_within (slice_index_or (list_in (at_depth self.now.frames depth)) at nought) }
+    {
+        self.number_of(depth, at)
+    }
+
+    // The same where the frame is as likely an older one.
+    #[inline(always)]
+    pub(crate) fn number_of(&self, depth: u32, at: u64) -> Option<i64>
         ensures { result ≡ number_within (slice_index_or (list_in (at_depth self.now.frames depth)) at nought) }
     {
         match extent_at(self.newest, &self.older, depth) {
@@ -332,6 +349,7 @@ impl Block {
     }
 
     // So many cells of a frame are 0, from this one on.
+    #[inline(always)]
     pub(crate) fn clear(&mut self, depth: u32, from: u32, count: u32)
         ensures { self.new ≡ record self.old { frames = frame_changed depth (values_cleared from count nought) self.old.frames } }
     {
@@ -447,9 +465,11 @@ impl Block {
     pub(crate) fn leave_bare(&mut self)
         ensures { self.new ≡ with_return [] self.old.waiting self.old }
     {
-        if let Some(extent) = self.older.pop() {
+        let waiting = self.older.len();
+        if waiting > 0 {
             self.cells.truncate(self.newest.floor);
-            self.newest = extent;
+            self.newest = self.older[waiting - 1];
+            self.older.truncate(waiting - 1);
         }
     }
 
@@ -632,6 +652,7 @@ fn put_number_in(cells: &mut Vec<Cell>, extent: Extent, at: u64, number: i64)
 }
 
 // The cells of the frame of an activation from a place on, so many of them as far as there are any, are 0.
+#[inline(always)]
 fn clear_in(cells: &mut Vec<Cell>, extent: Extent, from: u32, count: u32)
     requires { (extent.base ≤ extent.start) × (extent.start ≤ length cells.old.items) }
     ensures items { cells.new.items ≡ with_frame extent (values_cleared from count nought (frame_of extent cells.old.items)) cells.old.items }

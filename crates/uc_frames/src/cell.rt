@@ -93,16 +93,23 @@ pub(crate) fn is_writable(old: &Cell) -> bool
     }
 }
 
-// A number is written over a cell; a binding stays.
+// A number is written over a cell; a binding stays. Over a number it is most likely.
 #[inline(always)]
 pub(crate) fn write_over(cell: &mut Cell, number: i64)
     ensures { cell.new ≡ stored (Cell.Number number) cell.old }
 {
     match cell {
         Cell::Number(n) => *n = number,
-        Cell::Nothing => *cell = Cell::Number(number),
-        Cell::Place(_, _) => {}
-        Cell::Running(_) => {}
-        Cell::Object(_) => {}
+        _ => write_seldom(cell, number),
+    }
+}
+
+#[cold]
+#[inline(never)]
+fn write_seldom(cell: &mut Cell, number: i64)
+    ensures { cell.new ≡ stored (Cell.Number number) cell.old }
+{
+    if is_writable(cell) {
+        *cell = Cell::Number(number);
     }
 }

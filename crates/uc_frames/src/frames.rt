@@ -29,6 +29,7 @@ pub(crate) fn put(cells: &mut [Cell], at: u64, cell: Cell)
 }
 
 // The cells from a place on, so many of them as far as there are any, are 0.
+#[inline(always)]
 pub(crate) fn clear(cells: &mut [Cell], from: u32, count: u32)
     ensures { cells.new ≡ values_cleared from count nought cells.old }
 {
@@ -37,6 +38,7 @@ pub(crate) fn clear(cells: &mut [Cell], from: u32, count: u32)
     zero(&mut cells[from..to]);
 }
 
+#[inline(always)]
 fn zero(cells: &mut [Cell])
     ensures { cells.new ≡ replicate (length cells.old) nought }
 {

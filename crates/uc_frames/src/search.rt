@@ -1,8 +1,8 @@
 // Searches among the handlers of an op, from the innermost one outwards.
 
-ghost use Rattle.std.specs.Prelude.{◌≡◌, ◌≤◌, ◌<◌, ◌-◌, ◌^◌, ◌++◌, [], Some, length, false, MatchOption};
+ghost use Rattle.std.specs.Prelude.{◌≡◌, ◌≤◌, ◌<◌, ◌-◌, ◌^◌, ◌++◌, [], Some, length, true, false, MatchOption};
 ghost use Rattle.uc_code.specs.Layout.{chain};
-ghost use Rattle.uc_frames.specs.Searches.{catches as catches_by, resumes as resumes_by, cleans as cleans_by, is_named as is_named_by, is_sought, row_takes, behind_row, first_in, own_row, named, last_of, chain_within, IsHandler, IsSoughtAt};
+ghost use Rattle.uc_frames.specs.Searches.{catches as catches_by, resumes as resumes_by, cleans as cleans_by, is_named as is_named_by, is_sought, row_takes, behind_row, first_in, own_row, named, last_of, chain_within, IsCovered, IsHandler, IsSoughtAt};
 
 use uc_code::code::Code;
 use uc_code::rows::{ANY_EVENT, HandlerRow, NO_EVENT, RowKind};
@@ -36,13 +36,13 @@ pub fn first_within(code: &Code, next: u32, rest: u32, sought: HandlerQuery) -> 
     first_from(rows, number, sought)
 }
 
-/// Whether a handler may cover the op before `next`. Where none does, the answer tells that.
+/// Whether a row covers the op before `next`. Where none does, the op has no handlers.
 #[inline(always)]
 pub fn is_covered(code: &Code, next: u32) -> bool
-    ensures { result ≡ false → chain code.now.rows next ≡ [] }
+    ensures none { result ≡ false → chain code.now.rows next ≡ [] }
+    ensures some { result ≡ true → IsCovered code.now.rows next }
 {
-    let number = covering(code, next);
-    if number == 0 {
+    if code.covering(next) == 0 {
         return false;
     }
     true

@@ -29,7 +29,6 @@ use uc_machine::exec::UnwindReason;
 pub struct Stack {
     pub(crate) run: Activation,
     pub(crate) callers: Vec<Activation>,
-    pub(crate) waiting: usize,
     pub(crate) block: Block,
     pub(crate) links: Links,
 }
@@ -42,9 +41,9 @@ impl Model for Stack {
 
     ghost Value = { Execution ℕ Cell };
 
-    ghost view = { λ s. record { run = completed s.run s.block.operands; callers = all_completed (reverse (take s.waiting s.callers.items)) s.block.waiting; frames = s.block.frames; links = s.links } };
+    ghost view = { λ s. record { run = completed s.run s.block.operands; callers = all_completed (reverse (take (length s.block.waiting) s.callers.items)) s.block.waiting; frames = s.block.frames; links = s.links } };
 
-    ghost invariant = { λ s. (s.waiting < 2 ^ 32) × (s.waiting ≡ length s.block.waiting) × (s.waiting ≤ length s.callers.items) × Told s.run × All Told s.callers.items };
+    ghost invariant = { λ s. (length s.block.waiting < 2 ^ 32) × (length s.block.waiting ≤ length s.callers.items) × Told s.run × All Told s.callers.items };
 }
 
 impl Stack {
@@ -60,7 +59,6 @@ impl Stack {
         Ok(Stack {
             run: Activation::new(routine.entry, this, 0, false),
             callers: Vec::new(alloc),
-            waiting: 0,
             block,
             links: Links::new(alloc),
         })
@@ -71,7 +69,7 @@ impl Stack {
         ensures { MatchOption result (at_depth (self.now.run ∷ self.now.callers) level ≡ None)
             (λ a. (os : List Cell) × (at_depth (self.now.run ∷ self.now.callers) level ≡ Some (completed a.now os))) }
     {
-        let waiting = self.waiting;
+        let waiting = self.block.waiting();
         let level = level as usize;
         if level < waiting {
             return Some(&self.callers[level]);
@@ -86,7 +84,7 @@ impl Stack {
     pub(crate) fn caller(&self) -> Option<Option<UnwindReason>>
         ensures { MatchOption result (self.now.callers ≡ []) (λ why. IsCaller why self.now.callers) }
     {
-        let waiting = self.waiting;
+        let waiting = self.block.waiting();
         if waiting == 0 {
             return None;
         }
@@ -98,11 +96,11 @@ impl Stack {
     pub(crate) fn level(&self) -> u32
         ensures { result ≡ length self.now.callers }
     {
-        self.waiting as u32
+        self.block.waiting() as u32
     }
 
     // Makes a call. A part of who calls, so that what is known of the call there is not asked here. What a call seldom needs stands apart,
-    // so that nothing is kept for it. Executions of `u32::MAX` frames, or activations that wait, make no more.
+    // so that nothing is kept for it. Executions of `u32::MAX` frames make no more.
     #[inline(always)]
     pub(crate) fn enter(&mut self, call: Call) -> Result<(), AllocError>
         requires { call.counts ≡ true → self.old.links.calls < CALLS }
@@ -124,17 +122,16 @@ impl Stack {
         ensures stays { result ≡ false → self.new ≡ self.old }
     {
         let depth = self.block.depth();
-        let waiting = self.waiting;
-        if depth >= u32::MAX as usize || waiting as u32 == u32::MAX {
+        if depth >= u32::MAX as usize {
             return false;
         }
+        let waiting = self.block.waiting();
         if !wait_at(&mut self.callers, waiting, &self.run) {
             return false;
         }
         if !self.block.enter_in_place(call.routine, call.taken) {
             return false;
         }
-        self.waiting = waiting + 1;
         self.run
             .begin_plain(call.routine.entry, call.this, depth as u32, call.counts);
         self.links.enter(call.counts);
@@ -152,13 +149,9 @@ impl Stack {
         if depth >= u32::MAX as usize {
             return Err(AllocError);
         }
-        let waiting = self.waiting;
-        if waiting as u32 == u32::MAX {
-            return Err(AllocError);
-        }
+        let waiting = self.block.waiting();
         put_at(&mut self.callers, waiting, &self.run)?;
         self.block.enter(call.routine, call.taken)?;
-        self.waiting = waiting + 1;
         self.run
             .begin(call.routine.entry, call.this, depth as u32, call.counts);
         self.links.enter(call.counts);
@@ -173,13 +166,9 @@ impl Stack {
         if self.block.depth() >= u32::MAX as usize {
             return Err(AllocError);
         }
-        let waiting = self.waiting;
-        if waiting as u32 == u32::MAX {
-            return Err(AllocError);
-        }
+        let waiting = self.block.waiting();
         put_at(&mut self.callers, waiting, &self.run)?;
         self.block.enter_handler(handling.event)?;
-        self.waiting = waiting + 1;
         self.run = Activation::handler(handling);
         Ok(())
     }
@@ -191,14 +180,13 @@ impl Stack {
         ensures after { OnOk result (self.new ≡ call_left given self.old.callers self.old) }
         ensures err { OnErr result (self.new ≡ self.old) }
     {
-        let waiting = self.waiting;
+        let waiting = self.block.waiting();
         if waiting == 0 {
             return Ok(false);
         }
         self.block.leave(given)?;
         self.links.leave(self.run.counts);
         self.run.copy_from(&self.callers[waiting - 1]);
-        self.waiting = waiting - 1;
         Ok(true)
     }
 
@@ -208,14 +196,13 @@ impl Stack {
         ensures called { result ≡ nat_lt 0 (length self.old.callers) }
         ensures after { self.new ≡ call_over self.old.callers self.old }
     {
-        let waiting = self.waiting;
+        let waiting = self.block.waiting();
         if waiting == 0 {
             return false;
         }
         self.block.leave_bare();
         self.links.leave(self.run.counts);
         self.run.copy_from(&self.callers[waiting - 1]);
-        self.waiting = waiting - 1;
         true
     }
 
@@ -225,7 +212,7 @@ impl Stack {
         ensures called { result ≡ nat_lt 0 (length self.old.callers) }
         ensures after { self.new ≡ unwound_back why given self.old.callers self.old }
     {
-        let waiting = self.waiting;
+        let waiting = self.block.waiting();
         if waiting == 0 {
             return false;
         }
@@ -235,7 +222,6 @@ impl Stack {
         self.run.is_exceptional = true;
         self.run.raised = Some(why);
         self.run.result = given;
-        self.waiting = waiting - 1;
         true
     }
 
@@ -244,14 +230,13 @@ impl Stack {
         ensures called { result ≡ nat_lt 0 (length self.old.callers) }
         ensures after { self.new ≡ unwound_alike self.old.callers self.old }
     {
-        let waiting = self.waiting;
+        let waiting = self.block.waiting();
         if waiting == 0 {
             return false;
         }
         self.block.leave_unwinding();
         self.links.leave(self.run.counts);
         self.run.unwind_on(&self.callers[waiting - 1]);
-        self.waiting = waiting - 1;
         true
     }
 

@@ -102,12 +102,25 @@ impl Work {
     {
         match &self.task.running.run.this {
             Cell::Place(Owner::Frame { exec, depth }, at) => {
-                match self.frame_cell(*exec, *depth, at.saturating_add(u64::from(cell))) {
-                    None => Some(0),
-                    Some(cell) => number_in_place(cell),
+                let place = at.saturating_add(u64::from(cell));
+                if self.runs(*exec) {
+                    self.task.running.block.number_of(*depth, place)
+                } else {
+                    self.number_elsewhere(*exec, *depth, place)
                 }
             }
             _ => self.own_number_apart(cell),
+        }
+    }
+
+    // The number in a cell of a frame, if it holds one. It stands apart, so that who reads a frame of the running execution calls nothing.
+    #[inline(never)]
+    fn number_elsewhere(&self, exec: Exec, depth: u32, at: u64) -> Option<i64>
+        ensures { result ≡ number_within (value_at (Owner.Frame exec depth) at nought self.now.env) }
+    {
+        match self.frame_cell(exec, depth, at) {
+            None => Some(0),
+            Some(cell) => number_in_place(cell),
         }
     }
 

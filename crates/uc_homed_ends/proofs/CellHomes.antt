@@ -1,13 +1,12 @@
--- What is read in a frame before a mutex object ends is at home there, since the own cells of frames hold what is at home; and what a step is to find for that
--- is found where all is known.
+-- What is read before a mutex object ends is at home there, since the own cells of frames and of mutex objects hold what is at home; and what a step is to find
+-- for that is found where all is known.
 use Rattle.std.proofs.Common.{◌≡◌, ℕ, suc, ◌<◌, inl, inr, Bool, true, false, List, [], ◌∷◌, length, drop, Option, Some, None, refl, sym, ap, ◌∙◌, subst, arith}
 use Rattle.std.specs.Prelude.{slice_get}
 use Rattle.uc_tree.specs.Programs.{Program}
 use Rattle.uc_tree.specs.Source.{Expr, Load, Binding, Routine, Source}
 use Rattle.uc_machine.specs.declared.exec.Owner.TheVariants.{Frame}
-use Rattle.uc_machine.specs.Executions.{at_depth}
 use Rattle.uc_machine.specs.Pieces as piece
-use Rattle.uc_machine.specs.Pieces.{Slot, FieldAt, At, Value, Number, Place, Running, Object, Nothing, LAST_ADDRESS, address, Todo, State, Env, further, loaded, top, below}
+use Rattle.uc_machine.specs.Pieces.{Slot, FieldAt, At, Value, Number, Place, Running, Object, Nothing, Todo, State, Env, further, loaded, top, below}
 use Rattle.uc_resolve.specs.Resolve.{source_of}
 use Rattle.uc_rules.specs.Breaks.{breaks_of}
 use Rattle.uc_state_laws.specs.Counted.{params, params_at}
@@ -19,20 +18,22 @@ use Rattle.uc_typing.proofs.Answers.{there}
 use Rattle.uc_typing.proofs.Frames.{drop_onto}
 use Rattle.uc_sound.specs.SoundFormed.{IsFormed}
 use Rattle.uc_sound.specs.Tables.{table_of}
+use Rattle.uc_sound.proofs.Lists.{right_is}
 use Rattle.uc_sound.proofs.SoundLemmas.{law_sound}
+use Rattle.uc_sound.proofs.Ties.{false_true}
 use Rattle.uc_life_laws.specs.Things.{Few, Known}
 use Rattle.uc_life_laws.specs.Knowing.{AtHand, KnownAll, KnowsState}
 use Rattle.uc_life_laws.specs.MadeObjects as made
 use Rattle.uc_life_laws.specs.Ending.{Spot, OfVariable, OfField, naming, place_at}
 use Rattle.uc_life_laws.proofs.Knowns.{newest, values_drop}
-use Rattle.uc_cell_laws.specs.Sites.{Telling, HasPlace, EndsAt}
+use Rattle.uc_cell_laws.specs.Sites.{Telling, IsNoMaker, HasPlace, EndsAt}
 use Rattle.uc_cell_laws.specs.CellTodos as code
-use Rattle.uc_cell_laws.specs.CellTodos.{IsOwnPart, Mark, Sited, around, Meets}
-use Rattle.uc_cell_laws.specs.CellStates.{is_unframed, IsOwnCell, CellState, FindsNumber, FindsAt, CellFinds}
-use Rattle.uc_cell_laws.specs.OwnCells.{telling_of}
-use Rattle.uc_cell_laws.proofs.CellPlaces.{part_lies, inside_place, variable_meets, field_meets, element_meets, Lies, sited_lies}
-use Rattle.uc_cell_laws.proofs.Variables.{law_addresses}
-use Rattle.uc_cell_laws.proofs.OwnCells.{law_cells}
+use Rattle.uc_cell_laws.specs.CellTodos.{Mark, Sited, around, Meets}
+use Rattle.uc_cell_laws.specs.CellStates.{CellState, FindsNumber, FindsAt, CellFinds}
+use Rattle.uc_cell_laws.specs.OwnCells.{is_of_objects, telling_of}
+use Rattle.uc_cell_laws.proofs.CellFields.{part_read}
+use Rattle.uc_cell_laws.proofs.CellPlaces.{variable_meets, field_meets, element_meets, sited_lies}
+use Rattle.uc_cell_laws.proofs.OwnCells.{may_write}
 use Rattle.uc_homed_ends.specs.EndCode.{EndSite, AtSpot, AtElement, named}
 use Rattle.uc_homed_ends.specs.EndWays as ways
 use Rattle.uc_homed_ends.specs.EndWays.{Found, Leaves}
@@ -44,16 +45,16 @@ same_object n o e = cc
 some_same : (c d : ℕ) → Some c ≡ Some d → c ≡ d
 some_same c d e = cc
 
-numbered : (v : Value) → IsNumbered v → is_unframed v ≡ true
+numbered : (v : Value) → IsNumbered v → (o : ℕ) × (v ≡ Object o)
 numbered (Number z) h = absurd h
 numbered (Place o p) h = absurd h
 numbered (Running e) h = absurd h
-numbered (Object o) h = refl
+numbered (Object o) h = (o, refl)
 numbered Nothing h = absurd h
 
-module _ (p : Program) (formed : IsFormed p) (accepted : breaks_of p ≡ []) (few : Few) where
+module _ (p : Program) (formed : IsFormed p) (accepted : breaks_of p ≡ []) (few : Few) (class : ℕ → Option ℕ) where
   abbrev g : Telling
-  g = telling_of p few
+  g = telling_of p few class
 
   abbrev t : Table
   t = table_of p
@@ -70,22 +71,26 @@ module _ (p : Program) (formed : IsFormed p) (accepted : breaks_of p ≡ []) (fe
     abbrev Here : Value → Ty → Type 0
     Here w a = AtHand t few s.env.exec x.sigs (s.run ∷ s.callers) w a
 
-    number_of : (b : Bool) (c : ℕ) (v : Value) → t.mutex c ≡ true → Known t few s.env.exec Here (object_ty b c) v → is_unframed v ≡ true
+    number_of : (b : Bool) (c : ℕ) (v : Value) → t.mutex c ≡ true → Known t few s.env.exec Here (object_ty b c) v → (o : ℕ) × (v ≡ Object o)
     number_of true c v m h = numbered v (subst (λ b. IsObjectBy t b c v) m h.is)
     number_of false c v m h = numbered v (subst (λ b. IsObjectBy t b c v) m h.is)
 
     called : (q : ℕ) (more : List Ty) (c : ℕ) → CallsOn t q x.run.own more c → FindsNumber g q s
-    called q more c h = λ d e m. by d m (slice_get source.routines q) refl (some_same c d (sym h.1 ∙ e))
+    called q more c h = λ special d e m. by d m (slice_get source.routines q) refl (some_same c d (sym h.1 ∙ e))
       where
         sound : Sound t source
         sound = law_sound p formed accepted
 
-        by : (d : ℕ) → t.mutex d ≡ true → (y : Option Routine) → slice_get source.routines q ≡ y → c ≡ d → is_unframed (top (drop (params_at y) s.run.operands)) ≡ true
+        by : (d : ℕ) → t.mutex d ≡ true → (y : Option Routine) → slice_get source.routines q ≡ y → c ≡ d → (o : ℕ) × (top (drop (params_at y) s.run.operands) ≡ Object o)
         by d m None f same = absurd (there source.routines q (subst (λ k. q < k) (sym sound.count) h.2) f)
         by d m (Some y) f same =
             let v : KnownAll t few s.env.exec Here (onto (t.routine q).params (object_ty (t.routine q).whole c ∷ more)) s.run.operands = subst (λ l. KnownAll t few s.env.exec Here l s.run.operands) h.0 x.run.values in
             let k : KnownAll t few s.env.exec Here (object_ty (t.routine q).whole c ∷ more) (drop y.params s.run.operands) = subst (λ n. KnownAll t few s.env.exec Here (object_ty (t.routine q).whole c ∷ more) (drop n s.run.operands)) (sym (sound.routines q y f).params) (subst (λ l. KnownAll t few s.env.exec Here l (drop (length (t.routine q).params) s.run.operands)) (drop_onto (t.routine q).params (object_ty (t.routine q).whole c ∷ more)) (values_drop t few s.env.exec Here (length (t.routine q).params) (onto (t.routine q).params (object_ty (t.routine q).whole c ∷ more)) s.run.operands v)) in
             number_of (t.routine q).whole c (top (drop y.params s.run.operands)) (subst (λ n. t.mutex n ≡ true) (sym same) m) (newest t few s.env.exec Here (object_ty (t.routine q).whole c) more (drop y.params s.run.operands) k)
+
+    -- what has no object builds and destroys none
+    no_maker : (q : ℕ) → (t.routine q).this ≡ None → IsNoMaker g q
+    no_maker q e h = let k = right_is (t.routine q).whole (is_of_objects p (t.routine q).this) h in false_true (subst (λ o. is_of_objects p o ≡ true) e k)
 
     -- so a step finds what it is to find for own cells, where what is made is bound at home
     pub finds_here : (many : ℕ) → made.Binds source few.home many s → CellFinds g s
@@ -93,6 +98,7 @@ module _ (p : Program) (formed : IsFormed p) (accepted : breaks_of p ≡ []) (fe
       where
         by : (l : List Todo) → Ok t x.run.sig x.run.base x.run.scope l x.run.own → made.BindsAt source few.home many l s → FindsAt g l s
         by (piece.BindMadeNow c r ∷ todo) ok h = λ o e. subst (λ n. few.home n ≡ top (drop (params source r) (below s.run.operands))) (same_object h.number o (sym h.object ∙ e)) h.home
+        by (piece.CallNow q ∷ todo) ok h = no_maker q ok.2
         by (piece.CallOnNow q ∷ todo) ok h = called q ok.0 ok.1 ok.2
         by (piece.CallUnwrittenNow q ∷ todo) ok h = called q ok.0 ok.1 ok.2
         by [] ok h = tt
@@ -104,7 +110,7 @@ module _ (p : Program) (formed : IsFormed p) (accepted : breaks_of p ≡ []) (fe
   EndsIn q e = (b : ℕ) × (t.mutex b ≡ true) × HasPlace g q e (Cell (Obj b))
 
   of_end : (q r : ℕ) (e : Expr) → EndsAt g q r (Load e) → EndsIn q e
-  of_end q r e h = h.1
+  of_end q r e h = (h.0, h.2, h.3)
 
   sited : (q : ℕ) (ms : List Mark) (x : EndSite) (r : ℕ) (written : Bool) (l : List Todo) → Leaves x r written l → code.Ok g q ms l → EndsIn q (named x)
   sited q ms (AtSpot y) r written l (todo, inl e) ok =
@@ -152,28 +158,19 @@ module _ (p : Program) (formed : IsFormed p) (accepted : breaks_of p ≡ []) (fe
   site_same s u e f o (AtSpot y) j = spot_same s u e f o y
   site_same s u e f o (AtElement n y) j = ap (further (At Binding j)) (spot_same s u e f o y)
 
+  -- so what is read before it ends is at home there
   module _ (within : IsWithinLimits p) where
-    -- an object that is loaded from an own part in a frame is at home there
-    from_part : (u : State) (h : CellState g u) (d r : ℕ) (v : Value) (b : ℕ) → at_depth h.routines d ≡ Some r → t.mutex b ≡ true → IsOwnPart t g.owns source r (Frame u.env.exec d) v (Cell (Obj b)) → (o : ℕ) → loaded v u.env ≡ Object o → few.home o ≡ v
-    from_part u h d r v b at mutex part o e =
-        let x = inside_place t g.owns (Frame u.env.exec d) (Slot part.cell ∷ []) part.inside in
-        let there : IsOwnPart t g.owns source r (Frame u.env.exec d) (Place (Frame u.env.exec d) x.0) (Cell (Obj b)) = subst (λ z. IsOwnPart t g.owns source r (Frame u.env.exec d) z (Cell (Obj b))) x.1 part in
-        let own : IsOwnCell g r (Frame u.env.exec d) x.0 = (Obj b, mutex, there) in
-        let lt : address x.0 < LAST_ADDRESS = law_addresses p formed accepted within r (Frame u.env.exec d) x.0 (Obj b) (part_lies g r (Frame u.env.exec d) (Place (Frame u.env.exec d) x.0) (Cell (Obj b)) there) in
-        law_cells.reads p few u h d r x.0 at own lt o (subst (λ z. loaded z u.env ≡ Object o) x.1 e) ∙ sym x.1
-
-    -- so it is of what is read before it ends, where that lies in a frame
-    pub framed_home : (s : State) → Reading t CellHere s → is_unframed (top s.run.operands) ≡ false → (o : ℕ) → loaded (top s.run.operands) s.env ≡ Object o → few.home o ≡ top s.run.operands
-    framed_home s x framed o e =
+    pub home_read : (s : State) → Reading t CellHere s → (o : ℕ) → loaded (top s.run.operands) s.env ≡ Object o → few.home o ≡ top s.run.operands
+    home_read s x o e =
         let u : State = x.start in
         let run = x.held.run in
         let k = sited run.routine run.marks x.site x.routine x.written u.run.control x.leaves run.ok in
         let f = found_place s x.site x.found in
-        let same : top s.run.operands ≡ place_of x.site s.run.elements u = f.0 ∙ site_same s u x.env x.frame x.object x.site s.run.elements in
+        let there : Value = place_of x.site s.run.elements u in
+        let same : top s.run.operands ≡ there = f.0 ∙ site_same s u x.env x.frame x.object x.site s.run.elements in
         let low = run.low in
-        let lies = sited_lies g u.env.exec x.held.routines (suc (length u.callers)) run.routine u.run.frame (length u.callers) u.run.this (omega (arith, low)) (omega arith) run.frame run.this (place_of x.site s.run.elements u) (Cell (Obj k.0)) (site_meets run.routine u x.site s.run.elements (Cell (Obj k.0)) f.1 k.2) in
-        by u x.held (place_of x.site s.run.elements u) k.0 k.1 same (subst (λ (v : Env). loaded (top s.run.operands) v ≡ Object o) x.env e) lies
-      where
-        by : (u : State) (h : CellState g u) (v : Value) (b : ℕ) → t.mutex b ≡ true → top s.run.operands ≡ v → loaded (top s.run.operands) u.env ≡ Object o → Lies g u.env.exec h.routines (suc (length u.callers)) v (Cell (Obj b)) → few.home o ≡ top s.run.operands
-        by u h v b m q l (inl free) = let no : true ≡ false = sym free ∙ (ap is_unframed (sym q) ∙ framed) in absurd (cc)
-        by u h v b m q l (inr lies) = from_part u h lies.0 lies.1 v b lies.3 m lies.4 o (subst (λ z. loaded z u.env ≡ Object o) q l) ∙ sym q
+        let level : ℕ = suc (length u.callers) in
+        let lies = sited_lies g u.env.exec x.held.routines level run.routine u.run.frame (length u.callers) u.run.this (omega (arith, low)) (omega arith) run.frame run.this there (Cell (Obj k.0)) (site_meets run.routine u x.site s.run.elements (Cell (Obj k.0)) f.1 k.2) in
+        let free = part_read g (may_write p formed accepted few class within) u.env x.held.routines level x.held.cells x.held.env there k.0 k.1 lies in
+        let loads : loaded there u.env ≡ Object o = subst (λ z. loaded z u.env ≡ Object o) same (subst (λ (v : Env). loaded (top s.run.operands) v ≡ Object o) x.env e) in
+        (free o loads).0 ∙ sym same

@@ -4,7 +4,7 @@ use Rattle.std.specs.Prelude.{slice_get, if◌then◌else◌, pos}
 use Rattle.std.proofs.lemmas.Bool.{eqb-true}
 use Rattle.uc_tree.specs.declared.limits.TheConstants.{DESTRUCTOR}
 use Rattle.uc_tree.specs.Programs.{Program}
-use Rattle.uc_tree.specs.Source.{Source, Routine}
+use Rattle.uc_tree.specs.Source.{Shape, Binding, Source, Routine}
 use Rattle.uc_entry.specs.Keyed.{find}
 use Rattle.uc_entry.specs.declared.entry.Entry.{Entry}
 use Rattle.uc_entry.specs.declared.entry.EntryKind.TheVariants as kind
@@ -25,7 +25,7 @@ use Rattle.uc_answer_laws.proofs.Told.{no_both}
 use Rattle.uc_machine.specs.declared.exec.Exec.{Exec}
 use Rattle.uc_machine.specs.declared.exec.Owner.TheVariants.{Frame}
 use Rattle.uc_machine.specs.Pieces as piece
-use Rattle.uc_machine.specs.Pieces.{Slot, Value, Place, Object, Todo, LoadNow, EnterNow, State, Env, Asks, loaded, top, object_in, variable_at}
+use Rattle.uc_machine.specs.Pieces.{Slot, FieldAt, At, Value, Number, Place, Running, Object, Nothing, Todo, LoadNow, EnterNow, State, Env, Asks, further, loaded, top, object_in, variable_at}
 use Rattle.uc_machine.specs.Monitors.{may_call, enter_at, enter_step}
 use Rattle.uc_machine.specs.Quiet.{quiet, act_todo, fault}
 use Rattle.uc_machine.specs.Answering.{answered, child_of}
@@ -58,7 +58,7 @@ use Rattle.uc_life_laws.proofs.LivesLemmas.{law_lives}
 use Rattle.uc_life_laws.proofs.Laying.{laid_out}
 use Rattle.uc_life_laws.proofs.Owned.{tasks_grow}
 use Rattle.uc_life_laws.proofs.Own.{law_own}
-use Rattle.uc_life_laws.specs.Ending.{Spot, OfVariable, OfField, ends_at}
+use Rattle.uc_life_laws.specs.Ending.{Spot, OfVariable, OfField, ends_at, place_at}
 use Rattle.uc_putting_laws.specs.CleanedSpots.{Site, Under, site_spot, IsOf, IsIn}
 use Rattle.uc_putting_laws.specs.Putting.{Setting, Mark, Any, Homed, rest, rests, IsHome, IsEnding, Holds, FirstUnder, FirstHome, OfObjects, SeatAt, CallFits, Ok, PutState}
 use Rattle.uc_putting_laws.specs.PuttingLaws.{special_of, setting_of, FairAt, Fair}
@@ -73,8 +73,7 @@ use Rattle.uc_homed_ends.specs.EndCode.{EndSite, AtSpot, AtElement}
 use Rattle.uc_homed_ends.specs.EndLists.{FreeList, FreeActive}
 use Rattle.uc_homed_ends.specs.EndWays as ways
 use Rattle.uc_homed_ends.specs.EndWays.{Stage, Found, Leaves, Way, Enters, NowBy, todo_at}
-use Rattle.uc_homed_ends.specs.HomedEnds.{IsElsewhere}
-use Rattle.uc_homed_ends.specs.Ended.{LoadsAt, Loads, LawEnded}
+use Rattle.uc_homed_ends.specs.Ended.{is_variable, IsEntered, LawEnded}
 use Rattle.uc_homed_ends.proofs.Wholes.{plain_whole}
 use Rattle.uc_homed_ends.proofs.EndCodes.{free_of}
 use Rattle.uc_homed_ends.proofs.EndRuns.{Grows, RunGrows, leads_now}
@@ -83,16 +82,29 @@ use Rattle.uc_homed_ends.proofs.EndRuns.{Grows, RunGrows, leads_now}
 record Loaded (few : Few) (j : Journal) (n : Exec) (v : Value) : Type 0 where
   number : ℕ
   is : v ≡ Object number
-  there : is_gone number j ≡ false
+  there : is_variable (few.home number) ≡ true → is_gone number j ≡ false
   own : Belongs few n (few.home number)
 
--- states in which marks are put for what is the execution's own, rooms are kept, homes are right, what is in scope holds what is not gone, and what is
--- loaded elsewhere is not gone
+-- states in which marks are put for what is the execution's own, rooms are kept, homes are right, and what is in scope holds what is not gone
 record Here (p : Program) (few : Few) (j : Journal) (s : State) : Type 0 where
   stands : Stands p (setting_of p few) s
   fair : Fair (setting_of p few) s
   life : LivesState (table_of p) (lasting few j) s
-  loads : Loads j s
+
+-- what lies further on from a place is no variable
+further_field : (h : Shape) (i : ℕ) (v : Value) → is_variable (further (FieldAt h i) v) ≡ false
+further_field h i (Number z) = refl
+further_field h i (Place o p) = refl
+further_field h i (Running n) = refl
+further_field h i (Object o) = refl
+further_field h i Nothing = refl
+
+further_element : (h : Shape) (i : ℕ) (v : Value) → is_variable (further (At h i) v) ≡ false
+further_element h i (Number z) = refl
+further_element h i (Place o p) = refl
+further_element h i (Running n) = refl
+further_element h i (Object o) = refl
+further_element h i Nothing = refl
 
 -- a part of the object at hand is no variable
 no_part : (Z : ℕ → ℕ → Type 0) (s : State) → StackState Z s → (k r : ℕ) (written : Bool) (todo : List Todo) → s.run.control ≡ piece.Unwind ∷ (piece.Part (ends_at (OfVariable k) r written) ∷ todo) → ⊥
@@ -182,17 +194,15 @@ module _ (p : Program) (sound : Sound (table_of p) (source_of p)) (few : Few) (s
   is_ending r true todo = refl
 
   module _ (j : Journal) (h : Here p few j s) (w : Way (table_of p) (Here p few j) s) (b : Bool) (c : s.run.control ≡ LoadNow ∷ ways.entering w.routine b w.todo) where
-    elsewhere : IsElsewhere s (top s.run.operands) → (o : ℕ) → loaded (top s.run.operands) s.env ≡ Object o → is_gone o j ≡ false
-    elsewhere = (subst (λ l. LoadsAt j l s) c h.loads) (is_ending w.routine b w.todo)
-
-    there_at : (x : EndSite) → Found ways.Reads x s → Leaves x w.routine b w.start.run.control → (o : ℕ) → loaded (top s.run.operands) s.env ≡ Object o → is_gone o j ≡ false
-    there_at (AtSpot (OfVariable k)) f l o e =
+    -- of what is loaded from a variable
+    there_at : (x : EndSite) → Found ways.Reads x s → Leaves x w.routine b w.start.run.control → is_variable (top s.run.operands) ≡ true → (o : ℕ) → loaded (top s.run.operands) s.env ≡ Object o → is_gone o j ≡ false
+    there_at (AtSpot (OfVariable k)) f l v o e =
         let here : loaded (variable_at k s) s.env ≡ Object o = subst (λ v. loaded v s.env ≡ Object o) f e in
         let framed : loaded (Place (Frame s.env.exec w.start.run.frame) (Slot k ∷ [])) s.env ≡ Object o = subst (λ (d : ℕ). loaded (Place (Frame s.env.exec d) (Slot k ∷ [])) s.env ≡ Object o) w.frame here in
         let before : loaded (variable_at k w.start) w.start.env ≡ Object o = subst (λ (v : Env). loaded (Place (Frame v.exec w.start.run.frame) (Slot k ∷ [])) v ≡ Object o) w.env framed in
         left_there (table_of p) few j w.start w.held.life k w.routine w.class b w.this w.whole (Sized p) w.held.stands.stack l o before
-    there_at (AtSpot (OfField h i)) f l o e = elsewhere (inl (h, i, f)) o e
-    there_at (AtElement n q) f l o e = elsewhere (inr (q, f.0)) o e
+    there_at (AtSpot (OfField h i)) f l v o e = no_both (is_variable (top s.run.operands)) v (ap is_variable f ∙ further_field h i s.run.this)
+    there_at (AtElement n q) f l v o e = no_both (is_variable (top s.run.operands)) v (ap is_variable f.0 ∙ further_element Binding s.run.elements (place_at q s))
 
     load : (x : EndSite) → Found ways.Reads x s → Leaves x w.routine b w.start.run.control → Loaded few j s.env.exec (loaded (top s.run.operands) s.env)
     load x f l =
@@ -201,7 +211,7 @@ module _ (p : Program) (sound : Sound (table_of p) (source_of p)) (few : Few) (s
         record {
           number = at_home.number;
           is = at_home.object;
-          there = there_at x f l at_home.number at_home.object;
+          there = λ v. there_at x f l (ap is_variable (sym at_home.home) ∙ v) at_home.number at_home.object;
           own = subst (Belongs few s.env.exec) (sym at_home.home) belongs;
         }
 
@@ -217,31 +227,31 @@ module _ (p : Program) (formed : IsFormed p) (accepted : breaks_of p ≡ []) (fe
   abbrev Lives : Journal → State → Type 0
   Lives j s = LivesState (table_of p) (lasting few j) s
 
-  at_ride : (j : Journal) {s u : State} {q k : ℕ} {a : Asked} (d : Rides source s q u k a) → RideMeets FairHere source s q u k a d → RideMeets (Loads j) source s q u k a d → RideMeets (Lives j) source s q u k a d → Stands p (setting_of p few) s → RideMeets (Here p few j) source s q u k a d
-  at_ride j rides.slices f m l n = tt
-  at_ride j (rides.goes_on {s} {t} e r) f m l n =
-      (record { stands = n; fair = f.0; life = l.0; loads = m.0 }, at_ride j r f.1 m.1 l.1 (goes p (setting_of p few) (laid_out p formed accepted) (law_accepted p accepted) (code_of p formed accepted few) s t e n f.0))
-  at_ride j (rides.ticks {s} {t} e r) f m l n =
-      (record { stands = n; fair = f.0; life = l.0; loads = m.0 }, at_ride j r f.1 m.1 l.1 (ticks p (setting_of p few) (laid_out p formed accepted) (law_accepted p accepted) (code_of p formed accepted few) s t e n f.0))
-  at_ride j (rides.asks e) f m l n = record { stands = n; fair = f; life = l; loads = m }
+  at_ride : (j : Journal) {s u : State} {q k : ℕ} {a : Asked} (d : Rides source s q u k a) → RideMeets FairHere source s q u k a d → RideMeets (Lives j) source s q u k a d → Stands p (setting_of p few) s → RideMeets (Here p few j) source s q u k a d
+  at_ride j rides.slices f l n = tt
+  at_ride j (rides.goes_on {s} {t} e r) f l n =
+      (record { stands = n; fair = f.0; life = l.0 }, at_ride j r f.1 l.1 (goes p (setting_of p few) (laid_out p formed accepted) (law_accepted p accepted) (code_of p formed accepted few) s t e n f.0))
+  at_ride j (rides.ticks {s} {t} e r) f l n =
+      (record { stands = n; fair = f.0; life = l.0 }, at_ride j r f.1 l.1 (ticks p (setting_of p few) (laid_out p formed accepted) (law_accepted p accepted) (code_of p formed accepted few) s t e n f.0))
+  at_ride j (rides.asks e) f l n = record { stands = n; fair = f; life = l }
 
-  at_leads : (j : Journal) {s u : State} (d : Leads source s u) → LeadsMeet FairHere source s u d → LeadsMeet (Loads j) source s u d → LeadsMeet (Lives j) source s u d → Stands p (setting_of p few) s → LeadsMeet (Here p few j) source s u d
-  at_leads j rooms.stays f m l n = tt
-  at_leads j (rooms.goes {s} {u} e d) f m l n =
-      (record { stands = n; fair = f.0; life = l.0; loads = m.0 }, at_leads j d f.1 m.1 l.1 (goes p (setting_of p few) (laid_out p formed accepted) (law_accepted p accepted) (code_of p formed accepted few) s u e n f.0))
-  at_leads j (rooms.ticks {s} {u} e d) f m l n =
-      (record { stands = n; fair = f.0; life = l.0; loads = m.0 }, at_leads j d f.1 m.1 l.1 (ticks p (setting_of p few) (laid_out p formed accepted) (law_accepted p accepted) (code_of p formed accepted few) s u e n f.0))
+  at_leads : (j : Journal) {s u : State} (d : Leads source s u) → LeadsMeet FairHere source s u d → LeadsMeet (Lives j) source s u d → Stands p (setting_of p few) s → LeadsMeet (Here p few j) source s u d
+  at_leads j rooms.stays f l n = tt
+  at_leads j (rooms.goes {s} {u} e d) f l n =
+      (record { stands = n; fair = f.0; life = l.0 }, at_leads j d f.1 l.1 (goes p (setting_of p few) (laid_out p formed accepted) (law_accepted p accepted) (code_of p formed accepted few) s u e n f.0))
+  at_leads j (rooms.ticks {s} {u} e d) f l n =
+      (record { stands = n; fair = f.0; life = l.0 }, at_leads j d f.1 l.1 (ticks p (setting_of p few) (laid_out p formed accepted) (law_accepted p accepted) (code_of p formed accepted few) s u e n f.0))
 
   put_there : {j : Journal} {w : World} (r : Runs source input opts j w) → RunFits source input opts j w r → RunMeets FairHere source input opts j w r → is_over j ≡ false → PutWorld (setting_of p few) j w
   put_there r fits fair on = (run_put p accepted few (laid_out p formed accepted) (law_calling p formed accepted).main (code_of p formed accepted few) input opts range r fits fair).0 on
 
-  at_run : {j : Journal} {w : World} (r : Runs source input opts j w) → RunFits source input opts j w r → RunMeets FairHere source input opts j w r → RunMeetsAt Loads source input opts j w r → RunMeetsAt Lives source input opts j w r → RunMeetsAt (Here p few) source input opts j w r
-  at_run begun fits f m l = tt
-  at_run (more r on (gives q t s le)) fits f m l = (at_run r fits.0 f.0 m.0 l.0, tt)
-  at_run (more r on (no_room q t s le)) fits f m l = (at_run r fits.0 f.0 m.0 l.0, tt)
-  at_run (more {j} {w} r on (acts q t n s asked d)) fits f m l = (
-    at_run r fits.0 f.0 m.0 l.0,
-    at_ride j d.rides f.1 m.1 l.1 (start p accepted few (laid_out p formed accepted) (law_calling p formed accepted).main (code_of p formed accepted few) input opts range (run_rests source input opts range r fits.0 on) on (put_there r fits.0 f.0 on) (law_frame_runs p accepted input opts j w r) q t d.given d.runs d.told),
+  at_run : {j : Journal} {w : World} (r : Runs source input opts j w) → RunFits source input opts j w r → RunMeets FairHere source input opts j w r → RunMeetsAt Lives source input opts j w r → RunMeetsAt (Here p few) source input opts j w r
+  at_run begun fits f l = tt
+  at_run (more r on (gives q t s le)) fits f l = (at_run r fits.0 f.0 l.0, tt)
+  at_run (more r on (no_room q t s le)) fits f l = (at_run r fits.0 f.0 l.0, tt)
+  at_run (more {j} {w} r on (acts q t n s asked d)) fits f l = (
+    at_run r fits.0 f.0 l.0,
+    at_ride j d.rides f.1 l.1 (start p accepted few (laid_out p formed accepted) (law_calling p formed accepted).main (code_of p formed accepted few) input opts range (run_rests source input opts range r fits.0 on) on (put_there r fits.0 f.0 on) (law_frame_runs p accepted input opts j w r) q t d.given d.runs d.told),
   )
 
   -- what goes as entries stand
@@ -289,7 +299,7 @@ module _ (p : Program) (formed : IsFormed p) (accepted : breaks_of p ≡ []) (fe
     -- what another has loaded does not go
     other_keeps : (o : ℕ) → asked.request ≡ ask.Gone o → IsLeft (table_of p) few (j ++ a) x t o → (u : ℕ) → (u == t) ≡ false → u < task_count j → spawns a u ≡ false → (v : Value) → Loaded few j (w.tasks u).env.exec v → Loaded few (j ++ a) (w.tasks u).env.exec v
     other_keeps o e left u n l f v h =
-        record { number = h.number; is = h.is; there = by (is_gone h.number (j ++ a)) refl; own = h.own }
+        record { number = h.number; is = h.is; there = λ z. by z (is_gone h.number (j ++ a)) refl; own = h.own }
       where
         same : (x.tasks u).env.exec ≡ (w.tasks u).env.exec
         same = ap (λ (m : State). m.env.exec) (same_task u n f)
@@ -307,12 +317,12 @@ module _ (p : Program) (formed : IsFormed p) (accepted : breaks_of p ≡ []) (fe
             let one : u ≡ t = left.name.running u (omega (arith, l, g)) (same ∙ law_own few (w.tasks u).env.exec (x.tasks t).env.exec (few.home o) mine left.belongs) in
             differ one n
 
-        by : (b : Bool) → is_gone h.number (j ++ a) ≡ b → is_gone h.number (j ++ a) ≡ false
-        by true y = absurd (away (goes_alone o e h.number h.there y))
-        by false y = y
+        by : is_variable (few.home h.number) ≡ true → (b : Bool) → is_gone h.number (j ++ a) ≡ b → is_gone h.number (j ++ a) ≡ false
+        by z true y = absurd (away (goes_alone o e h.number (h.there z) y))
+        by z false y = y
 
     kept : destroys asked.request ≡ false → (n : Exec) (v : Value) → Loaded few j n v → Loaded few (j ++ a) n v
-    kept d n v h = record { number = h.number; is = h.is; there = same_gone d h.number ∙ h.there; own = h.own }
+    kept d n v h = record { number = h.number; is = h.is; there = λ z. same_gone d h.number ∙ h.there z; own = h.own }
 
   left_by : (r : Request) (j : Journal) (y : World) (t o : ℕ) → r ≡ ask.Gone o → LeftBehind (table_of p) few j y t r → IsLeft (table_of p) few j y t o
   left_by r j y t o e h = subst (LeftBehind (table_of p) few j y t) e h
@@ -333,7 +343,7 @@ module _ (p : Program) (formed : IsFormed p) (accepted : breaks_of p ≡ []) (fe
 
   may_grow : {j : Journal} {w : World} {a : List Entry} {y : World} (m : May source opts input j w a y) → is_over (j ++ a) ≡ false → MayLeave (table_of p) few source opts input j w a y m → Grows (table_of p) (Here p few) Told loading source (free_of p formed accepted) input opts range m
   may_grow {j} {w} (gives q t s le) still left =
-      λ u v h. record { number = h.number; is = h.is; there = gone_still h.number j (dispatch q t) refl ∙ h.there; own = h.own }
+      λ u v h. record { number = h.number; is = h.is; there = λ z. gone_still h.number j (dispatch q t) refl ∙ h.there z; own = h.own }
   may_grow (no_room q t s le) still left = tt
   may_grow {j} {w} (acts q t k s asked d) still left = (
     (λ u n l lives f v h. grows_by asked.request j w q t k s asked refl still left u n l f v h),
@@ -344,10 +354,10 @@ module _ (p : Program) (formed : IsFormed p) (accepted : breaks_of p ≡ []) (fe
   run_grow begun left = tt
   run_grow (more r on m) left = (run_grow r left.0, λ still. may_grow m still left.1)
 
-  now : {j : Journal} {w : World} (r : Runs source input opts j w) → RunFits source input opts j w r → is_over j ≡ false → RunLeft (table_of p) few source input opts j w r → RunMeets FairHere source input opts j w r → RunMeetsAt Loads source input opts j w r → RunMeetsAt Lives source input opts j w r → (t : ℕ) (s : State) (c : Comes source j w t s) → LeadsMeet FairHere source (answered source c.given (drawn j w t)) s c.leads → LeadsMeet (Loads j) source (answered source c.given (drawn j w t)) s c.leads → LeadsMeet (Lives j) source (answered source c.given (drawn j w t)) s c.leads → NowBy (table_of p) (Here p few j) (Told j) s
-  now {j} {w} r fits on left fair loads lives t s c f l v =
+  now : {j : Journal} {w : World} (r : Runs source input opts j w) → RunFits source input opts j w r → is_over j ≡ false → RunLeft (table_of p) few source input opts j w r → RunMeets FairHere source input opts j w r → RunMeetsAt Lives source input opts j w r → (t : ℕ) (s : State) (c : Comes source j w t s) → LeadsMeet FairHere source (answered source c.given (drawn j w t)) s c.leads → LeadsMeet (Lives j) source (answered source c.given (drawn j w t)) s c.leads → NowBy (table_of p) (Here p few j) (Told j) s
+  now {j} {w} r fits on left fair lives t s c f v =
       let first = start p accepted few (laid_out p formed accepted) (law_calling p formed accepted).main (code_of p formed accepted few) input opts range (run_rests source input opts range r fits on) on (put_there r fits fair on) (law_frame_runs p accepted input opts j w r) c.processor t c.given c.runs c.told in
-      (leads_now (table_of p) (Here p few) Told loading source (free_of p formed accepted) input opts range r fits (at_run r fits fair loads lives) (run_grow r left) on t s c (at_leads j c.leads f l v first)).0
+      (leads_now (table_of p) (Here p few) Told loading source (free_of p formed accepted) input opts range r fits (at_run r fits fair lives) (run_grow r left) on t s c (at_leads j c.leads f v first)).0
 
 -- what is asked where an object is entered is of that object
 entered : (d : Option ℕ) (i k : ℕ) (todo : List Todo) (s : State) (o m : ℕ) (u : State) → enter_at d i k todo s ≡ Asks (ask.Call o m) u → i ≡ o
@@ -372,28 +382,28 @@ on_way ways.Picks (AtElement n p) r written todo m i l e = absurd (cc)
 on_way ways.Reads x r written todo m i l e = absurd (cc)
 
 module _ (p : Program) (sound : Sound (table_of p) (source_of p)) (few : Few) (j : Journal) (s : State) (now : NowBy (table_of p) (Here p few j) (Loaded few j) s) where
-  ended : (k i : ℕ) (todo : List Todo) → s.run.control ≡ EnterNow k i ∷ todo → ((table_of p).routine i).whole ≡ true → (o m : ℕ) (u : State) → quiet (source_of p) s ≡ Asks (ask.Call o m) u → is_gone o j ≡ false
+  ended : (k i : ℕ) (todo : List Todo) → s.run.control ≡ EnterNow k i ∷ todo → ((table_of p).routine i).whole ≡ true → (o m : ℕ) (u : State) → quiet (source_of p) s ≡ Asks (ask.Call o m) u → IsEntered few j s.env.exec o
   ended k i todo c whole o m u e = by now.run
     where
       same_routine : (a b n : ℕ) (l h : List Todo) → EnterNow a n ∷ l ≡ EnterNow b i ∷ h → n ≡ i
       same_routine a b n l h q = cc
 
-      is_it : (x : Option Routine) → slice_get (source_of p).routines i ≡ x → [] ≡ ((table_of p).routine i).params → Loaded few j s.env.exec (top s.run.operands) → enter_step k x todo s ≡ Asks (ask.Call o m) u → is_gone o j ≡ false
+      is_it : (x : Option Routine) → slice_get (source_of p).routines i ≡ x → [] ≡ ((table_of p).routine i).params → Loaded few j s.env.exec (top s.run.operands) → enter_step k x todo s ≡ Asks (ask.Call o m) u → IsEntered few j s.env.exec o
       is_it None g z h q = absurd (cc)
       is_it (Some y) g z h q =
           let none : y.params ≡ 0 = (sound.routines i y g).params ∙ ap length (sym z) in
           let same : object_in (top (drop y.params s.run.operands)) ≡ o = may_enter (may_call y.written s) (find (object_in (top (drop y.params s.run.operands))) s.env.depths) (object_in (top (drop y.params s.run.operands))) k todo s o m u q in
           let here : object_in (top s.run.operands) ≡ o = subst (λ n. object_in (top (drop n s.run.operands)) ≡ o) none same in
           let it : h.number ≡ o = sym (ap object_in h.is) ∙ here in
-          subst (λ o. is_gone o j ≡ false) it h.there
+          subst (IsEntered few j s.env.exec) it (record { own = h.own; there = h.there })
 
-      by : (FreeActive (table_of p) s.run ⊎ Enters (table_of p) (Loaded few j) s) ⊎ Way (table_of p) (Here p few j) s → is_gone o j ≡ false
+      by : (FreeActive (table_of p) s.run ⊎ Enters (table_of p) (Loaded few j) s) ⊎ Way (table_of p) (Here p few j) s → IsEntered few j s.env.exec o
       by (inl (inl h)) =
           let f : FreeList (table_of p) (EnterNow k i ∷ todo) = subst (FreeList (table_of p)) c h in
           no_both ((table_of p).routine i).whole whole f.0
       by (inl (inr h)) = at_entry h.control
         where
-          at_entry : (s.run.control ≡ EnterNow DESTRUCTOR h.routine ∷ h.todo) ⊎ (s.run.control ≡ piece.TickNow ∷ (EnterNow DESTRUCTOR h.routine ∷ h.todo)) → is_gone o j ≡ false
+          at_entry : (s.run.control ≡ EnterNow DESTRUCTOR h.routine ∷ h.todo) ⊎ (s.run.control ≡ piece.TickNow ∷ (EnterNow DESTRUCTOR h.routine ∷ h.todo)) → IsEntered few j s.env.exec o
           at_entry (inl q) =
               let same : h.routine ≡ i = same_routine DESTRUCTOR k h.routine h.todo todo (sym q ∙ c) in
               is_it (slice_get (source_of p).routines i) refl (subst (λ n. [] ≡ ((table_of p).routine n).params) same h.params) h.told (subst (λ l. act_todo (source_of p) l s ≡ Asks (ask.Call o m) u) c e)
@@ -402,5 +412,5 @@ module _ (p : Program) (sound : Sound (table_of p) (source_of p)) (few : Few) (j
       by (inr w) = absurd (on_way w.stage w.site w.routine w.written w.todo k i todo (sym w.control ∙ c))
 
 pub law_ended : LawEnded
-law_ended p formed accepted few input opts range j w r fits on left fair loads lives t s c f l v =
-    ended p (law_sound p formed accepted) few j s (now p formed accepted few input opts range r fits on left fair loads lives t s c f l v)
+law_ended p formed accepted few input opts range j w r fits on left fair lives t s c f v =
+    ended p (law_sound p formed accepted) few j s (now p formed accepted few input opts range r fits on left fair lives t s c f v)

@@ -1,5 +1,5 @@
--- In every run in which all is known, and that reads fields and elements of mutex objects where they are at home, all is found that marks ask.
-use Rattle.std.proofs.Common.{◌≡◌, ℕ, false, List, [], ◌∷◌, refl, ◌∙◌}
+-- In every run in which all is known all is found that marks ask: what is read before a mutex object ends is at home there.
+use Rattle.std.proofs.Common.{◌≡◌, ℕ, false, List, [], ◌∷◌, Option, refl, ◌∙◌}
 use Rattle.uc_tree.specs.Programs.{Program}
 use Rattle.uc_tree.specs.Source.{Source}
 use Rattle.uc_entry.specs.declared.entry.Options.{Options}
@@ -32,11 +32,12 @@ use Rattle.uc_life_laws.specs.MadeObjects.{Binds, BindsAt}
 use Rattle.uc_life_laws.proofs.Homes.{law_binds}
 use Rattle.uc_putting_laws.specs.PuttingLaws.{setting_of, Fair}
 use Rattle.uc_cell_laws.specs.CellStates.{CellFinds}
+use Rattle.uc_cell_laws.specs.Classes.{class_of}
 use Rattle.uc_cell_laws.specs.OwnCells.{telling_of}
 use Rattle.uc_cell_laws.proofs.OwnCells.{law_cells}
 use Rattle.uc_homed_ends.specs.BoundLaws.{OpensSet, OpensWhole}
 use Rattle.uc_homed_ends.specs.Elements.{no_fields, OpensElements}
-use Rattle.uc_homed_ends.specs.HomesLeft.{KnowsReads, Told, Homes}
+use Rattle.uc_homed_ends.specs.HomesLeft.{KnowsReads, Told}
 use Rattle.uc_homed_ends.specs.Found.{LawFound}
 use Rattle.uc_homed_ends.proofs.BoundRuns.{rides_meet, ride_zip, run_zip, opens, law_set, law_opens_all}
 use Rattle.uc_homed_ends.proofs.Elements.{opens_whole}
@@ -46,7 +47,7 @@ use Rattle.uc_homed_ends.proofs.EndCodes.{free_of}
 use Rattle.uc_homed_ends.proofs.EndReads.{reading_of}
 use Rattle.uc_homed_ends.proofs.EndRuns.{run_ways, comes_way}
 use Rattle.uc_homed_ends.proofs.SitedSources.{law_sited}
-use Rattle.uc_homed_ends.proofs.CellHomes.{CellHere, finds_here, framed_home}
+use Rattle.uc_homed_ends.proofs.CellHomes.{CellHere, finds_here, home_read}
 use Rattle.uc_homed_ends.proofs.HomesLeft.{rest_here}
 use Rattle.uc_homed_ends.proofs.EndHomes.{Now, ways_of, way_at, fair_here, run_with, ride_with}
 
@@ -71,23 +72,11 @@ module _ (p : Program) (formed : IsFormed p) (accepted : breaks_of p ≡ []) (wi
   abbrev Known : State → Type 0
   Known s = KnowsReads tb few s
 
-  abbrev Left : State → Type 0
-  Left s = Homes (setting_of p few) s
-
   abbrev Fairly : State → Type 0
   Fairly s = Fair (setting_of p few) s
 
   abbrev Opening : State → Type 0
   Opening s = Opens tb no_fields few s
-
-  abbrev Cells : State → Type 0
-  Cells s = CellHere p formed accepted few s
-
-  abbrev CellWays : State → Type 0
-  CellWays s = NowState tb Cells s
-
-  abbrev Finding : State → Type 0
-  Finding s = CellFinds (telling_of p few) s
 
   -- what is told of a whole run
 
@@ -135,24 +124,37 @@ module _ (p : Program) (formed : IsFormed p) (accepted : breaks_of p ≡ []) (wi
     abbrev Tells : State → Type 0
     Tells s = Told p few many s
 
-    -- who is on the way, in which frames own cells hold what is at home
-    abbrev Ways : State → Type 0
-    Ways s = Here s × CellWays s
-
     abbrev Facts : State → Type 0
     Facts s = Tells s × Known s
-
-    found_here : (s : State) → Ways s → Facts s → Left s → Fairly s
-    found_here s h f x =
-        fair_here p no_fields few few.home many (λ o. refl) s h.0 f.0.0 (rest_here (setting_of p few) no_fields (Sized p) s h.0 (λ todo c e u o q. framed_home p formed accepted few within s (reading_of tb Cells s todo c e h.1.run) u o q) f.1 x)
-
-    finds : (s : State) → Facts s → Finding s
-    finds s f = finds_here p formed accepted few s f.1.0 many f.0.0
 
     opening : (s : State) → Tells s → Opening s
     opening s h = h.1
 
     module _ {j : Journal} {w : World} (r : Runs source input opts j w) (fits : RunFits source input opts j w r) (told : RunMeets Tells source input opts j w r) (known : RunMeets Known source input opts j w r) where
+      -- the classes of objects are those that the run tells
+      abbrev class : ℕ → Option ℕ
+      class o = class_of tb source input opts j w r o
+
+      abbrev Cells : State → Type 0
+      Cells s = CellHere p formed accepted few class s
+
+      abbrev CellWays : State → Type 0
+      CellWays s = NowState tb Cells s
+
+      abbrev Finding : State → Type 0
+      Finding s = CellFinds (telling_of p few class) s
+
+      -- who is on the way, in which own cells hold what is at home
+      abbrev Ways : State → Type 0
+      Ways s = Here s × CellWays s
+
+      found_here : (s : State) → Ways s → Facts s → Fairly s
+      found_here s h f =
+          fair_here p no_fields few few.home many (λ o. refl) s h.0 f.0.0 (rest_here (setting_of p few) no_fields (Sized p) s h.0 (λ todo c e o q. home_read p formed accepted few class within s (reading_of tb Cells s todo c e h.1.run) o q) f.1)
+
+      finds : (s : State) → Facts s → Finding s
+      finds s f = finds_here p formed accepted few class s f.1.0 many f.0.0
+
       run_facts : RunMeets Facts source input opts j w r
       run_facts = run_zip Tells Known Facts (λ s x y. (x, y)) r told known
 
@@ -160,17 +162,16 @@ module _ (p : Program) (formed : IsFormed p) (accepted : breaks_of p ≡ []) (wi
       run_finds = run_with Facts Finding finds r run_facts
 
       run_cells : RunMeets Cells source input opts j w r
-      run_cells = law_cells.runs p formed accepted few (law_sited p formed accepted few) input opts range j w r fits run_finds
+      run_cells = law_cells.runs p formed accepted within few input opts range j w r fits (law_sited p formed accepted few class) run_finds
 
       was_open : RunMeets Opening source input opts j w r
       was_open = run_with Tells Opening opening r told
 
-      found_run : RunMeets Left source input opts j w r → RunMeets Fairly source input opts j w r
-      found_run x =
+      found_run : RunMeets Fairly source input opts j w r
+      found_run =
           let here : RunMeets Here source input opts j w r = ways_of p formed accepted no_fields few input opts range r fits was_open in
           let cells : RunMeets CellWays source input opts j w r = run_ways tb Cells source (free_of p formed accepted) input opts range r fits run_cells in
-          let all : RunMeets (λ s. Ways s × Facts s) source input opts j w r = run_zip Ways Facts (λ s. Ways s × Facts s) (λ s a b. (a, b)) r (run_zip Here CellWays Ways (λ s a b. (a, b)) r here cells) run_facts in
-          run_zip (λ s. Ways s × Facts s) Left Fairly (λ s a b. found_here s a.0 a.1 b) r all x
+          run_zip Ways Facts Fairly found_here r (run_zip Here CellWays Ways (λ s a b. (a, b)) r here cells) run_facts
 
       module _ (on : is_over j ≡ false) (q t n : ℕ) (s : State) (asked : Asked) (d : AsksIn source opts j w q t n s asked) where
         abbrev Rides_with : (State → Type 0) → Type 0
@@ -179,24 +180,23 @@ module _ (p : Program) (formed : IsFormed p) (accepted : breaks_of p ≡ []) (wi
         abbrev comes_to : (v : State) → Leads source (answered source d.given (drawn j w t)) v → Comes source j w t v
         comes_to v l = record { given = d.given; processor = q; runs = d.runs; told = d.told; leads = l }
 
-        found_ride : Rides_with Tells → Rides_with Known → Rides_with Left → Rides_with Fairly
-        found_ride tells knows x =
+        found_ride : Rides_with Tells → Rides_with Known → Rides_with Fairly
+        found_ride tells knows =
             let facts : Rides_with Facts = ride_zip Tells Known Facts (λ v a b. (a, b)) d.rides tells knows in
             let open_now : Rides_with Opening = ride_with Tells Opening opening d.rides tells in
             let here : Rides_with Here = rides_led Opening Here d.rides open_now (λ v l h. way_at p formed accepted no_fields few input opts range r fits was_open on t v (comes_to v l) h) in
             let finding : Rides_with Finding = ride_with Facts Finding finds d.rides facts in
-            let cells : Rides_with Cells = rides_led Finding Cells d.rides finding (λ v l h. (law_cells.leads p formed accepted few (law_sited p formed accepted few) input opts range j w r fits run_finds on t v (comes_to v l) h).0) in
+            let cells : Rides_with Cells = rides_led Finding Cells d.rides finding (λ v l h. (law_cells.leads p formed accepted within few input opts range j w r fits (law_sited p formed accepted few class) run_finds on t v (comes_to v l) h).0) in
             let cell_ways : Rides_with CellWays = rides_led Cells CellWays d.rides cells (λ v l h. comes_way tb Cells source (free_of p formed accepted) input opts range r fits run_cells on t v (comes_to v l) h) in
-            let all : Rides_with (λ v. Ways v × Facts v) = ride_zip Ways Facts (λ v. Ways v × Facts v) (λ v a b. (a, b)) d.rides (ride_zip Here CellWays Ways (λ v a b. (a, b)) d.rides here cell_ways) facts in
-            ride_zip (λ v. Ways v × Facts v) Left Fairly (λ v a b. found_here v a.0 a.1 b) d.rides all x
+            ride_zip Ways Facts Fairly found_here d.rides (ride_zip Here CellWays Ways (λ v a b. (a, b)) d.rides here cell_ways) facts
 
 pub law_found : LawFound
 law_found = record {
   told = λ p formed accepted within few input opts range j w r fits same. run_told p formed accepted within few input opts range r fits same;
   told_next = λ p formed accepted within few input opts range j w r fits same on q t n s asked d.
       ride_told p formed accepted within few input opts range r fits same on q t n s asked d;
-  runs = λ p formed accepted within few many input opts range j w r fits told known homes.
-      found_run p formed accepted within few input opts range many r fits told known homes;
-  rides = λ p formed accepted within few many input opts range j w r fits told known on q t n s asked d tells knows homes.
-      found_ride p formed accepted within few input opts range many r fits told known on q t n s asked d tells knows homes;
+  runs = λ p formed accepted within few many input opts range j w r fits told known.
+      found_run p formed accepted within few input opts range many r fits told known;
+  rides = λ p formed accepted within few many input opts range j w r fits told known on q t n s asked d tells knows.
+      found_ride p formed accepted within few input opts range many r fits told known on q t n s asked d tells knows;
 }

@@ -1,4 +1,4 @@
--- What is loaded to be destroyed is an object: what is entered so is one of a mutex class, by any typing. So what is left of homes is what lies in no frame.
+-- What is loaded to be destroyed is an object: what is entered so is one of a mutex class, by any typing. So nothing is left to find of homes.
 use Rattle.std.proofs.Common.{◌≡◌, ℕ, Bool, true, false, List, [], ◌∷◌, refl, sym, subst}
 use Rattle.uc_machine.specs.Pieces.{Value, Number, Place, Running, Object, Nothing, Todo, LoadNow, State, loaded, top}
 use Rattle.uc_typing.specs.Typing.{Ty, Num, Cell, Obj, Raw, Row, Clu, Pro, Table, object_ty}
@@ -8,11 +8,10 @@ use Rattle.uc_life_laws.specs.Things.{Few}
 use Rattle.uc_life_laws.specs.HomedStates.{Owns}
 use Rattle.uc_life_laws.specs.Knowing.{ReadsKnown, Finds}
 use Rattle.uc_putting_laws.specs.Putting.{Setting, IsEnding}
-use Rattle.uc_cell_laws.specs.CellStates.{is_unframed}
 use Rattle.uc_homed_ends.specs.EndWays as ways
 use Rattle.uc_homed_ends.specs.EndWays.{NowState}
 use Rattle.uc_homed_ends.specs.HomedEnds.{IsElsewhere, RestAt, Rest}
-use Rattle.uc_homed_ends.specs.HomesLeft.{KnowsReads, HomesAt, Homes}
+use Rattle.uc_homed_ends.specs.HomesLeft.{KnowsReads}
 use Rattle.uc_homed_ends.proofs.EndReads.{Reading, reading_of}
 use Rattle.uc_homed_ends.proofs.EndHomes.{HomedHere}
 
@@ -65,24 +64,20 @@ module _ (t : Table) (few : Few) (s : State) (r : ℕ) (whole : (t.routine r).wh
     is_object b c =
         loaded_by b x.0.run.own (subst (λ l. Ok t x.0.run.sig x.0.run.base x.0.run.scope l x.0.run.own) c x.0.run.ok) (subst (λ l. Finds t few x.0.sigs x.0.run.sig x.0.run.scope s l x.0.run.own) c x.1)
 
--- so where all is known, and what is loaded in a frame is at home there, the rest is found where homes are
+-- so where all is known, and what is loaded is at home there, the rest is found
 module _ (g : Setting) (owns : Owns) (Z : ℕ → ℕ → Type 0) (s : State) where
-  abbrev pub FramedHome : Type 0
-  FramedHome = (todo : List Todo) → s.run.control ≡ LoadNow ∷ todo → IsEnding todo → is_unframed (top s.run.operands) ≡ false → (o : ℕ) → loaded (top s.run.operands) s.env ≡ Object o → g.few.home o ≡ top s.run.operands
+  abbrev pub HomeRead : Type 0
+  HomeRead = (todo : List Todo) → s.run.control ≡ LoadNow ∷ todo → IsEnding todo → (o : ℕ) → loaded (top s.run.operands) s.env ≡ Object o → g.few.home o ≡ top s.run.operands
 
-  pub rest_here : NowState g.table (HomedHere g.table owns g.few Z) s → FramedHome → KnowsReads g.table g.few s → Homes g s → Rest g s
-  rest_here now framed x h = by s.run.control refl h
+  pub rest_here : NowState g.table (HomedHere g.table owns g.few Z) s → HomeRead → KnowsReads g.table g.few s → Rest g s
+  rest_here now home x = by s.run.control refl
     where
       at_read : (y : Reading g.table (HomedHere g.table owns g.few Z) s) → (o : ℕ) × (loaded (top s.run.operands) s.env ≡ Object o)
       at_read y = is_object g.table g.few s y.routine y.whole y.params x y.behind y.written y.control
 
-      at_home : (todo : List Todo) → s.run.control ≡ LoadNow ∷ todo → HomesAt g (LoadNow ∷ todo) s → IsEnding todo → IsElsewhere s (top s.run.operands) → (o : ℕ) → loaded (top s.run.operands) s.env ≡ Object o → (b : Bool) → is_unframed (top s.run.operands) ≡ b → g.few.home o ≡ top s.run.operands
-      at_home todo c f e y o q true u = f e y u o q
-      at_home todo c f e y o q false u = framed todo c e u o q
-
-      by : (l : List Todo) → s.run.control ≡ l → HomesAt g l s → RestAt g l s
-      by (LoadNow ∷ todo) c f = λ e y.
+      by : (l : List Todo) → s.run.control ≡ l → RestAt g l s
+      by (LoadNow ∷ todo) c = λ e y.
           let o = at_read (reading_of g.table (HomedHere g.table owns g.few Z) s todo c e now.run) in
-          record { number = o.0; object = o.1; home = at_home todo c f e y o.0 o.1 (is_unframed (top s.run.operands)) refl }
-      by [] c f = f
-      by (p ∷ todo) c f = f
+          record { number = o.0; object = o.1; home = home todo c e o.0 o.1 }
+      by [] c = tt
+      by (p ∷ todo) c = tt

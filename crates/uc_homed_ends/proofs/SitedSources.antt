@@ -134,9 +134,9 @@ module _ (p : Program) where
 
 -- one routine
 
-module _ (p : Program) (few : Few) (r : ℕ) where
+module _ (p : Program) (few : Few) (class : ℕ → Option ℕ) (r : ℕ) where
   abbrev g : Telling
-  g = telling_of p few
+  g = telling_of p few class
 
   abbrev Plain : Expr → Type 0
   Plain e = SitedExpr g r e
@@ -218,7 +218,7 @@ module _ (p : Program) (few : Few) (r : ℕ) where
   abbrev Has : Expr → Ty → Type 0
   Has e a = HasPlace g r e a
 
-module _ (p : Program) (few : Few) (formed : IsFormed p) (u : Unbroken (program_visits p)) (r : ℕ) where
+module _ (p : Program) (few : Few) (class : ℕ → Option ℕ) (formed : IsFormed p) (u : Unbroken (program_visits p)) (r : ℕ) where
   abbrev sig : Sig
   sig = (table_of p).routine r
 
@@ -246,40 +246,40 @@ module _ (p : Program) (few : Few) (formed : IsFormed p) (u : Unbroken (program_
 
   -- objects
 
-  args_plain : (q : ℕ) (args : List Meant) → AllMeant p args → Plains p few r (tree.args_by (tree.params_of p q) args)
-  args_plain q args k = plains p few r (tree.args_by (tree.params_of p q) args) (expressions.args_by p (tree.params_of p q) args k)
+  args_plain : (q : ℕ) (args : List Meant) → AllMeant p args → Plains p few class r (tree.args_by (tree.params_of p q) args)
+  args_plain q args k = plains p few class r (tree.args_by (tree.params_of p q) args) (expressions.args_by p (tree.params_of p q) args k)
 
-  cluster_in : (args : List Meant) → AllMeant p args → Plain p few r (meaning.cluster_in args)
+  cluster_in : (args : List Meant) → AllMeant p args → Plain p few class r (meaning.cluster_in args)
   cluster_in [] h = tt
-  cluster_in (m ∷ ms) h = plain p few r m.expr h.0.expr
+  cluster_in (m ∷ ms) h = plain p few class r m.expr h.0.expr
 
   -- what destroys an object at its place
-  destroyed_sited : (m : Making) → Is m → (place : Expr) → Has p few r place (ty m) → Plain p few r place → Plain p few r (meaning.destroyed p m place)
+  destroyed_sited : (m : Making) → Is m → (place : Expr) → Has p few class r place (ty m) → Plain p few class r place → Plain p few class r (meaning.destroyed p m place)
   destroyed_sited (APlain i) c place h k = by (written_at p i role.Destructor) refl
     where
-      by : (o : Option ℕ) → written_at p i role.Destructor ≡ o → Plain p few r (meaning.called_by p i role.Destructor place [] o)
+      by : (o : Option ℕ) → written_at p i role.Destructor ≡ o → Plain p few class r (meaning.called_by p i role.Destructor place [] o)
       by None e = (inr (i, c.1.unwritten_this e, h), k)
-      by (Some d) e = (inr (i, (c.1.written d e).this, h), (k, no_args p few r (tree.params_of p d)))
+      by (Some d) e = (inr (i, (c.1.written d e).this, h), (k, no_args p few class r (tree.params_of p d)))
   destroyed_sited (AMutex i) c place h k = by (written_at p i role.Destructor) refl
     where
-      by : (o : Option ℕ) → written_at p i role.Destructor ≡ o → Plain p few r (meaning.ended_by p i (src.Load place) o)
-      by None e = ((inr (i, c.1.unwritten_this e, c.2), (i, c.2, h)), k)
-      by (Some d) e = ((inr (i, (c.1.written d e).this, c.2), (i, c.2, h)), k)
+      by : (o : Option ℕ) → written_at p i role.Destructor ≡ o → Plain p few class r (meaning.ended_by p i (src.Load place) o)
+      by None e = ((i, c.1.unwritten_this e, c.2, h), k)
+      by (Some d) e = ((i, (c.1.written d e).this, c.2, h), k)
   destroyed_sited ACluster c place h k = (tt, k)
   destroyed_sited AProcessor c place h k = (tt, k)
 
   -- what builds it
-  constructed_sited : (m : Making) → Is m → (place : Expr) → Has p few r place (ty m) → Plain p few r place → (args : List Meant) → AllMeant p args → Plain p few r (meaning.constructed p m place args)
+  constructed_sited : (m : Making) → Is m → (place : Expr) → Has p few class r place (ty m) → Plain p few class r place → (args : List Meant) → AllMeant p args → Plain p few class r (meaning.constructed p m place args)
   constructed_sited (APlain i) c place h k args a = by (written_at p i role.Constructor) refl
     where
-      by : (o : Option ℕ) → written_at p i role.Constructor ≡ o → Plain p few r (meaning.called_by p i role.Constructor place args o)
+      by : (o : Option ℕ) → written_at p i role.Constructor ≡ o → Plain p few class r (meaning.called_by p i role.Constructor place args o)
       by None e = (inr (i, c.0.unwritten_this e, h), k)
       by (Some d) e = (inr (i, (c.0.written d e).this, h), (k, args_plain d args a))
   constructed_sited (AMutex i) c place h k args a = by (written_at p i role.Constructor) refl
     where
-      by : (o : Option ℕ) → written_at p i role.Constructor ≡ o → Plain p few r (meaning.made_by p i place args o)
-      by None e = ((inr (i, c.0.unwritten_this e, c.2), (i, h)), (k, tt))
-      by (Some d) e = ((inr (i, (c.0.written d e).this, c.2), (i, h)), (k, args_plain d args a))
+      by : (o : Option ℕ) → written_at p i role.Constructor ≡ o → Plain p few class r (meaning.made_by p i place args o)
+      by None e = ((i, c.0.unwritten_this e, c.2, h), (k, tt))
+      by (Some d) e = ((i, (c.0.written d e).this, c.2, h), (k, args_plain d args a))
   constructed_sited ACluster c place h k args a = (inl (Clu, (λ x. x), h), (k, (tt, tt)))
   constructed_sited AProcessor c place h k args a = (inl (Pro, (λ x. x), h), (k, (tt, cluster_in args a)))
 
@@ -291,46 +291,46 @@ module _ (p : Program) (few : Few) (formed : IsFormed p) (u : Unbroken (program_
   element_kept AProcessor c = refl
 
   -- of a place of what is made
-  build : (line : ℕ) (m : Making) → Is m → (len : Option ℕ) (place : Expr) → Has p few r place (declared_ty len (ty m)) → Plain p few r place → (args : List Meant) → AllMeant p args → SitedStmt (telling_of p few) r (meaning.build p line m len place args)
+  build : (line : ℕ) (m : Making) → Is m → (len : Option ℕ) (place : Expr) → Has p few class r place (declared_ty len (ty m)) → Plain p few class r place → (args : List Meant) → AllMeant p args → SitedStmt (telling_of p few class) r (meaning.build p line m len place args)
   build line m c None place h k args a = constructed_sited m c place h k args a
   build line m c (Some n) place h k args a =
       let e : Expr = meaning.counted_element p m n place in
       (constructed_sited m c e (element_kept m c, h) (k, (tt, tt)) [] tt, destroyed_sited m c e (element_kept m c, h) (k, (tt, tt)))
 
-  clean_sited : (m : Making) → Is m → (len : Option ℕ) (place : Expr) → Has p few r place (declared_ty len (ty m)) → Plain p few r place → SitedClean (telling_of p few) r (meaning.clean_up p m len place)
+  clean_sited : (m : Making) → Is m → (len : Option ℕ) (place : Expr) → Has p few class r place (declared_ty len (ty m)) → Plain p few class r place → SitedClean (telling_of p few class) r (meaning.clean_up p m len place)
   clean_sited m c None place h k = destroyed_sited m c place h k
   clean_sited m c (Some n) place h k = destroyed_sited m c (meaning.counted_element p m n place) (element_kept m c, h) (k, (tt, tt))
 
   -- expressions in a scope
 
-  meant : (s : Scope) (e : expr.Expr) → Plain p few r (tree.meant (meaning.context_at p s) e).expr
-  meant s e = plain p few r (tree.meant (meaning.context_at p s) e).expr (statements.meant p formed u s e).expr
+  meant : (s : Scope) (e : expr.Expr) → Plain p few class r (tree.meant (meaning.context_at p s) e).expr
+  meant s e = plain p few class r (tree.meant (meaning.context_at p s) e).expr (statements.meant p formed u s e).expr
 
-  value : (s : Scope) (e : expr.Expr) → Plain p few r (tree.value_in_scope (meaning.context_at p s) e)
-  value s e = plain p few r (tree.value_in_scope (meaning.context_at p s) e) (statements.value p formed u s e)
+  value : (s : Scope) (e : expr.Expr) → Plain p few class r (tree.value_in_scope (meaning.context_at p s) e)
+  value s e = plain p few class r (tree.value_in_scope (meaning.context_at p s) e) (statements.value p formed u s e)
 
-  converted : (k : Shape) (s : Scope) (e : expr.Expr) → Plain p few r (tree.converted k (tree.value_in_scope (meaning.context_at p s) e))
-  converted k s e = plain p few r (tree.converted k (tree.value_in_scope (meaning.context_at p s) e)) (expressions.converted p k (tree.value_in_scope (meaning.context_at p s) e) (statements.value p formed u s e))
+  converted : (k : Shape) (s : Scope) (e : expr.Expr) → Plain p few class r (tree.converted k (tree.value_in_scope (meaning.context_at p s) e))
+  converted k s e = plain p few class r (tree.converted k (tree.value_in_scope (meaning.context_at p s) e)) (expressions.converted p k (tree.value_in_scope (meaning.context_at p s) e) (statements.value p formed u s e))
 
   -- parts of statements
 
-  items : (s : Scope) (texts : ℕ) (os : List stmt.OutItem) → SitedItems (telling_of p few) r (meaning.items_meant (meaning.context_at p s) texts os)
+  items : (s : Scope) (texts : ℕ) (os : List stmt.OutItem) → SitedItems (telling_of p few class) r (meaning.items_meant (meaning.context_at p s) texts os)
   items s texts [] = tt
   items s texts (stmt.Endl sign ∷ os) = (tt, items s texts os)
   items s texts (stmt.Literal sign text ∷ os) = (tt, items s (texts + 1) os)
   items s texts (stmt.Printed sign e ∷ os) = (value s e, items s texts os)
 
-  targets : (s : Scope) (es : expr.Exprs) → SitedTargets (telling_of p few) r (meaning.targets_meant (meaning.context_at p s) es)
+  targets : (s : Scope) (es : expr.Exprs) → SitedTargets (telling_of p few class) r (meaning.targets_meant (meaning.context_at p s) es)
   targets s expr.NoExprs = tt
   targets s (expr.MoreExprs e es) = (meant s e, targets s es)
 
-  start : (s : Scope) (k : Shape) (x : stmt.Start) → SitedMaybe (telling_of p few) r (meaning.start_meant (meaning.context_at p s) k x)
+  start : (s : Scope) (k : Shape) (x : stmt.Start) → SitedMaybe (telling_of p few class) r (meaning.start_meant (meaning.context_at p s) k x)
   start s k stmt.NoStart = tt
   start s k (stmt.StartValue e) = converted k s e
   start s k (stmt.StartArgs expr.NoExprs) = tt
   start s k (stmt.StartArgs (expr.MoreExprs e es)) = converted k s e
 
-  declared : (s : Scope) (b : Base) (ds : List Declarator) → SitedDeclared (telling_of p few) r (meaning.all_declared p s b ds)
+  declared : (s : Scope) (b : Base) (ds : List Declarator) → SitedDeclared (telling_of p few class) r (meaning.all_declared p s b ds)
   declared s b [] = tt
   declared s b (d ∷ ds) = (start s (shape_of b) d.start, declared (meaning.with_declared p s b d) b ds)
 
@@ -342,7 +342,7 @@ module _ (p : Program) (few : Few) (formed : IsFormed p) (u : Unbroken (program_
   -- events
 
   -- what builds an event is none of these
-  event_none : (name : List ℕ) (q : ℕ) → meaning.event_constructor p name ≡ Some q → IsNoMaker (telling_of p few) q
+  event_none : (name : List ℕ) (q : ℕ) → meaning.event_constructor p name ≡ Some q → IsNoMaker (telling_of p few class) q
   event_none name q e h =
       let k : Looked (λ d. nat_eq d.number 0 && (is_constructor d.routine.sig.role && same_name d.routine.sig.name name)) (routines_of p) 0 (Some q) = looked (λ d. nat_eq d.number 0 && (is_constructor d.routine.sig.role && same_name d.routine.sig.name name)) (routines_of p) 0 q (sym (event_looked (routines_of p) 0 name) ∙ e) in
       let d = k.defined in
@@ -364,33 +364,33 @@ module _ (p : Program) (few : Few) (formed : IsFormed p) (u : Unbroken (program_
           let at : class_at p i ≡ Some x.class = subst (λ n. slice_get (classes_of p.items) n ≡ Some x.class) same x.at in
           no_both (of_kind is_event (class_at p i)) (ap (of_kind is_event) at ∙ x.event) (is_not p (of_kind is_event (class_at p i)) (subst (λ o. is_of_objects p o ≡ true) (this ∙ k) of_objects))
 
-  built_event : (s : Scope) (n : ℕ) (name : List ℕ) (q : Option ℕ) (ms : List Meant) → meaning.event_constructor p name ≡ q → AllMeant p ms → SitedRaised (telling_of p few) r (meaning.built_event p s n q ms)
+  built_event : (s : Scope) (n : ℕ) (name : List ℕ) (q : Option ℕ) (ms : List Meant) → meaning.event_constructor p name ≡ q → AllMeant p ms → SitedRaised (telling_of p few class) r (meaning.built_event p s n q ms)
   built_event s n name None ms e k = tt
   built_event s n name (Some q) ms e k = (inl (event_none name q e), (tt, args_plain q ms k))
 
-  raised : (s : Scope) (x : Option stmt.Raised) → SitedRaised (telling_of p few) r (meaning.raised_meant p s x)
+  raised : (s : Scope) (x : Option stmt.Raised) → SitedRaised (telling_of p few class) r (meaning.raised_meant p s x)
   raised s None = tt
   raised s (Some x) = built_event s (meaning.number_of_event p x.name) x.name (meaning.event_constructor p x.name) (tree.args_meant (meaning.context_at p s) x.args) refl (statements.args p formed u s x.args)
 
-  test : (s : Scope) (e : Option expr.Expr) → Plain p few r (meaning.test_of p s e)
+  test : (s : Scope) (e : Option expr.Expr) → Plain p few class r (meaning.test_of p s e)
   test s None = tt
   test s (Some e) = value s e
 
-  step : (s : Scope) (e : Option expr.Expr) → SitedMaybe (telling_of p few) r (meaning.step_of p s e)
+  step : (s : Scope) (e : Option expr.Expr) → SitedMaybe (telling_of p few class) r (meaning.step_of p s e)
   step s None = tt
   step s (Some e) = meant s e
 
-  returned : (s : Scope) (e : Option expr.Expr) → SitedMaybe (telling_of p few) r (meaning.return_meant p s e)
+  returned : (s : Scope) (e : Option expr.Expr) → SitedMaybe (telling_of p few class) r (meaning.return_meant p s e)
   returned s None = tt
   returned s (Some e) = converted (shape_of (tree.result_of p s.routine)) s e
 
   -- statements
 
   abbrev Fine : Stmts → Type 0
-  Fine ss = SitedStmts (telling_of p few) r ss
+  Fine ss = SitedStmts (telling_of p few class) r ss
 
   abbrev FineOne : Stmt → Type 0
-  FineOne a = SitedStmt (telling_of p few) r a
+  FineOne a = SitedStmt (telling_of p few class) r a
 
   -- all scopes in them are of the routine
   abbrev In : Stmts → Type 0
@@ -404,7 +404,7 @@ module _ (p : Program) (few : Few) (formed : IsFormed p) (u : Unbroken (program_
   objects_in m line b (d ∷ ds) s rest c n h =
       let len : Option ℕ = meaning.length_of p d d.len in
       let place : Expr = src.Variable s.cells in
-      let has : Has p few r place (declared_ty len (ty m)) = (meaning.clean_up p m len place, n (meaning.clean_up p m len place) (inr (inr (inl refl))), cleans_at (table_of p) sig refl p m len place c) in
+      let has : Has p few class r place (declared_ty len (ty m)) = (meaning.clean_up p m len place, n (meaning.clean_up p m len place) (inr (inr (inl refl))), cleans_at (table_of p) sig refl p m len place c) in
       ((tt, tt), (build line m c len place has tt (meaning.start_args p s d.start) (start_args s d.start), (clean_sited m c len place has tt, objects_in m line b ds (meaning.with_declared p s b d) rest c (λ x i. n x (inr (inr (inr i)))) h)))
 
   declared_then : (b : Base) (m : Option Making) (line : ℕ) (ds : List Declarator) (s : Scope) (rest : Stmts) → Makes m → In (meaning.declared_then p m line b ds s rest) → (In rest → Fine rest) → Fine (meaning.declared_then p m line b ds s rest)
@@ -457,15 +457,15 @@ module _ (p : Program) (few : Few) (formed : IsFormed p) (u : Unbroken (program_
         let behind : Scope = meaning.scope_past_clauses p cs inner in
         (tt, clauses cs inner (meaning.else_meant p other behind) n (λ k. otherwise other behind k))
 
-    clauses : (cs : stmt.Clauses) (s : Scope) (other : Clauses) → ((c : CleanUp) → InClauses c (meaning.clauses_meant p cs s other) → IsScopeOf (source_of p) r c) → (((c : CleanUp) → InClauses c other → IsScopeOf (source_of p) r c) → SitedClauses (telling_of p few) r other) → SitedClauses (telling_of p few) r (meaning.clauses_meant p cs s other)
+    clauses : (cs : stmt.Clauses) (s : Scope) (other : Clauses) → ((c : CleanUp) → InClauses c (meaning.clauses_meant p cs s other) → IsScopeOf (source_of p) r c) → (((c : CleanUp) → InClauses c other → IsScopeOf (source_of p) r c) → SitedClauses (telling_of p few class) r other) → SitedClauses (telling_of p few class) r (meaning.clauses_meant p cs s other)
     clauses stmt.NoClauses s other n k = k n
     clauses (stmt.MoreClauses (stmt.Accepts place guard members body) rest) s other n k = (test s guard, one body s (λ c i. n c (inl i)), clauses rest (meaning.scope_past p body s) other (λ c i. n c (inr i)) k)
 
-    otherwise : (t : stmt.MaybeStmt) (s : Scope) → ((c : CleanUp) → InClauses c (meaning.else_meant p t s) → IsScopeOf (source_of p) r c) → SitedClauses (telling_of p few) r (meaning.else_meant p t s)
+    otherwise : (t : stmt.MaybeStmt) (s : Scope) → ((c : CleanUp) → InClauses c (meaning.else_meant p t s) → IsScopeOf (source_of p) r c) → SitedClauses (telling_of p few class) r (meaning.else_meant p t s)
     otherwise stmt.NoStmt s n = tt
     otherwise (stmt.OneStmt body) s n = one body s n
 
-    handlers : (hs : stmt.Handlers) (s : Scope) → ((c : CleanUp) → InHandlers c (meaning.handlers_meant p hs s) → IsScopeOf (source_of p) r c) → SitedHandlers (telling_of p few) r (meaning.handlers_meant p hs s)
+    handlers : (hs : stmt.Handlers) (s : Scope) → ((c : CleanUp) → InHandlers c (meaning.handlers_meant p hs s) → IsScopeOf (source_of p) r c) → SitedHandlers (telling_of p few class) r (meaning.handlers_meant p hs s)
     handlers stmt.NoHandlers s n = tt
     handlers (stmt.MoreHandlers (stmt.Handles place kind event param brace body) rest) s n =
         let x : stmt.Handler = stmt.Handles place kind event param brace body in
@@ -490,15 +490,15 @@ module _ (p : Program) (few : Few) (formed : IsFormed p) (u : Unbroken (program_
   module _ (i : ℕ) (c : whole.Class) (at : class_at p i ≡ Some c) where
     -- a field that is a reference may be bound
     abbrev MayBind : ClassField → ℕ → Type 0
-    MayBind f n = f.declarator.by_ref ≡ true → IsLent (telling_of p few) r (src.OfObject (src.OwnField (class_shape p i) n))
+    MayBind f n = f.declarator.by_ref ≡ true → IsLent (telling_of p few class) r (src.OfObject (src.OwnField (class_shape p i) n))
 
     -- what is made has its place at one that is none
     abbrev MayMake : ClassField → ℕ → Type 0
-    MayMake f n = (m : Making) → meaning.field_making p f ≡ Some m → Is m × Has p few r (src.OfObject (src.OwnField (class_shape p i) n)) (declared_ty (meaning.length_in_class p c i f) (ty m))
+    MayMake f n = (m : Making) → meaning.field_making p f ≡ Some m → Is m × Has p few class r (src.OfObject (src.OwnField (class_shape p i) n)) (declared_ty (meaning.length_in_class p c i f) (ty m))
 
-    field_start : (b : Bool) (s : Shape) (place : Expr) (m : Meant) → (b ≡ true → IsLent (telling_of p few) r place) → IsLocus p few r place → expressions.MeantPlain p m → Plain p few r (meaning.field_start p b s place m)
-    field_start true s place m b l h = (inr (b refl), (locus_plain p few r place l, plain p few r m.expr h.expr))
-    field_start false s place m b l h = (locus_plain p few r place l, plain p few r (tree.converted s (tree.value_of m)) (expressions.converted p s (tree.value_of m) (expressions.value_of p m h)))
+    field_start : (b : Bool) (s : Shape) (place : Expr) (m : Meant) → (b ≡ true → IsLent (telling_of p few class) r place) → IsLocus p few class r place → expressions.MeantPlain p m → Plain p few class r (meaning.field_start p b s place m)
+    field_start true s place m b l h = (inr (b refl), (locus_plain p few class r place l, plain p few class r m.expr h.expr))
+    field_start false s place m b l h = (locus_plain p few class r place l, plain p few class r (tree.converted s (tree.value_of m)) (expressions.converted p s (tree.value_of m) (expressions.value_of p m h)))
 
     field_started : (f : ClassField) (n : ℕ) (args : List Meant) (rest : Stmts) → MayBind f n → AllMeant p args → (In rest → Fine rest) → In (meaning.field_started p f (src.OfObject (src.OwnField (class_shape p i) n)) args rest) → Fine (meaning.field_started p f (src.OfObject (src.OwnField (class_shape p i) n)) args rest)
     field_started f n [] rest b h l w = l w
@@ -627,7 +627,7 @@ module _ (p : Program) (few : Few) (formed : IsFormed p) (u : Unbroken (program_
 
   -- constructors and destructors
 
-  set_up : (b : Bool) (i : ℕ) (rest : Stmts) → (b ≡ true → IsNoMaker (telling_of p few) (meaning.main_at p i)) → (In rest → Fine rest) → In (meaning.set_up p b i rest) → Fine (meaning.set_up p b i rest)
+  set_up : (b : Bool) (i : ℕ) (rest : Stmts) → (b ≡ true → IsNoMaker (telling_of p few class) (meaning.main_at p i)) → (In rest → Fine rest) → In (meaning.set_up p b i rest) → Fine (meaning.set_up p b i rest)
   set_up false i rest f h w = h w
   set_up true i rest f h w = ((f refl, tt), (tt, h (λ x y. w x (inr y))))
 
@@ -651,7 +651,7 @@ module _ (p : Program) (few : Few) (formed : IsFormed p) (u : Unbroken (program_
   ending false rest h w = h w
   ending true rest h w = (tt, h (λ x y. w x (inr y)))
 
-  freed : (k : Kind) (i : ℕ) (rest : Stmts) → (k ≡ kind.Task → IsNoMaker (telling_of p few) (meaning.main_at p i)) → (In rest → Fine rest) → In (meaning.freed p k i rest) → Fine (meaning.freed p k i rest)
+  freed : (k : Kind) (i : ℕ) (rest : Stmts) → (k ≡ kind.Task → IsNoMaker (telling_of p few class) (meaning.main_at p i)) → (In rest → Fine rest) → In (meaning.freed p k i rest) → Fine (meaning.freed p k i rest)
   freed kind.Monitor i rest f h w = (tt, h (λ x y. w x (inr y)))
   freed kind.Cormonitor i rest f h w = (tt, h (λ x y. w x (inr y)))
   freed kind.Task i rest f h w = (f refl, h (λ x y. w x (inr y)))
@@ -661,8 +661,8 @@ module _ (p : Program) (few : Few) (formed : IsFormed p) (u : Unbroken (program_
 
   -- of a class of which the fields may be so
   module _ (i : ℕ) (c : whole.Class) (at : class_at p i ≡ Some c) (may : AllMay i c at (fields_of c.members) (leading_cells c.kind)) where
-    main_none : has_main c.kind ≡ true → IsNoMaker (telling_of p few) (meaning.main_at p i)
-    main_none h = none p few r (meaning.main_at p i) (main_plain p formed u i c at h)
+    main_none : has_main c.kind ≡ true → IsNoMaker (telling_of p few class) (meaning.main_at p i)
+    main_none h = none p few class r (meaning.main_at p i) (main_plain p formed u i c at h)
 
     executes_main : (k : Kind) → has_execution k ≡ true → has_main k ≡ true
     executes_main kind.Coroutine e = refl
@@ -745,7 +745,7 @@ module _ (p : Program) (few : Few) (formed : IsFormed p) (u : Unbroken (program_
   all_in : (x : Routine) → slice_get (source_of p).routines r ≡ Some x → In x.body
   all_in x e = λ c i. subst (InRoutine c) (sym e) i
 
-  routine : (o : Option Routine) → slice_get (source_of p).routines r ≡ o → SitedRoutine (telling_of p few) r o
+  routine : (o : Option Routine) → slice_get (source_of p).routines r ≡ o → SitedRoutine (telling_of p few class) r o
   routine None e = tt
   routine (Some x) e = by (in_step p r x e)
     where
@@ -762,4 +762,4 @@ module _ (p : Program) (few : Few) (formed : IsFormed p) (u : Unbroken (program_
           subst (λ (z : Routine). Fine z.body) (sym q) (unwritten_body y.role y.class (ap (λ (g : Sig). g.whole) same) (ap (λ (g : Sig). g.this) same) (subst (λ (z : Routine). In z.body) q (all_in x e)))
 
 pub law_sited : LawSited
-law_sited p formed accepted few n = routine p few formed accepted n (slice_get (source_of p).routines n) refl
+law_sited p formed accepted few class n = routine p few class formed accepted n (slice_get (source_of p).routines n) refl

@@ -1,4 +1,4 @@
--- Of homes nothing is left to find for marks that are put but what fields of mutex objects hold as they end, where all is known.
+-- Of homes nothing is left to find for marks that are put, where all is known.
 use Rattle.std.specs.Prelude.{◌≡◌, ℕ, false, List, []}
 use Rattle.uc_tree.specs.Programs.{Program}
 use Rattle.uc_entry.specs.declared.entry.Options.{Options}
@@ -20,11 +20,11 @@ use Rattle.uc_state_laws.specs.Opens.{RideMeets, RunMeets}
 use Rattle.uc_life_laws.specs.Things.{Few}
 use Rattle.uc_life_laws.specs.Homes.{home_of}
 use Rattle.uc_putting_laws.specs.PuttingLaws.{setting_of, Fair}
-use Rattle.uc_homed_ends.specs.HomesLeft.{KnowsReads, Told, Homes}
+use Rattle.uc_homed_ends.specs.HomesLeft.{KnowsReads, Told}
 
 -- of a program that breaks no rule and is within its limits, as long as all that was asked fits. With the homes that a run tells in the end that is told which is
 -- told of homes, in the run and in what a task asks next, whether that fits or not; and where it is told, in whichever run, and all is known, all is found that
--- marks ask, if what is loaded from fields and elements of mutex objects to be destroyed is at home there
+-- marks ask
 pub record LawFound : Type 0 where
   pub told : (p : Program) → IsFormed p → breaks_of p ≡ [] → IsWithinLimits p → (few : Few) →
       (input : List ℕ) (opts : Options) → InRange opts → (j : Journal) (w : World) →
@@ -42,7 +42,6 @@ pub record LawFound : Type 0 where
       (r : Runs (source_of p) input opts j w) → RunFits (source_of p) input opts j w r →
       RunMeets (Told p few many) (source_of p) input opts j w r →
       RunMeets (KnowsReads (table_of p) few) (source_of p) input opts j w r →
-      RunMeets (Homes (setting_of p few)) (source_of p) input opts j w r →
       RunMeets (Fair (setting_of p few)) (source_of p) input opts j w r
   pub rides : (p : Program) → IsFormed p → breaks_of p ≡ [] → IsWithinLimits p → (few : Few) (many : ℕ) →
       (input : List ℕ) (opts : Options) → InRange opts → (j : Journal) (w : World) →
@@ -52,5 +51,4 @@ pub record LawFound : Type 0 where
       is_over j ≡ false → (q t n : ℕ) (s : State) (asked : Asked) (d : AsksIn (source_of p) opts j w q t n s asked) →
       RideMeets (Told p few many) (source_of p) (answered (source_of p) d.given (drawn j w t)) (left opts j t) s n asked d.rides →
       RideMeets (KnowsReads (table_of p) few) (source_of p) (answered (source_of p) d.given (drawn j w t)) (left opts j t) s n asked d.rides →
-      RideMeets (Homes (setting_of p few)) (source_of p) (answered (source_of p) d.given (drawn j w t)) (left opts j t) s n asked d.rides →
       RideMeets (Fair (setting_of p few)) (source_of p) (answered (source_of p) d.given (drawn j w t)) (left opts j t) s n asked d.rides

@@ -1,5 +1,5 @@
 -- In code of programs what is built, destroyed and bound stands where its routine has it.
-use Rattle.std.specs.Prelude.{◌≡◌, []}
+use Rattle.std.specs.Prelude.{◌≡◌, ℕ, [], Option}
 use Rattle.uc_tree.specs.Programs.{Program}
 use Rattle.uc_rules.specs.Breaks.{breaks_of}
 use Rattle.uc_sound.specs.SoundFormed.{IsFormed}
@@ -9,4 +9,4 @@ use Rattle.uc_cell_laws.specs.OwnCells.{telling_of}
 
 -- so it is in the source of every program that breaks no rule
 abbrev pub LawSited : Type 0
-LawSited = (p : Program) → IsFormed p → breaks_of p ≡ [] → (few : Few) → SitedSource (telling_of p few)
+LawSited = (p : Program) → IsFormed p → breaks_of p ≡ [] → (few : Few) (class : ℕ → Option ℕ) → SitedSource (telling_of p few class)

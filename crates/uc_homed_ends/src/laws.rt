@@ -74,9 +74,8 @@ pub fn law_sited()
     ensures { LawSited }
 {}
 
-/// So where all is known nothing of homes is left to find for marks that are put but that arrays hold what
-/// is at home there as their scopes open, and that objects which fields and elements hold are at home there
-/// as they end: in each such run, and in what is asked next.
+/// So where all is known nothing of homes is left to find for marks that are put: in each run of such a
+/// program that is within its limits, and in what is asked next.
 pub fn law_found()
     ensures { LawFound }
 {}

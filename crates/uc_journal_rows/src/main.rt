@@ -5,7 +5,7 @@
 #![tactic(auto)]
 
 use std::alloc::{AllocError, Global};
-use std::io;
+use std::io::{self, Print};
 use uc_journal::{JournalFault, read_journal, version, write_journal};
 
 /// A text, and whether its last newline is left out.
@@ -13,6 +13,24 @@ use uc_journal::{JournalFault, read_journal, version, write_journal};
 struct Row {
     cut: bool,
     text: String,
+}
+
+impl Row {
+    // The text behind a heading, which is none where each line is judged by itself.
+    fn behind(alloc: Global, mode: &str) -> Option<Row> {
+        match mode {
+            "each" | "old" => None,
+            _ => Some(Row {
+                cut: mode == "cut",
+                text: String::new(alloc),
+            }),
+        }
+    }
+
+    fn add(&mut self, line: &str) -> Result<(), AllocError> {
+        self.text.push_str(line)?;
+        self.text.push_str("\n")
+    }
 }
 
 // What stands before the entries of a text.
@@ -61,38 +79,43 @@ fn told(alloc: Global, row: &Row) -> Result<String, AllocError> {
     answer(alloc, text)
 }
 
+fn tell<R: Print>(rt: &R, alloc: Global, row: &Option<Row>) -> io::Result<()> {
+    match row {
+        Some(row) => print!(rt; "{}", told(alloc, row)?),
+        None => Ok(()),
+    }
+}
+
+// A heading ends a text and begins another; any other line goes to the text that is read, or is judged by itself.
+fn take_line<R: Print>(
+    rt: &R,
+    alloc: Global,
+    row: &mut Option<Row>,
+    old: &mut bool,
+    line: &str,
+) -> io::Result<()> {
+    if let Some(mode) = line.strip_prefix("== ") {
+        tell(rt, alloc, row)?;
+        println!(rt; "{line}")?;
+        *old = mode == "old";
+        *row = Row::behind(alloc, mode);
+        return Ok(());
+    }
+    match row {
+        Some(row) => {
+            row.add(line)?;
+            Ok(())
+        }
+        None => println!(rt; "{} {}", judged(alloc, line, *old)?, line),
+    }
+}
+
 fn main(rt: HostRuntime) -> io::Result<()> {
     let alloc = rt.alloc();
     let mut row: Option<Row> = None;
     let mut old = false;
     for line in rt.lines(alloc) {
-        let line = line?;
-        match line.as_str().strip_prefix("== ") {
-            Some(mode) => {
-                if let Some(row) = &row {
-                    print!(rt; "{}", told(alloc, row)?)?;
-                }
-                println!(rt; "== {mode}")?;
-                old = mode == "old";
-                row = match mode {
-                    "each" | "old" => None,
-                    _ => Some(Row {
-                        cut: mode == "cut",
-                        text: String::new(alloc),
-                    }),
-                };
-            }
-            None => match &mut row {
-                Some(row) => {
-                    row.text.push_str(line.as_str())?;
-                    row.text.push_str("\n")?;
-                }
-                None => println!(rt; "{} {}", judged(alloc, line.as_str(), old)?, line)?,
-            },
-        }
+        take_line(&rt, alloc, &mut row, &mut old, line?.as_str())?;
     }
-    if let Some(row) = &row {
-        print!(rt; "{}", told(alloc, row)?)?;
-    }
-    Ok(())
+    tell(&rt, alloc, &row)
 }

@@ -23,7 +23,7 @@ impl<T, M> Kernel<T, M> {
         ensures some { IfSome result (λ r. IsRunner self.now.opts self.now.journal processor r) }
         ensures small { IfSome result (λ r. r.task < TASKS) }
     {
-        if self.book.ending().is_some() {
+        if self.book.is_over() {
             return None;
         }
         match self.book.runner(processor) {

@@ -90,7 +90,7 @@ impl<T: Drop, M: Drop> Kernel<T, M> {
         if self.abandoned {
             return None;
         }
-        if is_over(&self.book) {
+        if self.book.is_over() {
             return None;
         }
         match self.book.dispatch() {
@@ -108,7 +108,7 @@ impl<T: Drop, M: Drop> Kernel<T, M> {
         requires old { makes_new asked.now.request ≡ false }
         ensures { Acted (kept self.old) (with_asked back asked.now) result (kept self.new) }
     {
-        if is_over(&self.book) {
+        if self.book.is_over() {
             return Next::Ended;
         }
         let who = actor(&self.book, &back, asked);
@@ -139,7 +139,7 @@ impl<T: Drop, M: Drop> Kernel<T, M> {
             running back.processor self.old.journal ≡ t ∷ [] → LacksNew self.new.journal t next) }
         ensures err { OnErr result (self.new ≡ self.old) }
     {
-        if is_over(&self.book) {
+        if self.book.is_over() {
             return Ok(Next::Ended);
         }
         let class = class_of(&asked.request);
@@ -161,7 +161,7 @@ impl<T: Drop, M: Drop> Kernel<T, M> {
             (kept self.new)) }
         ensures err { OnErr result (self.new ≡ self.old) }
     {
-        if is_over(&self.book) {
+        if self.book.is_over() {
             return Ok(Next::Ended);
         }
         let object = object_of(&asked.request);
@@ -204,7 +204,7 @@ impl<T: Drop, M: Drop> Kernel<T, M> {
         ensures going { IfNone result (Journal.is_over self.now.journal ≡ false) }
         ensures over { IfSome result (λ e. EndsRun self.now.journal e) }
     {
-        if !is_over(&self.book) {
+        if !self.book.is_over() {
             return None;
         }
         let entries = self.book.journal();
@@ -228,13 +228,6 @@ impl<T: Drop, M: Drop> Kernel<T, M> {
     {
         self.book.into_journal()
     }
-}
-
-// Whether the run is over.
-fn is_over(book: &KernelCore) -> bool
-    ensures { result ≡ Journal.is_over book.now.journal }
-{
-    book.ending().is_some()
 }
 
 // The task that acts.
@@ -361,7 +354,7 @@ fn follow<T: Drop, M: Drop>(
         mut members,
         ..
     } = back;
-    if is_over(book) {
+    if book.is_over() {
         drop_destroyed(&first, &mut members);
         tasks[task as usize] = Some(TaskAtRest {
             task: value,
@@ -488,7 +481,7 @@ fn follow_spawn<T: Drop, M: Drop>(
         return Next::Ended;
     }
     settle_child(tasks, first.object, child, hand, &mut members);
-    if is_over(book) {
+    if book.is_over() {
         tasks[task as usize] = Some(TaskAtRest {
             task: value,
             members,
@@ -525,7 +518,7 @@ fn follow_make<T: Drop, M: Drop>(
         members,
         ..
     } = back;
-    if is_over(book) {
+    if book.is_over() {
         tasks[task as usize] = Some(TaskAtRest {
             task: value,
             members,

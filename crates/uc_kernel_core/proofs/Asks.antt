@@ -1,5 +1,5 @@
 -- The entries of a row may be appended.
-use Rattle.std.proofs.Common.{◌≡◌, ℕ, ℤ, suc, cond, take, get_or, append-nil, ◌==◌, ◌+◌, ◌<◌, Bool, true, false, not, List, [], ◌∷◌, ◌++◌, Option, Some, None, refl, sym, ap, ◌∙◌, subst, append_assoc, arith, length}
+use Rattle.std.proofs.Common.{◌≡◌, ℕ, ℤ, suc, cond, take, get_or, append-nil, ◌==◌, ◌+◌, ◌<◌, ◌≤◌, Bool, true, false, not, List, [], ◌∷◌, ◌++◌, Option, Some, None, refl, sym, ap, ◌∙◌, subst, append_assoc, arith, length}
 use Rattle.std.specs.Prelude.{pos, if◌then◌else◌}
 use Rattle.std.proofs.lemmas.Bool.{eqb-true}
 use Rattle.std.proofs.Math.Seq.{take-suc}
@@ -111,6 +111,14 @@ print_step s s1 s2 p t k at x items d lt is a b =
     let next : at + 1 ≡ suc at = omega arith in
     let longer : take (at + 1) items ≡ take at items ++ i ∷ [] = ap (λ n. take n items) next ∙ take-suc items at d lt in
     subst (Appended s s2) (sym (ap (prints_from p t k 0) longer ∙ more)) (appended_both s s1 s2 (prints_from p t k 0 (take at items)) (asking kind.Print p t x 0 (pos i.form) i.value ∷ []) a b)
+
+-- one behind the first carries nothing
+pub later_cost : (k : Cost) (at : ℕ) → 1 ≤ at → no_cost ≡ cost_at k at
+later_cost k at le = by (at == 0) refl
+  where
+    by : (b : Bool) → (at == 0) ≡ b → no_cost ≡ cond b k no_cost
+    by true e = let f = eqb-true at 0 e in absurd (omega arith)
+    by false e = refl
 
 -- all of them
 pub print_rows : (s s1 : Seen) (p t k line n at : ℕ) (items : List Piece) → at ≡ n → Appended s s1 (prints_from p t (cost k line) 0 (take at items)) → Appended s s1 (rows s p t k line (ask.Print n items))

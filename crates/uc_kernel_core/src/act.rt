@@ -13,6 +13,7 @@ use uc_entry::request::Request;
 
 impl KernelCore {
     /// The act of what a task asks: any request but those for which memory is taken, `make_object` and `spawn`.
+    #[inline(always)]
     pub fn act(&mut self, who: Actor, request: &Request)
         requires ready { IsReady self.old }
         requires asks { MayAsk self.old.opts self.old.sites self.old.journal who.processor who.task
@@ -58,6 +59,7 @@ impl KernelCore {
     }
 
     /// The entries of a request.
+    #[inline(always)]
     fn request(&mut self, who: Actor, request: &Request)
         requires may { MayAct self.old who.processor who.task }
         requires fits { Fits self.old.opts self.old.sites self.old.journal who.task request.now }

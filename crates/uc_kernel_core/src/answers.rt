@@ -1,24 +1,21 @@
 //! What the journal tells of its tasks and its end, at once.
 ghost use Rattle.std.specs.Prelude.{◌≡◌, ◌<◌, false, IfSome};
-ghost use Rattle.std.specs.Option.{is_some, option_to_list};
+ghost use Rattle.std.specs.Option.{option_to_list};
 ghost use Rattle.uc_tree.specs.declared.limits.TheConstants.{PROCESSORS, TASKS};
 ghost use Rattle.uc_acts.specs.Answers.{answer_to};
 ghost use Rattle.uc_acts.specs.Journal.{is_over};
 ghost use Rattle.uc_acts.specs.Queues.{running};
 ghost use Rattle.uc_acts.specs.Serves.{left};
-ghost use Rattle.uc_kernel_journal.specs.JournalSums.{last_kind};
 
 use crate::kernel_core::KernelCore;
-use uc_entry::entry::EntryKind;
 use uc_entry::request::Answer;
 
 impl KernelCore {
-    /// The kind of the entry that ends the run, if there is one. It is the last.
-    pub fn ending(&self) -> Option<EntryKind>
-        ensures over { is_some result ≡ is_over self.now.journal }
-        ensures last { IfSome result (λ k. k ≡ last_kind self.now.journal) }
+    /// Whether the run is over: its last entry ends it.
+    pub fn is_over(&self) -> bool
+        ensures { result ≡ is_over self.now.journal }
     {
-        self.journal.ending()
+        self.journal.is_over()
     }
 
     /// What a task is told to go on with, if it is.

@@ -39,7 +39,7 @@ impl KernelCore {
         ensures { Appended self.old self.new (if is_over self.old.journal then []
             else closing who.processor who.task (verdict self.old.opts self.old.journal)) }
     {
-        if self.journal.ending().is_some() {
+        if self.journal.is_over() {
             return;
         }
         match self.verdict() {

@@ -397,9 +397,9 @@ impl KernelCore {
         ensures { Appended self.old self.new
             (rows self.old who.processor who.task who.ticks who.line (ask.Print n items.now)) }
     {
-        for at in 0..n as usize {
-            let piece = items[at];
-            self.put_print(who, at == 0, piece);
+        self.put_print(who, true, items[0]);
+        for at in 1..n as usize {
+            self.put_print(who, false, items[at]);
         }
     }
 

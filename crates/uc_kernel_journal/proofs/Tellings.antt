@@ -23,7 +23,7 @@ use Rattle.uc_acts.proofs.OpenLemmas.{still_open_push, any_push}
 use Rattle.uc_acts.proofs.Answered.{later, answer_push}
 use Rattle.uc_acts.proofs.SoundLemmas.{self_test}
 use Rattle.uc_kernel_journal.specs.EntryAnswers.{says, takes_up, IsSayable, answer_after, answers_after, child_told, spent_after}
-use Rattle.uc_kernel_journal.specs.JournalSums.{Tells, last_kind}
+use Rattle.uc_kernel_journal.specs.JournalSums.{Tells}
 
 no_both : (b : Bool) → b ≡ true → b ≡ false → ⊥
 no_both b t f = cc
@@ -338,36 +338,19 @@ over_push j e t h = by (list_any (λ e. is_ending e.kind) j) (is_ending e.kind) 
     by false true h t = cc
     by false false h t = cc
 
--- ---- the last entry
-pub last_push : (j : Journal) (e : Entry) → last_kind (j ++ e ∷ []) ≡ e.kind
-last_push [] e = refl
-last_push (x ∷ []) e = refl
-last_push (x ∷ y ∷ j) e = last_push (y ∷ j) e
-
-pub ends_last : (j : Journal) (e : Entry) → is_over j ≡ false → is_over (j ++ e ∷ []) ≡ is_ending (last_kind (j ++ e ∷ []))
+-- ---- with one entry more the run is over where that ends it
+pub ends_push : (j : Journal) (e : Entry) → is_over j ≡ false → is_ending e.kind ≡ is_over (j ++ e ∷ [])
 unfolding is_over
-ends_last j e h =
-    any_push (λ e. is_ending e.kind) j e ∙ ap (λ b. b || is_ending e.kind) h ∙ sym (ap is_ending (last_push j e))
+ends_push j e h = sym (any_push (λ e. is_ending e.kind) j e ∙ ap (λ b. b || is_ending e.kind) h)
 
-pub ends_so : (j : Journal) (e : Entry) → is_ending e.kind ≡ true → is_over (j ++ e ∷ []) ≡ is_ending (last_kind (j ++ e ∷ []))
+pub ends_so : (j : Journal) (e : Entry) → is_ending e.kind ≡ true → true ≡ is_over (j ++ e ∷ [])
 unfolding is_over
-ends_so j e h =
-    any_push (λ e. is_ending e.kind) j e ∙ ap (λ b. is_over j || b) h ∙ last_true (is_over j) ∙ sym h ∙ sym (ap is_ending (last_push j e))
+ends_so j e h = sym (any_push (λ e. is_ending e.kind) j e ∙ ap (λ b. is_over j || b) h ∙ last_true (is_over j))
   where
     last_true : (b : Bool) → (b || true) ≡ true
     last_true true = refl
     last_true false = refl
 
-pub ends_begin : (opts : Options) → is_over (begin opts ∷ []) ≡ is_ending (last_kind (begin opts ∷ []))
+pub ends_begin : (opts : Options) → false ≡ is_over (begin opts ∷ [])
 unfolding is_over
 ends_begin opts = refl
-
-pub last_is : (j : Journal) (d : Entry) (n : ℕ) → n + 1 ≡ length j → (get_or j n d).kind ≡ last_kind j
-last_is [] d n h = absurd (omega arith)
-last_is (x ∷ []) d zero h = refl
-last_is (x ∷ []) d (suc n) h = absurd (omega arith)
-last_is (x ∷ y ∷ j) d zero h = absurd (omega arith)
-last_is (x ∷ y ∷ j) d (suc n) h = last_is (y ∷ j) d n (omega arith)
-
-pub last_at : (x : Entry) (j : Journal) (n : ℕ) (d : Entry) → x ≡ get_or j n d → n + 1 ≡ length j → x.kind ≡ last_kind j
-last_at x j n d is at = ap (λ e. e.kind) is ∙ last_is j d n at

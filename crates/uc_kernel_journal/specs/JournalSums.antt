@@ -4,10 +4,8 @@ use Rattle.std.specs.List.{AllByRecursion}
 use Rattle.uc_tree.specs.Programs.{Site}
 use Rattle.uc_tree.specs.declared.limits.TheConstants.{CLAUSES}
 use Rattle.uc_entry.specs.declared.entry.Entry.{Entry}
-use Rattle.uc_entry.specs.declared.entry.EntryKind.{EntryKind}
-use Rattle.uc_entry.specs.declared.entry.EntryKind.TheVariants as kind
 use Rattle.uc_entry.specs.declared.request.Answer.{Answer}
-use Rattle.uc_acts.specs.Journal.{Journal, is_over, is_ending}
+use Rattle.uc_acts.specs.Journal.{Journal, is_over}
 use Rattle.uc_acts.specs.Queues.{used, all_ticks, first_ended}
 use Rattle.uc_acts.specs.Reading.{bytes_used, has_failed}
 use Rattle.uc_acts.specs.Answers.{answer_to}
@@ -33,7 +31,7 @@ abbrev pub AreShort : List Site → Type 0
 AreShort sites = AllByRecursion (λ s. length s.clauses ≤ CLAUSES) sites
 
 -- the sums and the answers are the journal's
-pub record Tells (sites : List Site) (j : Journal) (total : ℕ) (each : List ℕ) (told : List (Option Answer)) (taken : ℕ) (missed over : Bool) : Type 0 where
+pub record Tells (sites : List Site) (j : Journal) (total : ℕ) (each : List ℕ) (told : List (Option Answer)) (taken : ℕ) (missed first : Bool) : Type 0 where
   pub ticks : total ≡ all_ticks j
   pub most : total ≤ length j * 4294967295
   pub spent : (t d : ℕ) → t < length each → slice_index_or each t d ≡ used t j
@@ -41,21 +39,14 @@ pub record Tells (sites : List Site) (j : Journal) (total : ℕ) (each : List �
   pub answers : (t : ℕ) (d : Option Answer) → t < length told → slice_index_or told t d ≡ answer_to sites t j
   pub bytes : taken ≡ bytes_used j
   pub failed : missed ≡ has_failed j
-  pub ended : over ≡ first_ended j
-
--- the kind of the last entry
-abbrev pub last_kind : Journal → EntryKind
-last_kind [] = kind.Begin
-last_kind (e ∷ []) = e.kind
-last_kind (e ∷ f ∷ j) = last_kind (f ∷ j)
+  pub ended : first ≡ first_ended j
 
 -- while the run goes on
-pub record IsTold (sites : List Site) (j : Journal) (ticks : ℕ) (spent : List ℕ) (answers : List (Option Answer)) (bytes : ℕ) (failed ended : Bool) (room tasks : ℕ) : Type 0 where
+pub record IsTold (sites : List Site) (j : Journal) (ticks : ℕ) (spent : List ℕ) (answers : List (Option Answer)) (bytes : ℕ) (failed ended over : Bool) (room tasks : ℕ) : Type 0 where
   pub tells : is_over j ≡ false → Tells sites j ticks spent answers bytes failed ended
   pub begun : 1 ≤ length j
   pub tasks_spent : length spent ≡ tasks
   pub tasks_answers : length answers ≡ tasks
   pub short : AreShort sites
   pub narrow : room ≤ 4294967295
-  -- only the last entry may end the run
-  pub last : is_over j ≡ is_ending (last_kind j)
+  pub ends : over ≡ is_over j

@@ -1,6 +1,5 @@
 //! The journal of a run, with what it tells at once.
-ghost use Rattle.std.specs.Prelude.{◌≡◌, ◌≤◌, ◌<◌, ◌++◌, ◌∷◌, [], false, true, length, take, replicate, slice_set, IfOk, IfSome, Some, None};
-ghost use Rattle.std.specs.Option.{is_some};
+ghost use Rattle.std.specs.Prelude.{◌≡◌, ◌≤◌, ◌<◌, ◌++◌, ◌∷◌, [], false, true, length, take, replicate, slice_set, IfOk, Some, None};
 ghost use Rattle.uc_entry.specs.declared.request.Answer.TheVariants as answer;
 ghost use Rattle.uc_acts.specs.Journal.{begin, is_over, is_ending};
 ghost use Rattle.uc_acts.specs.KernelRuns.{InRange};
@@ -8,7 +7,7 @@ ghost use Rattle.uc_acts.specs.Queues.{used, all_ticks, first_ended};
 ghost use Rattle.uc_acts.specs.Reading.{bytes_used, has_failed};
 ghost use Rattle.uc_acts.specs.Answers.{answer_to};
 ghost use Rattle.uc_kernel_journal.specs.EntryAnswers.{IsSayable};
-ghost use Rattle.uc_kernel_journal.specs.JournalSums.{AreShort, told_more, with_journal, last_kind};
+ghost use Rattle.uc_kernel_journal.specs.JournalSums.{AreShort, told_more, with_journal};
 
 use crate::notes::{note_answers, note_bytes, note_ended, note_failed, note_spent};
 use std::alloc::{AllocError, Global};
@@ -38,6 +37,8 @@ pub struct KernelJournal {
     failed: bool,
     // Whether task 0 has ended.
     ended: bool,
+    // Whether the run is over.
+    over: bool,
     room: u32,
     tasks: u32,
 }
@@ -51,7 +52,7 @@ impl Model for KernelJournal {
 
     ghost view = { λ c. record { journal = c.journal.items; sites = c.sites.items; room = c.room; tasks = c.tasks } };
 
-    ghost invariant = { λ c. (c.room ≤ vec_capacity c.journal) × IsTold c.sites.items c.journal.items c.ticks c.spent c.answers c.bytes c.failed c.ended c.room c.tasks };
+    ghost invariant = { λ c. (c.room ≤ vec_capacity c.journal) × IsTold c.sites.items c.journal.items c.ticks c.spent c.answers c.bytes c.failed c.ended c.over c.room c.tasks };
 }
 
 impl KernelJournal {
@@ -90,6 +91,7 @@ impl KernelJournal {
             bytes: 0,
             failed: false,
             ended: false,
+            over: false,
             room,
             tasks,
         })
@@ -110,6 +112,7 @@ impl KernelJournal {
         self.bytes = note_bytes(self.bytes, &e);
         self.failed = note_failed(self.failed, &e);
         self.ended = note_ended(self.ended, &e);
+        self.over = is_ending(e.kind);
         self.journal.push_reserved(e);
     }
 
@@ -120,6 +123,7 @@ impl KernelJournal {
         requires room { count < self.old.room }
         ensures { self.new ≡ with_journal self.old (take count self.old.journal ++ e ∷ []) }
     {
+        self.over = true;
         self.journal.truncate(count);
         self.journal.push_reserved(e);
     }
@@ -189,16 +193,11 @@ impl KernelJournal {
         self.ended
     }
 
-    /// The kind of the entry that ends the run, if there is one.
-    pub fn ending(&self) -> Option<EntryKind>
-        ensures over { is_some result ≡ is_over self.now.journal }
-        ensures last { IfSome result (λ k. k ≡ last_kind self.now.journal) }
+    /// Whether the run is over: its last entry ends it.
+    pub fn is_over(&self) -> bool
+        ensures { result ≡ is_over self.now.journal }
     {
-        let kind = self.journal[self.journal.len() - 1].kind;
-        if is_ending(kind) {
-            return Some(kind);
-        }
-        None
+        self.over
     }
 
     /// The accept statements.

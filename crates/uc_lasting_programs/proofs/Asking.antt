@@ -29,7 +29,7 @@ module _ (source : Source) (s : State) where
   abbrev AskStep : Step → Type 0
   AskStep (Goes u) = Unit {0}
   AskStep (Ticks u) = Unit {0}
-  AskStep (Asks r u) = AskedAt r s u
+  AskStep (Asks r u) = AskedAt source r s u
 
   -- the end of an activation
 
@@ -171,9 +171,10 @@ module _ (source : Source) (s : State) where
   leave false q todo = tt
   leave true q todo = unless q _ todo tt
 
-  make : (c n : ℕ) (r : Option Routine) (todo : List Todo) → AskStep (monitors.make_step c n r todo s)
-  make c n None todo = tt
-  make c n (Some r) todo = either AskStep (monitors.may_call r.written s) _ _ tt tt
+  make : (c n : ℕ) (r : Option Routine) (todo : List Todo) → s.run.control ≡ piece.MakeNow c n ∷ todo → slice_get source.routines n ≡ r → AskStep (monitors.make_step c n r todo s)
+  make c n None todo z e = tt
+  make c n (Some r) todo z e =
+      either AskStep (monitors.may_call r.written s) _ _ (record { class = c; builder = n; todo = todo; makes = z; binds = refl; operands = refl; routine = r; known = e }) tt
 
   bind : (r : Option Routine) (todo : List Todo) → AskStep (monitors.bind_step r todo s)
   bind None todo = tt
@@ -331,7 +332,7 @@ module _ (source : Source) (s : State) where
   acts piece.Land todo z = land s.run.raised todo
   acts (piece.EnterNow m r) todo z = enter m r (slice_get source.routines r) todo z
   acts piece.LeaveNow todo z = leave _ (monitors.this_object s) todo
-  acts (piece.MakeNow k r) todo z = make k r (slice_get source.routines r) todo
+  acts (piece.MakeNow k r) todo z = make k r (slice_get source.routines r) todo z refl
   acts (piece.BindMadeNow k r) todo z = bind (slice_get source.routines r) todo
   acts piece.MadeNow todo z = unless (monitors.this_object s) _ todo tt
   acts (piece.SpawnNow r) todo z = unless (monitors.this_object s) _ (piece.ChildNow r ∷ todo) tt

@@ -78,41 +78,29 @@ module _ (p : Program) (formed : IsFormed p) (accepted : breaks_of p ≡ []) (fe
   ride_told (asks {s} e) m f known n = told_here s n (known s way.stays tt) m f
 
   module _ (input : List ℕ) (opts : Options) (range : InRange opts) (first : MainPasses (table_of p) few ((table_of p).routine (source_of p).main).this 0) where
-    may_calls : {j : Journal} {w : World} (r : Runs (source_of p) input opts j w) → RunFits (source_of p) input opts j w r → is_over j ≡ false → PassesBelow few opts j → RunMeets (Meets (table_of p) few) (source_of p) input opts j w r → RunMeets (Fair (setting_of p few)) (source_of p) input opts j w r → (q t n : ℕ) (s : State) (asked : Asked) (d : AsksIn (source_of p) opts j w q t n s asked) → RideMeets (Meets (table_of p) few) (source_of p) (answered (source_of p) d.given (drawn j w t)) (left opts j t) s n asked d.rides → RideMeets (Fair (setting_of p few)) (source_of p) (answered (source_of p) d.given (drawn j w t)) (left opts j t) s n asked d.rides → RideMeets (FindsThis (table_of p) few (source_of p)) (source_of p) (answered (source_of p) d.given (drawn j w t)) (left opts j t) s n asked d.rides
+    may_calls : {j : Journal} {w : World} (r : Runs (source_of p) input opts j w) → RunFits (source_of p) input opts j w r → is_over j ≡ false → PassesBelow few opts j → RunMeets (Meets (table_of p) few) (source_of p) input opts j w r → RunMeets (Fair (setting_of p few)) (source_of p) input opts j w r → (q t n : ℕ) (s : State) (asked : Asked) (d : AsksIn (source_of p) opts j w q t n s asked) → RideMeets (Meets (table_of p) few) (source_of p) (answered (source_of p) d.given (drawn j w t)) (left opts j t) s n asked d.rides → RideMeets (Fair (setting_of p few)) (source_of p) (answered (source_of p) d.given (drawn j w t)) (left opts j t) s n asked d.rides → RideMeets (FindsThis (table_of p) few (source_of p)) (source_of p) (answered (source_of p) d.given (drawn j w t)) (left opts j t) s n asked d.rides × RideMeets (FindsTold (table_of p) few (source_of p)) (source_of p) (answered (source_of p) d.given (drawn j w t)) (left opts j t) s n asked d.rides
     may_calls {j} {w} r f on below m fair q t n s asked d now fair_now =
         let all : AllIsKnown (table_of p) few (source_of p) j w = law_known_runs p formed accepted few input opts range j w r f on below first m in
         let main = (law_calling p formed accepted).main in
         let k = run_put p accepted few (laid_out p formed accepted) main code input opts range r f fair in
         let frames : KeepsFrames p j w = law_frame_runs p accepted input opts j w r in
         let begins = start p accepted few (laid_out p formed accepted) main code input opts range (run_rests (source_of p) input opts range r f on) on (k.0 on) frames q t d.given d.runs d.told in
-        ride_calls d.rides now fair_now (λ v l y.
+        let known : (v : State) (l : Leads (source_of p) (answered (source_of p) d.given (drawn j w t)) v) → LeadsMeet (Meets (table_of p) few) (source_of p) (answered (source_of p) d.given (drawn j w t)) v l → IsKnownThere p few v = λ v l y.
         let c : way.Comes (source_of p) j w t v = record { given = d.given; processor = q; runs = d.runs; told = d.told; leads = l } in
-        record { knows = all.comes t v c y; life = all.lives t v c y }) begins
+        record { knows = all.comes t v c y; life = all.lives t v c y } in
+        (ride_calls d.rides now fair_now known begins, ride_told d.rides now fair_now known begins)
 
-    run_calls : {j : Journal} {w : World} (r : Runs (source_of p) input opts j w) → RunFits (source_of p) input opts j w r → PassesBelow few opts j → RunMeets (Meets (table_of p) few) (source_of p) input opts j w r → RunMeets (Fair (setting_of p few)) (source_of p) input opts j w r → RunMeets (FindsThis (table_of p) few (source_of p)) (source_of p) input opts j w r
-    run_calls begun f below m n = tt
-    run_calls (more {j} {w} {a} r o (gives q t s le)) f below m n = (run_calls r f.0 (earlier few opts j a below) m.0 n.0, tt)
-    run_calls (more {j} {w} {a} r o (no_room q t s le)) f below m n = (run_calls r f.0 (earlier few opts j a below) m.0 n.0, tt)
+    run_calls : {j : Journal} {w : World} (r : Runs (source_of p) input opts j w) → RunFits (source_of p) input opts j w r → PassesBelow few opts j → RunMeets (Meets (table_of p) few) (source_of p) input opts j w r → RunMeets (Fair (setting_of p few)) (source_of p) input opts j w r → RunMeets (FindsThis (table_of p) few (source_of p)) (source_of p) input opts j w r × RunMeets (FindsTold (table_of p) few (source_of p)) (source_of p) input opts j w r
+    run_calls begun f below m n = (tt, tt)
+    run_calls (more {j} {w} {a} r o (gives q t s le)) f below m n =
+        let h = run_calls r f.0 (earlier few opts j a below) m.0 n.0 in ((h.0, tt), (h.1, tt))
+    run_calls (more {j} {w} {a} r o (no_room q t s le)) f below m n =
+        let h = run_calls r f.0 (earlier few opts j a below) m.0 n.0 in ((h.0, tt), (h.1, tt))
     run_calls (more {j} {w} {a} r o (acts q t n s asked d)) f below m fair =
         let before = earlier few opts j a below in
-        (run_calls r f.0 before m.0 fair.0, may_calls r f.0 o before m.0 fair.0 q t n s asked d m.1 fair.1)
-
-    run_told : {j : Journal} {w : World} (r : Runs (source_of p) input opts j w) → RunFits (source_of p) input opts j w r → PassesBelow few opts j → RunMeets (Meets (table_of p) few) (source_of p) input opts j w r → RunMeets (Fair (setting_of p few)) (source_of p) input opts j w r → RunMeets (FindsTold (table_of p) few (source_of p)) (source_of p) input opts j w r
-    run_told begun f below m n = tt
-    run_told (more {j} {w} {a} r o (gives q t s le)) f below m n = (run_told r f.0 (earlier few opts j a below) m.0 n.0, tt)
-    run_told (more {j} {w} {a} r o (no_room q t s le)) f below m n = (run_told r f.0 (earlier few opts j a below) m.0 n.0, tt)
-    run_told (more {j} {w} {a} r o (acts q t n s asked d)) f below m fair =
-        let before = earlier few opts j a below in
-        let all : AllIsKnown (table_of p) few (source_of p) j w = law_known_runs p formed accepted few input opts range j w r f.0 o before first m.0 in
-        let main = (law_calling p formed accepted).main in
-        let k = run_put p accepted few (laid_out p formed accepted) main code input opts range r f.0 fair.0 in
-        let frames : KeepsFrames p j w = law_frame_runs p accepted input opts j w r in
-        let begins = start p accepted few (laid_out p formed accepted) main code input opts range (run_rests (source_of p) input opts range r f.0 o) o (k.0 o) frames q t d.given d.runs d.told in (
-          run_told r f.0 before m.0 fair.0,
-          ride_told d.rides m.1 fair.1 (λ v l y.
-              let c : way.Comes (source_of p) j w t v = record { given = d.given; processor = q; runs = d.runs; told = d.told; leads = l } in
-              record { knows = all.comes t v c y; life = all.lives t v c y }) begins,
-        )
+        let h = run_calls r f.0 before m.0 fair.0 in
+        let g = may_calls r f.0 o before m.0 fair.0 q t n s asked d m.1 fair.1 in
+        ((h.0, g.0), (h.1, g.1))
 
 pub law_calls_runs : LawCallsRuns
 law_calls_runs = record {
@@ -120,7 +108,7 @@ law_calls_runs = record {
   state = λ p formed accepted few places s put life k m this. calls p formed accepted few places s put k this life m;
   runs = λ p formed accepted few places input opts range j w r fits below first meets fair.
       let c = run_calls p formed accepted few places input opts range first r fits below meets fair in
-      (c, law_this_runs (table_of p) few (source_of p) input opts j w r c, run_told p formed accepted few places input opts range first r fits below meets fair);
+      (c.0, law_this_runs (table_of p) few (source_of p) input opts j w r c.0, c.1);
   rides = λ p formed accepted few places input opts range j w r fits on below first meets fair q t n s asked d now fair_now.
       may_calls p formed accepted few places input opts range first r fits on below meets fair q t n s asked d now fair_now;
 }

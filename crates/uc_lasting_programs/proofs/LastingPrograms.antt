@@ -1,5 +1,5 @@
 -- What a program asks is not gone, and of a task where it is to be, as far as no law gives that.
-use Rattle.std.proofs.Common.{◌≡◌, ℕ, ℤ, ◌⊎◌, inl, inr, ◌++◌, Bool, true, false, List, [], ◌∷◌, refl, sym, subst}
+use Rattle.std.proofs.Common.{◌≡◌, ℕ, ℤ, ◌<◌, ◌⊎◌, inl, inr, ◌++◌, ◌||◌, ◌∙◌, Bool, true, false, List, [], ◌∷◌, refl, sym, subst, arith}
 use Rattle.uc_tree.specs.Programs.{Program}
 use Rattle.uc_tree.specs.Source.{Source}
 use Rattle.uc_entry.specs.declared.entry.Entry.{Entry}
@@ -8,16 +8,17 @@ use Rattle.uc_entry.specs.declared.request.Asked.{Asked}
 use Rattle.uc_entry.specs.declared.request.Request.{Request}
 use Rattle.uc_entry.specs.declared.request.Request.TheVariants as ask
 use Rattle.uc_acts.specs.Journal.{Journal, is_over}
+use Rattle.uc_acts.specs.Acts.{act}
 use Rattle.uc_acts.specs.Known.{object_count, is_gone, owner}
 use Rattle.uc_acts.specs.KernelRuns.{InRange}
 use Rattle.uc_acts.specs.Serves.{left}
 use Rattle.uc_machine.specs.declared.exec.Exec.{Exec}
-use Rattle.uc_machine.specs.Pieces.{Value, Todo, EnterNow, Active}
+use Rattle.uc_machine.specs.Pieces.{Value, Number, Place, Running, Object, Nothing, Todo, EnterNow}
 use Rattle.uc_machine.specs.Quiet.{State, Goes, Ticks, Asks, quiet}
 use Rattle.uc_machine.specs.Rides as rides
 use Rattle.uc_machine.specs.Rides.{Rides}
 use Rattle.uc_machine.specs.Answering.{answered}
-use Rattle.uc_meaning.specs.Runs.{World, May, Runs, AsksIn, drawn, more}
+use Rattle.uc_meaning.specs.Runs.{World, May, Runs, AsksIn, drawn, world_after, acts, more}
 use Rattle.uc_resolve.specs.Resolve.{source_of}
 use Rattle.uc_rules.specs.Breaks.{breaks_of}
 use Rattle.uc_sound.specs.SoundFormed.{IsFormed}
@@ -31,21 +32,26 @@ use Rattle.uc_state_laws.specs.Opens.{RideMeets, RunMeets, LeadsMeet}
 use Rattle.uc_typing.specs.Typing.{Ty}
 use Rattle.uc_life_laws.specs.Things.{Few, Base}
 use Rattle.uc_life_laws.specs.Lives.{LivesState}
-use Rattle.uc_life_laws.specs.Knowing.{KnowsState, main_of}
+use Rattle.uc_life_laws.specs.Knowing.{KnowsState}
 use Rattle.uc_life_laws.specs.KnownAnswers.{MainPasses}
 use Rattle.uc_life_laws.specs.Marks.{Puts}
 use Rattle.uc_life_laws.specs.KnownRuns.{PassesBelow, Meets, NamesMade}
 use Rattle.uc_life_laws.specs.Belonging.{Belongs}
+use Rattle.uc_life_laws.specs.Homes.{home_of}
 use Rattle.uc_life_laws.specs.Endings.{RawsPass}
-use Rattle.uc_building_laws.specs.BuiltEndings.{BuiltOutside}
 use Rattle.uc_life_laws.specs.Rooted.{IsPlace}
 use Rattle.uc_life_laws.proofs.KnownWorlds.{law_known_runs}
+use Rattle.uc_life_laws.proofs.Homes.{law_once}
+use Rattle.uc_life_laws.proofs.NewNumbers.{objects_grow}
 use Rattle.uc_life_laws.specs.Lasting.{lasting, RunForgets}
 use Rattle.uc_life_laws.proofs.Called.{law_called}
 use Rattle.uc_life_laws.proofs.Lasting.{law_raised}
 use Rattle.uc_putting_laws.specs.PuttingLaws.{setting_of, Fair}
-use Rattle.uc_homed_ends.specs.HomesLeft.{Told, Homes}
+use Rattle.uc_homed_ends.specs.HomesLeft.{Told}
+use Rattle.uc_homed_ends.specs.Elements.{no_fields}
+use Rattle.uc_homed_ends.proofs.EndHomes.{run_with, ride_with}
 use Rattle.uc_homed_ends.proofs.Found.{law_found}
+use Rattle.uc_life_laws.specs.HomedStates.{Opens}
 use Rattle.uc_request_laws.specs.ApartRuns.{StepApart}
 use Rattle.uc_request_laws.specs.Lasting.{IsLasting}
 use Rattle.uc_request_laws.proofs.ApartLemmas.{law_apart_runs}
@@ -53,32 +59,44 @@ use Rattle.uc_request_laws.proofs.LastingLemmas.{names_made, law_lasting}
 use Rattle.uc_owner_laws.proofs.OwnerRuns.{law_owner_runs}
 use Rattle.uc_putting_laws.proofs.PuttingRuns.{law_runs as law_puts}
 use Rattle.uc_running_laws.proofs.RunningLemmas.{run_leaves}
+use Rattle.uc_rooted_runs.specs.Makers.{Makers}
+use Rattle.uc_rooted_runs.specs.OutlastRuns.{with_homes}
 use Rattle.uc_rooted_runs.specs.UnmarkedRuns.{RunLeft}
 use Rattle.uc_rooted_runs.proofs.UnmarkedRuns.{law_unmarked_runs}
 use Rattle.uc_making_laws.specs.NoOthers.{NoThis}
 use Rattle.uc_making_laws.specs.OwnThis.{ThisState, FindsThis}
+use Rattle.uc_making_laws.specs.LettingGo.{LetsState, FindsTold}
+use Rattle.uc_making_laws.proofs.LettingRuns.{law_letting_runs}
 use Rattle.uc_making_laws.proofs.NoOthers.{law_no_others}
-use Rattle.uc_homed_ends.specs.Ended.{Loads}
+use Rattle.uc_homed_ends.specs.Ended.{is_variable, IsEntered}
 use Rattle.uc_homed_ends.proofs.Ended.{law_ended}
-use Rattle.uc_making_laws.specs.BeforeRides.{RaisesUpwards, RaisesUpwardsBy}
+use Rattle.uc_making_laws.specs.BeforeRides.{RootedOnWay, RootedOnWayBy, RaisesUpwards, RaisesUpwardsBy}
 use Rattle.uc_making_laws.specs.ForgetsThis.{RunGoes, IsLeftNowhere}
 use Rattle.uc_running_laws.specs.OtherNames.{ReadsOthers}
 use Rattle.uc_lasting_programs.specs.Forgetting.{IsLeftOf}
-use Rattle.uc_lasting_programs.specs.LastingPrograms.{with_first, IsLeftFor, LawLastingPrograms}
+use Rattle.uc_lasting_programs.specs.LastingPrograms.{IsLeftFor, LawLastingPrograms}
 use Rattle.uc_lasting_programs.specs.Meeting.{RunHoldsAt}
-use Rattle.uc_lasting_programs.specs.Telling.{few_of, IsTelling}
+use Rattle.uc_lasting_programs.specs.NumberReads.{ReadsNumbers}
+use Rattle.uc_lasting_programs.specs.Seats.{ride_seats, run_seats, seated}
+use Rattle.uc_lasting_programs.specs.Telling.{main_class, is_main_home, few_of, IsTelling}
 use Rattle.uc_making_laws.specs.Upheld.{way_makers}
-use Rattle.uc_lasting_programs.specs.Ways.{RunKeepsTo}
+use Rattle.uc_lasting_programs.specs.Ways.{IsKeptTo, RunKeepsTo}
 use Rattle.uc_lasting_programs.proofs.Asking.{law_asked_at}
+use Rattle.uc_lasting_programs.proofs.Finding.{ride_map, run_map}
+use Rattle.uc_lasting_programs.proofs.NumberReads.{numbers_others}
 use Rattle.uc_lasting_programs.proofs.CallsRuns.{law_calls_runs}
-use Rattle.uc_lasting_programs.proofs.Forgetting.{law_forgets_programs}
+use Rattle.uc_lasting_programs.proofs.Forgetting.{law_forgets_programs, run_nobodys}
 use Rattle.uc_lasting_programs.proofs.Telling.{law_telling}
 use Rattle.uc_lasting_programs.proofs.Sparing.{run_spares}
 use Rattle.uc_lasting_programs.proofs.Ways.{law_ways}
-use Rattle.uc_lasting_programs.proofs.Meeting.{tells_made, ride_outside, run_outside, HasMet, ride_lasts, ride_lives, ride_all, run_met, ride_reads, run_reads}
+use Rattle.uc_lasting_programs.proofs.Meeting.{tells_made, ride_outside, run_outside, HasMet, Shown, BuiltHere, ride_lasts, ride_lives, ride_all, run_present, run_met, ride_reads, run_reads, homed}
 use Rattle.uc_lasting_programs.proofs.Numbers.{passes}
-use Rattle.uc_lasting_programs.proofs.Remaining.{ride_remains, run_remains}
+use Rattle.uc_lasting_programs.proofs.PresentRides.{EntersClear, Began}
+use Rattle.uc_lasting_programs.proofs.PresentRuns.{began}
+use Rattle.uc_lasting_programs.proofs.Seats.{left_true, right_true, Seats, ride_has, run_has}
+use Rattle.uc_lasting_programs.proofs.Remaining.{ride_remains, last_whole, run_remains}
 use Rattle.uc_lasting_programs.proofs.Owning.{first_owned}
+use Rattle.uc_lasting_programs.proofs.Unowing.{none_of_it}
 
 -- what holds at the states of a ride in two ways, and on the way to one
 
@@ -118,10 +136,6 @@ module _ (P : State → Type 0) (source : Source) where
   asks_at (rides.ticks e r) m = ticks_at e m.0 (asks_at r m.1)
   asks_at (rides.asks {s} {t} e) m = inr (record { state = s; leads = rooms.stays; meets = tt; here = m; asks = e })
 
--- the main of task 0 has its own object alone of others
-first_mine : (few : Few) (own : Exec → Value → Ty → Bool) (z : Value) (b : Ty) → Base few (main_of 0) z b → with_first own (main_of 0) z b ≡ true
-first_mine few own z b h = refl
-
 -- of runs on the ways of which nobody else has at hand what is let go of
 
 -- what is told of a run
@@ -131,35 +145,57 @@ telling numbers home base = record { numbers = numbers; home = home; base = base
 -- what is left of a run, in which that is told of homes which a run tells in the end that makes so many objects
 record IsLeftKnown (p : Program) (few : Few) (many : ℕ) (input : List ℕ) (opts : Options) (j : Journal) (w : World) (r : Runs (source_of p) input opts j w) : Type 0 where
   reads : RunMeets (ReadsOthers few) (source_of p) input opts j w r
+  homes : (o : ℕ) → o < object_count j → few.home o ≡ home_of (source_of p) input opts j w r o
   told : RunMeets (Told p few many) (source_of p) input opts j w r
-  homes : RunMeets (Homes (setting_of p few)) (source_of p) input opts j w r
 
-module _ (p : Program) (formed : IsFormed p) (ok : breaks_of p ≡ []) (within : IsWithinLimits p) (many : ℕ) (numbers : Ty → ℕ → Bool) (home : ℕ → Value) (base : Exec → Value → Ty → Bool) (own : Exec → Value → Ty → Bool) (yet : Exec → List Active → Value → Ty → Bool) (raws : RawsPass (telling numbers home base)) (main : MainPasses (table_of p) (telling numbers home base) ((table_of p).routine (source_of p).main).this 0) (places : (n : Exec) (w : Value) (b : Ty) → Base (telling numbers home base) n w b → IsPlace w) (zero : (n : Exec) → Belongs (telling numbers home base) n (home 0) → ⊥) (mine : (z : Value) (b : Ty) → Base (telling numbers home base) (main_of 0) z b → own (main_of 0) z b ≡ true) (input : List ℕ) (opts : Options) (range : InRange opts) where
+module _ (p : Program) (formed : IsFormed p) (ok : breaks_of p ≡ []) (within : IsWithinLimits p) (many : ℕ) (numbers : Ty → ℕ → Bool) (home : ℕ → Value) (base : Exec → Value → Ty → Bool) (raws : RawsPass (telling numbers home base)) (main : MainPasses (table_of p) (telling numbers home base) ((table_of p).routine (source_of p).main).this 0) (places : (n : Exec) (w : Value) (b : Ty) → Base (telling numbers home base) n w b → IsPlace w) (zero : (n : Exec) → Belongs (telling numbers home base) n (home 0) → ⊥) (input : List ℕ) (opts : Options) (range : InRange opts) where
   abbrev these : Few
   these = telling numbers home base
 
   abbrev Left : (j : Journal) (w : World) → Runs (source_of p) input opts j w → Type 0
-  Left j w r = RunKeepsTo (table_of p) these own yet (source_of p) input opts r × IsLeftKnown p these many input opts j w r
+  Left j w r = RunKeepsTo (table_of p) these (source_of p) input opts r × IsLeftKnown p these many input opts j w r
+
+  -- what one act less had made is told as it was
+  fewer : (j : Journal) (w : World) (a : List Entry) (v : World) (r : Runs (source_of p) input opts j w) (on : is_over j ≡ false) (m : May (source_of p) opts input j w a v) → ((o : ℕ) → o < object_count (j ++ a) → home o ≡ home_of (source_of p) input opts (j ++ a) v (more r on m) o) → (o : ℕ) → o < object_count j → home o ≡ home_of (source_of p) input opts j w r o
+  fewer j w a v r on m tells o lt =
+      let le = objects_grow j a in
+      tells o (omega (arith, lt, le)) ∙ law_once (source_of p) input opts j w a v m (λ i. home_of (source_of p) input opts j w r i) o lt
 
   shorter : (j : Journal) (w : World) (a : List Entry) (v : World) (r : Runs (source_of p) input opts j w) (on : is_over j ≡ false) (m : May (source_of p) opts input j w a v) → Left (j ++ a) v (more r on m) → Left j w r
-  shorter j w a v r on m x = (x.0.0, record { reads = x.1.reads.0; told = x.1.told.0; homes = x.1.homes.0 })
+  shorter j w a v r on m x = (x.0.0, record { reads = x.1.reads.0; homes = fewer j w a v r on m x.1.homes; told = x.1.told.0 })
 
   -- all is known where each step found what it was to find
   left_so : (j : Journal) (w : World) (r : Runs (source_of p) input opts j w) → RunFits (source_of p) input opts j w r → PassesBelow these opts j → RunMeets (Meets (table_of p) these) (source_of p) input opts j w r → IsLeftKnown p these many input opts j w r → IsLeftOf p these input opts j w r
   left_so j w r f below met x = record {
     reads = x.reads;
-    fair = law_found.runs p formed ok within these many input opts range j w r f x.told (run_reads p formed ok numbers home base raws main input opts range r f below met) x.homes;
+    fair = law_found.runs p formed ok within these many input opts range j w r f x.told (run_reads p formed ok numbers home base raws places main input opts range r f below met);
   }
 
   apart_so : (j : Journal) (w : World) (r : Runs (source_of p) input opts j w) → RunFits (source_of p) input opts j w r → is_over j ≡ false → PassesBelow these opts j → RunMeets (Meets (table_of p) these) (source_of p) input opts j w r → Left j w r → RunMeets (StepApart (table_of p) these (source_of p)) (source_of p) input opts j w r × RunGoes (IsLeftNowhere (table_of p) these) (source_of p) input opts r
   apart_so j w r f on below met x =
       let l = left_so j w r f below met x.1 in
-      law_ways.runs p formed ok these own yet places zero mine input opts range j w r f on below main met l.fair l.reads x.0
+      law_ways.runs p formed ok these places zero input opts range j w r f on below main met l.fair l.reads x.0
 
-  forgotten : (j : Journal) (w : World) (r : Runs (source_of p) input opts j w) → RunFits (source_of p) input opts j w r → is_over j ≡ false → PassesBelow these opts j → RunMeets (Meets (table_of p) these) (source_of p) input opts j w r → Left j w r → RunForgets (table_of p) these (source_of p) input opts j w r
-  forgotten j w r f on below met x =
+  shown : (j : Journal) (w : World) (r : Runs (source_of p) input opts j w) → RunFits (source_of p) input opts j w r → is_over j ≡ false → PassesBelow these opts j → RunMeets (Meets (table_of p) these) (source_of p) input opts j w r → Left j w r → Shown p formed ok numbers home base input opts j w r
+  shown j w r f on below met x =
       let so = apart_so j w r f on below met x in
-      law_forgets_programs p formed ok these places zero input opts range j w r f on (law_apart_runs.runs p formed ok these input opts range j w r f below main met so.0) below main met so.1 (left_so j w r f below met x.1)
+      let lone = law_apart_runs.runs p formed ok these input opts range j w r f below main met so.0 in
+      let l = left_so j w r f below met x.1 in
+      record {
+        forgets = law_forgets_programs p formed ok these places zero input opts range j w r f on lone below main met so.1 l;
+        alone = lone;
+        nobodys = run_nobodys p formed ok these places zero input opts range j w r f on lone below main met so.1 l;
+        homes = x.1.homes;
+      }
+
+  -- what is entered again to be destroyed is not at hand of who enters it
+  clear_of : (makers : Makers) (j : Journal) (w : World) (u : ℕ) (v : State) → RootedOnWay (table_of p) these makers j w u v (source_of p) → EntersClear p these v
+  clear_of makers j w u v h = λ k m r todo e. subst (RootedOnWayBy (table_of p) these makers j w u v (source_of p)) e h k
+
+  clears : (j : Journal) (w : World) (r : Runs (source_of p) input opts j w) (q n k : ℕ) (s : State) (asked : Asked) (d : AsksIn (source_of p) opts j w q n k s asked) → IsKeptTo (table_of p) these (source_of p) input opts j w r q n k s asked d → RideMeets (EntersClear p these) (source_of p) (answered (source_of p) d.given (drawn j w n)) (left opts j n) s k asked d.rides
+  clears j w r q n k s asked d h =
+      let makers : Makers = with_homes (home_of (source_of p) input opts j w r) (way_makers (source_of p) input opts r d) in
+      ride_map (λ v. RootedOnWay (table_of p) these makers j w n v (source_of p)) (EntersClear p these) (clear_of makers j w n) d.rides h.rooted
 
 module _ (p : Program) (formed : IsFormed p) (ok : breaks_of p ≡ []) (within : IsWithinLimits p) (input : List ℕ) (opts : Options) (range : InRange opts) (j : Journal) (w : World) (r : Runs (source_of p) input opts j w) (f : RunFits (source_of p) input opts j w r) (on : is_over j ≡ false) (q t n : ℕ) (s : State) (asked : Asked) (d : AsksIn (source_of p) opts j w q t n s asked) (x : IsLeftFor p input opts j w r q t n s asked d) where
   abbrev source : Source
@@ -169,7 +205,7 @@ module _ (p : Program) (formed : IsFormed p) (ok : breaks_of p ≡ []) (within :
   start = answered source d.given (drawn j w t)
 
   abbrev few : Few
-  few = few_of p input opts j w r x.base
+  few = few_of p input opts j w r (seated p input opts r d x.base)
 
   abbrev all : ℕ
   all = object_count j
@@ -178,53 +214,118 @@ module _ (p : Program) (formed : IsFormed p) (ok : breaks_of p ≡ []) (within :
   told_here : RunMeets (Told p few all) source input opts j w r
   told_here = law_found.told p formed ok within few input opts range j w r f (λ o. refl)
 
+  -- an execution is read for a number alone
+  reads_here : RunMeets (ReadsOthers few) source input opts j w r
+  reads_here = run_map (ReadsNumbers (table_of p) few) (ReadsOthers few) (λ v h. numbers_others (table_of p) few v h) r x.reads
+
+  reads_now : RideMeets (ReadsOthers few) source start (left opts j t) s n asked d.rides
+  reads_now = ride_map (ReadsNumbers (table_of p) few) (ReadsOthers few) (λ v h. numbers_others (table_of p) few v h) d.rides x.reads_now
+
+  told_next : RideMeets (Told p few all) source start (left opts j t) s n asked d.rides
+  told_next = law_found.told_next p formed ok within few input opts range j w r f (λ o. refl) on q t n s asked d
+
+  -- so scopes open where mutex objects are at home
+  abbrev Opened : State → Type 0
+  Opened v = Opens (table_of p) no_fields few v
+
   left_here : IsLeftKnown p few all input opts j w r
-  left_here = record { reads = x.reads; told = told_here; homes = x.rest }
+  left_here = record { reads = reads_here; homes = λ o lt. refl; told = told_here }
 
   tells : IsTelling p few opts j
-  tells = law_telling p formed ok input opts j w r x.base
+  tells = law_telling p formed ok input opts j w r (seated p input opts r d x.base)
 
   -- numbers of what is not gone
   raws_last : (i : Journal) → RawsPass (lasting few i)
   raws_last i = λ c o h. tells.raws c o (passes (table_of p) few.numbers few.home few.base i c o h)
 
-  met_so_far : RunHoldsAt (λ i. BuiltOutside p (lasting few i)) source input opts j w r
-  met_so_far = run_remains p formed ok within input opts range few raws_last r f tells.below x.met
+  abbrev Here : Journal → ℕ → State → Type 0
+  Here i n v = BuiltHere p formed ok few.numbers few.home few.base i n v
 
-  met_next : RideHolds (BuiltOutside p (lasting few j)) source 0 start (left opts j t) s n asked d.rides
-  met_next = ride_remains p formed ok within input opts range (lasting few j) (raws_last j) j w r f on tells.below.clusters q t n s asked d x.met_now
+  -- executions have the objects for which they were made
+  has_seat : (n : Exec) (v : Value) (b : Ty) → IsPlace v → seated p input opts r d x.base n v b ≡ true → Base few n v b
+  has_seat n (Place o l) b i h = right_true (is_main_home (main_class p) n o l b) (seated p input opts r d x.base n (Place o l) b) h
+  has_seat n (Number z) b i h = absurd i
+  has_seat n (Running m) b i h = absurd i
+  has_seat n (Object o) b i h = absurd i
+  has_seat n Nothing b i h = absurd i
+
+  abbrev Homes : ℕ → Value
+  Homes o = home_of source input opts j w r o
+
+  abbrev so_far : Exec → Value → Ty → Bool
+  so_far n v b = run_seats (table_of p) Homes source input opts r n v b
+
+  abbrev on_ride : Exec → Value → Ty → Bool
+  on_ride n v b = ride_seats (table_of p) Homes d.rides n v b
+
+  seats_so_far : RunMeets (Seats (table_of p) few.home (Base few)) source input opts j w r
+  seats_so_far =
+      run_has (table_of p) few.home (Base few) source input opts r (λ n v b i h. has_seat n v b i (left_true (so_far n v b || on_ride n v b) (x.base n v b) (left_true (so_far n v b) (on_ride n v b) h)))
+
+  seats_next : RideMeets (Seats (table_of p) few.home (Base few)) source start (left opts j t) s n asked d.rides
+  seats_next =
+      ride_has (table_of p) few.home (Base few) d.rides (λ n v b i h. has_seat n v b i (left_true (so_far n v b || on_ride n v b) (x.base n v b) (right_true (so_far n v b) (on_ride n v b) h)))
+
+  met_so_far : RunHoldsAt Here source input opts j w r
+  met_so_far = run_remains p formed ok within input opts range few raws_last (λ c o h. h) r f tells.below (run_with (Told p few all) Opened (λ v h. h.1) r told_here) x.met seats_so_far
+
+  met_next : RideHolds (Here j) source 0 start (left opts j t) s n asked d.rides
+  met_next =
+      ride_remains p formed ok within input opts range (lasting few j) (raws_last j) j (last_whole p formed ok within input opts range few (λ c o h. h) j) w r f on tells.below.clusters few (λ o. refl) q t n s asked d (ride_with (Told p few all) Opened (λ v h. h.1) d.rides told_next) x.met_now seats_next
+
+  abbrev LeftOf : (j : Journal) (w : World) → Runs source input opts j w → Type 0
+  LeftOf j w r = Left p formed ok within all few.numbers few.home few.base tells.raws tells.main tells.places tells.nobodys input opts range j w r
+
+  shorter_of : (j : Journal) (w : World) (a : List Entry) (v : World) (r : Runs source input opts j w) (on : is_over j ≡ false) (m : May source opts input j w a v) → LeftOf (j ++ a) v (more r on m) → LeftOf j w r
+  shorter_of j w a v r on m l = shorter p formed ok within all few.numbers few.home few.base tells.raws tells.main tells.places tells.nobodys input opts range j w a v r on m l
+
+  shown_of : (j : Journal) (w : World) (r : Runs source input opts j w) → RunFits source input opts j w r → is_over j ≡ false → PassesBelow few opts j → HasMet p formed ok few.numbers few.home few.base input opts j w r → LeftOf j w r → Shown p formed ok few.numbers few.home few.base input opts j w r
+  shown_of j w r f on below so l = shown p formed ok within all few.numbers few.home few.base tells.raws tells.main tells.places tells.nobodys input opts range j w r f on below so.all l
+
+  clears_of : (j : Journal) (w : World) (r : Runs source input opts j w) (on : is_over j ≡ false) (q n k : ℕ) (s : State) (asked : Asked) (d : AsksIn source opts j w q n k s asked) → LeftOf (j ++ act opts source.sites input j q n k asked) (world_after source (act opts source.sites input j q n k asked) w n s) (more r on (acts q n k s asked d)) → RideMeets (EntersClear p few) source (answered source d.given (drawn j w n)) (left opts j n) s k asked d.rides
+  clears_of j w r on q n k s asked d l = clears p formed ok within all few.numbers few.home few.base tells.raws tells.main tells.places tells.nobodys input opts range j w r q n k s asked d l.0.1
 
   so : HasMet p formed ok few.numbers few.home few.base input opts j w r
-  so =
-      run_met p formed ok few.numbers few.home few.base tells.raws tells.main input opts range (λ j w r. Left p formed ok within all few.numbers few.home few.base (with_first x.own) x.yet tells.raws tells.main tells.places tells.nobodys (first_mine few x.own) input opts range j w r) (λ j w a v r on m l. shorter p formed ok within all few.numbers few.home few.base (with_first x.own) x.yet tells.raws tells.main tells.places tells.nobodys (first_mine few x.own) input opts range j w a v r on m l) (λ j w r f on below so l. forgotten p formed ok within all few.numbers few.home few.base (with_first x.own) x.yet tells.raws tells.main tells.places tells.nobodys (first_mine few x.own) input opts range j w r f on below so.all l) r f tells.below met_so_far (x.ways, left_here)
+  so = run_met p formed ok few.numbers few.home few.base tells.raws tells.places tells.main input opts range LeftOf shorter_of shown_of clears_of r f tells.below met_so_far (x.ways, left_here)
 
   left_of : IsLeftOf p few input opts j w r
-  left_of = left_so p formed ok within all few.numbers few.home few.base (with_first x.own) x.yet tells.raws tells.main tells.places tells.nobodys (first_mine few x.own) input opts range j w r f tells.below so.all left_here
+  left_of = left_so p formed ok within all few.numbers few.home few.base tells.raws tells.main tells.places tells.nobodys input opts range j w r f tells.below so.all left_here
+
+  shows : Shown p formed ok few.numbers few.home few.base input opts j w r
+  shows = shown_of j w r f on tells.below so (x.ways, left_here)
 
   forgets : RunForgets (table_of p) few source input opts j w r
-  forgets = forgotten p formed ok within all few.numbers few.home few.base (with_first x.own) x.yet tells.raws tells.main tells.places tells.nobodys (first_mine few x.own) input opts range j w r f on tells.below so.all (x.ways, left_here)
+  forgets = shows.forgets
+
+  -- what is so as this ride begins
+  clear_now : RideMeets (EntersClear p few) source start (left opts j t) s n asked d.rides
+  clear_now = clears p formed ok within all few.numbers few.home few.base tells.raws tells.main tells.places tells.nobodys input opts range j w r q t n s asked d x.way_now
+
+  begins : Began p few j start
+  begins =
+      began p formed ok input opts range j w r f on shows.alone (run_present p formed ok few.numbers few.home few.base tells.raws tells.places tells.main input opts range LeftOf shorter_of shown_of clears_of r f on tells.below so (x.ways, left_here)) few (homed p formed ok few.numbers few.home few.base tells.raws tells.places tells.main input opts range j w r f tells.below so shows.homes) q t n s asked d
 
   lasts_now : RideMeets (Meets (table_of p) (lasting few j)) source start (left opts j t) s n asked d.rides
-  lasts_now = ride_lasts p formed ok few.numbers few.home few.base tells.raws tells.main input opts range j w r f on tells.below forgets so q t n s asked d met_next
+  lasts_now = ride_lasts p formed ok few.numbers few.home few.base tells.raws tells.places tells.main input opts range j w r f on tells.below forgets so q t n s asked d met_next clear_now begins
 
   met_now : RideMeets (Meets (table_of p) few) source start (left opts j t) s n asked d.rides
-  met_now = ride_all p formed ok few.numbers few.home few.base tells.raws tells.main input opts range j w r f on tells.below forgets so q t n s asked d met_next
+  met_now = ride_all p formed ok few.numbers few.home few.base tells.raws tells.places tells.main input opts range j w r f on tells.below forgets so q t n s asked d met_next clear_now begins
 
   fair_now : RideMeets (Fair (setting_of p few)) source start (left opts j t) s n asked d.rides
   fair_now =
-      law_found.rides p formed ok within few all input opts range j w r f told_here (run_reads p formed ok few.numbers few.home few.base tells.raws tells.main input opts range r f tells.below so.all) on q t n s asked d (law_found.told_next p formed ok within few input opts range j w r f (λ o. refl) on q t n s asked d) (ride_reads p formed ok few.numbers few.home few.base tells.raws tells.main input opts range j w r f on tells.below so.all q t n s asked d met_now) x.rest_now
+      law_found.rides p formed ok within few all input opts range j w r f told_here (run_reads p formed ok few.numbers few.home few.base tells.raws tells.places tells.main input opts range r f tells.below so.all) on q t n s asked d told_next (ride_reads p formed ok few.numbers few.home few.base tells.raws tells.places tells.main input opts range j w r f on tells.below so.all q t n s asked d met_now)
 
   -- where an event is raised what executions have of others stands upwards
   abbrev Upwards : State → Type 0
-  Upwards v = RaisesUpwards (table_of p) few (with_first x.own) x.yet (way_makers (source_of p) input opts r d).rank j w t v
+  Upwards v = RaisesUpwards (table_of p) few (way_makers (source_of p) input opts r d).rank j w t v
 
   on_way : RideMeets (StepApart (table_of p) few source) source start (left opts j t) s n asked d.rides × RideMeets Upwards source start (left opts j t) s n asked d.rides
-  on_way = law_ways.rides p formed ok few (with_first x.own) x.yet tells.places tells.nobodys (first_mine few x.own) input opts range j w r f on tells.below tells.main so.all left_of.fair x.reads x.ways q t n s asked d met_now fair_now x.reads_now x.way_now
+  on_way = law_ways.rides p formed ok few tells.places tells.nobodys input opts range j w r f on tells.below tells.main so.all left_of.fair reads_here x.ways q t n s asked d met_now fair_now reads_now x.way_now
 
   -- nobody else has at hand what is let go of, so far and in this ride
   apart : RunMeets (StepApart (table_of p) few source) source input opts j w r × RideMeets (StepApart (table_of p) few source) source start (left opts j t) s n asked d.rides
   apart = (
-    (apart_so p formed ok within all few.numbers few.home few.base (with_first x.own) x.yet tells.raws tells.main tells.places tells.nobodys (first_mine few x.own) input opts range j w r f on tells.below so.all (x.ways, left_here)).0,
+    (apart_so p formed ok within all few.numbers few.home few.base tells.raws tells.main tells.places tells.nobodys input opts range j w r f on tells.below so.all (x.ways, left_here)).0,
     on_way.0,
   )
 
@@ -234,25 +335,26 @@ module _ (p : Program) (formed : IsFormed p) (ok : breaks_of p ≡ []) (within :
   abbrev Known : State → Type 0
   Known v = Meets (table_of p) few v
 
-  -- objects are at home where they are bound and loaded, what is loaded elsewhere is not gone, what is in scope holds what is not, and what
-  -- executions have of others stands upwards where an event is raised
+  -- objects are at home where they are bound and loaded, what is in scope holds what is not gone, and what executions have of others stands upwards where
+  -- an event is raised
   abbrev Ends : State → Type 0
-  Ends v = Fair (setting_of p few) v × (Loads j v × (LivesState (table_of p) (lasting few j) v × Upwards v))
+  Ends v = Fair (setting_of p few) v × (LivesState (table_of p) (lasting few j) v × Upwards v)
 
-  -- the objects of calls are had
+  -- the objects of calls are had, and told of
   abbrev Calls : State → Type 0
-  Calls v = FindsThis (table_of p) few source v
+  Calls v = FindsThis (table_of p) few source v × FindsTold (table_of p) few source v
 
   abbrev All : State → Type 0
   All v = Lasts v × (Known v × (Calls v × Ends v))
 
   ends_now : RideMeets Ends source start (left opts j t) s n asked d.rides
   ends_now =
-      ride_both (Fair (setting_of p few)) (λ v. Loads j v × (LivesState (table_of p) (lasting few j) v × Upwards v)) source d.rides fair_now (ride_both (Loads j) (λ v. LivesState (table_of p) (lasting few j) v × Upwards v) source d.rides x.loads_now (ride_both (LivesState (table_of p) (lasting few j)) Upwards source d.rides (ride_lives p formed ok few.numbers few.home few.base tells.raws tells.main input opts range j w r f on tells.below forgets so q t n s asked d met_next) on_way.1))
+      ride_both (Fair (setting_of p few)) (λ v. LivesState (table_of p) (lasting few j) v × Upwards v) source d.rides fair_now (ride_both (LivesState (table_of p) (lasting few j)) Upwards source d.rides (ride_lives p formed ok few.numbers few.home few.base tells.raws tells.places tells.main input opts range j w r f on tells.below forgets so q t n s asked d met_next clear_now begins) on_way.1)
 
   calls_now : RideMeets Calls source start (left opts j t) s n asked d.rides
   calls_now =
-      law_calls_runs.rides p formed ok few tells.places input opts range j w r f on tells.below tells.main so.all left_of.fair q t n s asked d met_now fair_now
+      let k = law_calls_runs.rides p formed ok few tells.places input opts range j w r f on tells.below tells.main so.all left_of.fair q t n s asked d met_now fair_now in
+      ride_both (FindsThis (table_of p) few source) (FindsTold (table_of p) few source) source d.rides k.0 k.1
 
   all_meet : RideMeets All source start (left opts j t) s n asked d.rides
   all_meet =
@@ -266,7 +368,7 @@ module _ (p : Program) (formed : IsFormed p) (ok : breaks_of p ≡ []) (within :
   left_behind : RunLeft (table_of p) few source input opts j w r
   left_behind =
       let alone = law_apart_runs.runs p formed ok few input opts range j w r f tells.below tells.main so.all apart.0 in
-      law_unmarked_runs (table_of p) few source input opts j w r range f on (run_leaves p formed ok input opts range r f alone) (run_spares p formed ok few input opts range r f alone left_of.fair x.reads) puts
+      law_unmarked_runs (table_of p) few source input opts j w r range f on (run_leaves p formed ok input opts range r f alone) (run_spares p formed ok few input opts range r f alone left_of.fair reads_here) puts
 
   module _ (a : AsksAt All source start asked.request s) where
     abbrev comes : Comes source j w t a.state
@@ -281,35 +383,46 @@ module _ (p : Program) (formed : IsFormed p) (ok : breaks_of p ≡ []) (within :
     fair_there : LeadsMeet (Fair (setting_of p few)) source start a.state a.leads
     fair_there = leads_map All (Fair (setting_of p few)) source (λ v h. h.1.1.1.0) a.leads a.meets
 
-    loads_there : LeadsMeet (Loads j) source start a.state a.leads
-    loads_there = leads_map All (Loads j) source (λ v h. h.1.1.1.1.0) a.leads a.meets
-
     lives_there : LeadsMeet (LivesState (table_of p) (lasting few j)) source start a.state a.leads
-    lives_there = leads_map All (LivesState (table_of p) (lasting few j)) source (λ v h. h.1.1.1.1.1.0) a.leads a.meets
+    lives_there = leads_map All (LivesState (table_of p) (lasting few j)) source (λ v h. h.1.1.1.1.0) a.leads a.meets
 
     puts_there : LeadsMeet (Puts (table_of p) few) source start a.state a.leads
     puts_there = law_puts.leads p formed ok few input opts range j w r f left_of.fair on t a.state comes fair_there
 
     this_there : ThisState (table_of p) few a.state
     this_there =
-        (law_calls_runs.runs p formed ok few tells.places input opts range j w r f tells.below tells.main so.all left_of.fair).1.comes on t a.state comes (leads_map All Calls source (λ v h. h.1.1.0) a.leads a.meets)
+        (law_calls_runs.runs p formed ok few tells.places input opts range j w r f tells.below tells.main so.all left_of.fair).1.comes on t a.state comes (leads_map All (FindsThis (table_of p) few source) source (λ v h. h.1.1.0.0) a.leads a.meets)
+
+    lets_there : LetsState (table_of p) few a.state
+    lets_there =
+        (law_letting_runs (table_of p) few source input opts j w r (law_calls_runs.runs p formed ok few tells.places input opts range j w r f tells.below tells.main so.all left_of.fair).2).comes on t a.state comes (leads_map All (FindsTold (table_of p) few source) source (λ v h. h.1.1.0.1) a.leads a.meets)
 
     known_there : KnowsState (table_of p) few [] a.state
     known_there = (law_known_runs p formed ok few input opts range j w r f on tells.below tells.main so.all).comes t a.state comes meets_there
 
     made : NamesMade opts j asked.request
     made =
-        names_made (table_of p) few opts j (tells_made p input opts j w r x.base) asked.request ((law_known_runs p formed ok few input opts range j w r f on tells.below tells.main so.all).names t a.state comes meets_there a.here.1.0 asked.request s a.asks)
+        names_made (table_of p) few opts j (tells_made p input opts j w r (seated p input opts r d x.base)) asked.request ((law_known_runs p formed ok few input opts range j w r f on tells.below tells.main so.all).names t a.state comes meets_there a.here.1.0 asked.request s a.asks)
 
-    -- a call is of what is not gone: what is entered to be destroyed was loaded for that
+    -- what is entered to be destroyed is not gone: it was loaded for that from a variable, or that is left to show
+    ends : (k i : ℕ) (todo : List Todo) → a.state.run.control ≡ EnterNow k i ∷ todo → ((table_of p).routine i).whole ≡ true → (o m : ℕ) → quiet source a.state ≡ Asks (ask.Call o m) s → is_gone o j ≡ false
+    ends k i todo z h o m e = by (is_variable (few.home o)) refl
+      where
+        entered : IsEntered few j a.state.env.exec o
+        entered = law_ended p formed ok few input opts range j w r f on left_behind left_of.fair so.lives t a.state comes fair_there lives_there k i todo z h o m s e
+
+        by : (b : Bool) → is_variable (few.home o) ≡ b → is_gone o j ≡ false
+        by true v = entered.there v
+        by false v = x.ended a.state k i todo z h o m e entered.own v
+
+    -- a call is of what is not gone
     calls : (o m : ℕ) → quiet source a.state ≡ Asks (ask.Call o m) s → is_gone o j ≡ false
     calls o m e =
         let c = law_asked_at source a.state (ask.Call o m) s e in
         by c.0 c.1 c.2 c.3 ((table_of p).routine c.1).whole refl
       where
         by : (k i : ℕ) (todo : List Todo) → a.state.run.control ≡ EnterNow k i ∷ todo → (b : Bool) → ((table_of p).routine i).whole ≡ b → is_gone o j ≡ false
-        by k i todo z true h =
-            law_ended p formed ok few input opts range j w r f on left_behind left_of.fair x.loads so.lives t a.state comes fair_there loads_there lives_there k i todo z h o m s e
+        by k i todo z true h = ends k i todo z h o m e
         by k i todo z false h = law_called p formed ok few input opts range j w r f on tells.below tells.main so.lasts forgets t a.state comes lasts_there k i todo z h o m s e
 
     raises : (o event : ℕ) (y z : ℤ) → quiet source a.state ≡ Asks (ask.Raise o event y z) s → NamesMade opts j (ask.Raise o event y z) → IsLasting j (ask.Raise o event y z)
@@ -317,12 +430,13 @@ module _ (p : Program) (formed : IsFormed p) (ok : breaks_of p ≡ []) (within :
         let c = law_asked_at source a.state (ask.Raise o event y z) s e in
         let there = law_raised p formed ok few input opts range j w r f on tells.below tells.main so.lasts forgets t a.state comes lasts_there a.here.0 o event y z s e in
         let g = x.raised a.state o event y z e in
-        let up = subst (RaisesUpwardsBy (table_of p) few (with_first x.own) x.yet (way_makers (source_of p) input opts r d).rank j w t a.state) c.1 a.here.1.1.1.1.1.1 in (
+        let up = subst (RaisesUpwardsBy (table_of p) few (way_makers (source_of p) input opts r d).rank j w t a.state) c.1 a.here.1.1.1.1.1 in (
           there,
           λ none.
-              let found = law_owner_runs p formed ok few tells.places input opts range j w r f on puts t a.state comes puts_there (with_first x.own) x.yet (way_makers (source_of p) input opts r d).rank (up o c.2) known_there c.0 c.1 o c.2 (g.scope none m there) in
+              let found = law_owner_runs p formed ok few tells.places input opts range j w r f on puts t a.state comes puts_there (way_makers (source_of p) input opts r d).rank known_there c.0 c.1 o c.2 (up o c.2 none m there) (g.scope none m there) in
               let builds : NoThis o (a.state.run ∷ a.state.callers) → ⊥ = λ h. law_no_others.making (table_of p) few o known_there.sigs (a.state.run ∷ a.state.callers) h found.1.0 found.1.1 in
-              builds (law_no_others.none (table_of p) few o a.state.env.exec (a.state.run ∷ a.state.callers) this_there.stack (λ z. first_owned source input opts r (subst (λ k. owner k j ≡ []) z none)) (λ h. builds (g.apart none h)) found.0),
+              let zero : o ≡ 0 → ⊥ = λ z. first_owned source input opts r (subst (λ k. owner k j ≡ []) z none) in
+              builds (law_no_others.none (table_of p) few o a.state.env.exec (a.state.run ∷ a.state.callers) this_there.stack zero (λ h. builds (none_of_it (table_of p) few o a.state.env.exec a.state.run a.state.callers c.0 c.1 lets_there.stack zero found.0 (g.apart none m there h))) found.0),
         )
 
     last : (q : Request) → quiet source a.state ≡ Asks q s → NamesMade opts j q → IsLasting j q
@@ -343,16 +457,16 @@ law_lasting_programs p formed ok within input opts range h =
     let x = h j w r f on q t n s asked d in
     let a = apart p formed ok within input opts range j w r f on q t n s asked d x in
     let m = so p formed ok within input opts range j w r f on q t n s asked d x in
-    let l = law_telling p formed ok input opts j w r x.base in (
+    let l = law_telling p formed ok input opts j w r (seated p input opts r d x.base) in (
       lasts p formed ok within input opts range j w r f on q t n s asked d x,
       record {
-        few = few_of p input opts j w r x.base;
+        few = few_of p input opts j w r (seated p input opts r d x.base);
         raws = l.raws;
         below = l.below;
-        tells = tells_made p input opts j w r x.base;
+        tells = tells_made p input opts j w r (seated p input opts r d x.base);
         main = l.main;
-        met = run_outside (table_of p) (few_of p input opts j w r x.base) (source_of p) r m.all;
-        meets = ride_outside (table_of p) (few_of p input opts j w r x.base) (source_of p) 0 d.rides (met_now p formed ok within input opts range j w r f on q t n s asked d x);
+        met = run_outside (table_of p) (few_of p input opts j w r (seated p input opts r d x.base)) (source_of p) r m.all;
+        meets = ride_outside (table_of p) (few_of p input opts j w r (seated p input opts r d x.base)) (source_of p) 0 d.rides (met_now p formed ok within input opts range j w r f on q t n s asked d x);
         was_apart = a.0;
         apart = a.1;
       },

@@ -139,7 +139,7 @@ module _ (t : Table) (few : Few) (places : (n : Exec) (w : Value) (b : Ty) → B
   based_value n c piece.Nothing h = tt
 
   -- a mutex object is known by its number
-  is_mutex : (c o : ℕ) → IsObject t c (Object o) → t.mutex c ≡ true
+  pub is_mutex : (c o : ℕ) → IsObject t c (Object o) → t.mutex c ≡ true
   is_mutex c o h = by (t.mutex c) refl
     where
       by : (b : Bool) → t.mutex c ≡ b → t.mutex c ≡ true
@@ -155,13 +155,13 @@ module _ (t : Table) (few : Few) (places : (n : Exec) (w : Value) (b : Ty) → B
   whole_told n gs cs c piece.Nothing h k = tt
 
   -- what lets go of the object at hand as it is left, where it builds or destroys that
-  opens : (g : Sig) (ss : Stmts) → FineStmts t g [] ss → LetsGo ss → g.whole ≡ true → opens_object ss ≡ true
+  pub opens : (g : Sig) (ss : Stmts) → FineStmts t g [] ss → LetsGo ss → g.whole ≡ true → opens_object ss ≡ true
   opens g (src.Scoped src.Leaves rest) f l w = no_both g.whole w f.3.1
   opens g (src.Scoped src.Ends rest) f l w = refl
   opens g (src.Scoped (src.Frees r) rest) f l w = refl
   opens g ss f l w = absurd l
 
-  letting : (x : Routine) → opens_object x.body ≡ true → is_letting (routine_todo x) ≡ true
+  pub letting : (x : Routine) → opens_object x.body ≡ true → is_letting (routine_todo x) ≡ true
   letting x e = subst (λ b. (if b then true else is_letting (behind_body x.purpose x.line)) ≡ true) (sym e) refl
 
 module _ (p : Program) (formed : IsFormed p) (accepted : breaks_of p ≡ []) (few : Few) (places : (n : Exec) (w : Value) (b : Ty) → Base few n w b → IsPlace w) where

@@ -6,6 +6,7 @@ pub mod CallsStates
 pub mod LettingStates
 pub mod CallsRuns
 pub mod Sparing
+pub mod Standings
 pub mod Forgetting
 pub mod Behind
 pub mod TaskMains
@@ -13,8 +14,16 @@ pub mod TaskEnds
 pub mod Ways
 pub mod Telling
 pub mod Numbers
+pub mod Seats
+pub mod PlacedHomes
+pub mod Presence
+pub mod PresentRides
+pub mod PresentRuns
 pub mod Meeting
 pub mod Clusters
+pub mod MutexScopes
 pub mod Remaining
 pub mod Owning
+pub mod Unowing
+pub mod NumberReads
 pub mod LastingPrograms

@@ -1,5 +1,5 @@
 -- What each step of a run finds by numbers of what is not gone, and by all that have been made.
-use Rattle.std.proofs.Common.{◌≡◌, ℕ, zero, suc, Bool, false, [], List, ◌++◌}
+use Rattle.std.proofs.Common.{◌≡◌, ℕ, zero, suc, ◌<◌, Bool, false, [], ◌∷◌, List, ◌++◌, sym, subst}
 use Rattle.std.proofs.lemmas.Bool.{ltb-true}
 use Rattle.uc_tree.specs.Programs.{Program}
 use Rattle.uc_tree.specs.Source.{Source}
@@ -7,17 +7,20 @@ use Rattle.uc_entry.specs.declared.entry.Entry.{Entry}
 use Rattle.uc_entry.specs.declared.entry.Options.{Options}
 use Rattle.uc_entry.specs.declared.request.Asked.{Asked}
 use Rattle.uc_acts.specs.Journal.{Journal, is_over}
-use Rattle.uc_acts.specs.Known.{object_count}
+use Rattle.uc_acts.specs.Acts.{act, lone_limit}
+use Rattle.uc_acts.specs.Known.{is_gone, object_count}
 use Rattle.uc_acts.specs.Queues.{cluster_count, processor_count}
 use Rattle.uc_acts.specs.KernelRuns.{InRange}
 use Rattle.uc_acts.specs.Serves.{left}
+use Rattle.uc_acts.proofs.Bounds.{over_limit}
 use Rattle.uc_machine.specs.declared.exec.Exec.{Exec}
 use Rattle.uc_machine.specs.Pieces.{Value}
 use Rattle.uc_machine.specs.Quiet.{State}
 use Rattle.uc_machine.specs.Rides as rides
 use Rattle.uc_machine.specs.Rides.{Rides}
 use Rattle.uc_machine.specs.Answering.{answered}
-use Rattle.uc_meaning.specs.Runs.{World, May, Runs, AsksIn, drawn, gives, no_room, acts, begun, more}
+use Rattle.uc_meaning.specs.Runs.{World, May, Runs, AsksIn, drawn, world_after, gives, no_room, acts, begun, more}
+use Rattle.uc_name_laws.proofs.Homes.{no_both}
 use Rattle.uc_resolve.specs.Resolve.{source_of}
 use Rattle.uc_rules.specs.Breaks.{breaks_of}
 use Rattle.uc_sound.specs.SoundFormed.{IsFormed}
@@ -28,7 +31,11 @@ use Rattle.uc_state_laws.specs.RoomRuns.{Leads}
 use Rattle.uc_state_laws.specs.Endings.{still_reading, RideHolds, RunHolds}
 use Rattle.uc_state_laws.specs.Opens.{RideMeets, RunMeets, LeadsMeet}
 use Rattle.uc_typing.specs.Typing.{Ty, Table}
-use Rattle.uc_life_laws.specs.Things.{Few}
+use Rattle.uc_letting_laws.specs.AloneRuns.{RunAlone}
+use Rattle.uc_life_laws.specs.Things.{Few, Base}
+use Rattle.uc_life_laws.specs.Knowing.{KnowsState}
+use Rattle.uc_life_laws.specs.Homes.{home_of}
+use Rattle.uc_life_laws.specs.Rooted.{IsPlace}
 use Rattle.uc_life_laws.specs.Lives.{Lives, LivesState}
 use Rattle.uc_life_laws.specs.KnownAnswers.{MainPasses}
 use Rattle.uc_life_laws.specs.KnownRuns.{PassesBelow, Meets, AllIsKnown}
@@ -42,7 +49,7 @@ use Rattle.uc_life_laws.proofs.Lasting.{law_lasting}
 use Rattle.uc_request_laws.specs.Lasting.{TellsMade}
 use Rattle.uc_homed_ends.specs.HomesLeft.{KnowsReads}
 use Rattle.uc_building_laws.specs.Building.{heads_of}
-use Rattle.uc_building_laws.specs.BuildingStates.{BuiltState}
+use Rattle.uc_building_laws.specs.BuildingStates.{Built, BuiltState}
 use Rattle.uc_building_laws.specs.BuiltEndings.{BuiltOutside}
 use Rattle.uc_building_laws.specs.BuiltLasting.{FindsBuilt}
 use Rattle.uc_building_laws.proofs.BuiltEndings.{built_met}
@@ -50,7 +57,14 @@ use Rattle.uc_building_laws.proofs.BuiltLasting.{law_built_lasting}
 use Rattle.uc_building_laws.proofs.Worlds.{lives}
 use Rattle.uc_lasting_programs.specs.Meeting.{RunHoldsAt}
 use Rattle.uc_lasting_programs.specs.Telling.{few_of}
-use Rattle.uc_lasting_programs.proofs.Numbers.{passes, meets}
+use Rattle.uc_making_laws.specs.ForgetsThis.{RunGoes}
+use Rattle.uc_making_laws.specs.LettingGo.{LetsState, LetsAsked}
+use Rattle.uc_making_laws.specs.Nobodys.{IsNobodys}
+use Rattle.uc_lasting_programs.proofs.Numbers.{passes, knows_all, meets}
+use Rattle.uc_lasting_programs.proofs.PlacedHomes.{homes_placed}
+use Rattle.uc_lasting_programs.proofs.Presence.{there}
+use Rattle.uc_lasting_programs.proofs.PresentRides.{IsPresent, EntersClear, Began, Once, led, rode, ended}
+use Rattle.uc_lasting_programs.proofs.PresentRuns.{PresentWorld, present_begun, present_given, present_acted, began}
 
 -- what passes the test of a run has been made
 pub tells_made : (p : Program) (input : List ℕ) (opts : Options) (j : Journal) (w : World) (r : Runs (source_of p) input opts j w) (base : Exec → Value → Ty → Bool) → TellsMade (few_of p input opts j w r base) opts j
@@ -89,6 +103,14 @@ module _ (t : Table) (few : Few) (source : Source) where
   run_outside (more r on (no_room p n s le)) h = (run_outside r h.0, tt)
   run_outside (more r on (acts p n k s asked d)) h = (run_outside r h.0, ride_outside 0 d.rides h.1)
 
+-- two things that hold along a ride, one of them by how many states are left
+module _ (Q : ℕ → State → Type 0) (C : State → Type 0) (source : Source) where
+  with_clear : {s u : State} {q k : ℕ} {a : Asked} (n : ℕ) (r : Rides source s q u k a) → RideHolds Q source n s q u k a r → RideMeets C source s q u k a r → RideHolds (λ n s. C s × Q n s) source n s q u k a r
+  with_clear n rides.slices h c = tt
+  with_clear n (rides.goes_on {s} e r) h c = ((c.0, h.0), with_clear (still_reading n s.run.control) r h.1 c.1)
+  with_clear n (rides.ticks {s} e r) h c = ((c.0, h.0), with_clear (still_reading n s.run.control) r h.1 c.1)
+  with_clear n (rides.asks {s} e) h c = (c, h)
+
 module _ (p : Program) (formed : IsFormed p) (ok : breaks_of p ≡ []) (numbers : Ty → ℕ → Bool) (home : ℕ → Value) (base : Exec → Value → Ty → Bool) where
   abbrev pub few : Few
   few = record { numbers = numbers; home = home; base = base }
@@ -108,13 +130,29 @@ module _ (p : Program) (formed : IsFormed p) (ok : breaks_of p ≡ []) (numbers 
     -- so do objects that are built
     pub built : RunMeetsAt (λ i s. FindsBuilt t (heads_of p) (lasting few i) source s) source input opts j w r
 
-  module _ (raws : RawsPass few) (main : MainPasses t few (t.routine source.main).this 0) (input : List ℕ) (opts : Options) (range : InRange opts) where
+  -- one act less
+  before : (input : List ℕ) (opts : Options) {j : Journal} {w : World} {a : List Entry} {v : World} (r : Runs source input opts j w) (on : is_over j ≡ false) (m : May source opts input j w a v) → HasMet input opts (j ++ a) v (more r on m) → HasMet input opts j w r
+  before input opts r on m so = record { all = so.all.0; lasts = so.lasts.0; lives = so.lives.0; built = so.built.0 }
+
+  -- nobody has at hand what has gone, nothing else is owed to what was let go of, and no activation is of that; and what was made is at home where the run
+  -- tells it
+  pub record Shown (input : List ℕ) (opts : Options) (j : Journal) (w : World) (r : Runs source input opts j w) : Type 0 where
+    pub forgets : RunForgets t few source input opts j w r
+    pub alone : RunAlone source input opts j w r
+    pub nobodys : RunGoes IsNobodys source input opts r
+    pub homes : (o : ℕ) → o < object_count j → home o ≡ home_of source input opts j w r o
+
+  -- a step finds what it is to find where the object at hand is not gone
+  abbrev pub BuiltHere : Journal → ℕ → State → Type 0
+  BuiltHere i n v = IsPresent few.home i v → BuiltOutside p (lasting few i) n v
+
+  module _ (raws : RawsPass few) (places : (n : Exec) (w : Value) (b : Ty) → Base few n w b → IsPlace w) (main : MainPasses t few (t.routine source.main).this 0) (input : List ℕ) (opts : Options) (range : InRange opts) where
     -- of a run in which nobody has at hand what has gone
     module _ (j : Journal) (w : World) (r : Runs source input opts j w) (f : RunFits source input opts j w r) (on : is_over j ≡ false) (below : PassesBelow few opts j) (forgets : RunForgets t few source input opts j w r) (so : HasMet input opts j w r) where
       known : AllIsKnown t (lasting few j) source j w
       known = law_lasting p formed ok few input opts range j w r f on below main so.lasts forgets
 
-      module _ (q n k : ℕ) (s : State) (asked : Asked) (d : AsksIn source opts j w q n k s asked) (h : RideHolds (BuiltOutside p (lasting few j)) source 0 (answered source d.given (drawn j w n)) (left opts j n) s k asked d.rides) where
+      module _ (q n k : ℕ) (s : State) (asked : Asked) (d : AsksIn source opts j w q n k s asked) where
         abbrev start : State
         start = answered source d.given (drawn j w n)
 
@@ -124,43 +162,39 @@ module _ (p : Program) (formed : IsFormed p) (ok : breaks_of p ≡ []) (numbers 
         built_at : (v : State) (l : Leads source start v) → LeadsMeet Finds_built source start v l → BuiltState t (heads_of p) (lasting few j) [] v
         built_at v l m = law_built_lasting p formed ok few input opts range j w r f on below main so.built forgets n v (record { given = d.given; processor = q; runs = d.runs; told = d.told; leads = l }) m
 
-        pub ride_built : RideMeets Finds_built source start (left opts j n) s k asked d.rides
-        ride_built =
-            endings.ride_met t (lasting few j) source (λ c o h. raws c o (passes t numbers home base j c o h)) Finds_built (BuiltOutside p (lasting few j)) (built_met p formed ok (lasting few j)) start (λ v l m. lives p formed ok (lasting few j) v (built_at v l m)) rooms.stays tt 0 d.rides h tt
+        -- by numbers of what is not gone, and by all
+        known_at : (v : State) (l : Leads source start v) → LeadsMeet Finds_built source start v l → KnowsState t (lasting few j) [] v × KnowsState t few [] v
+        known_at v l m =
+            let x = plain t (lasting few j) (Built t (heads_of p) (lasting few j)) [] v (built_at v l m).0 in
+            (x, knows_all t numbers home base j v x)
 
-        pub ride_lasts : RideMeets (Meets t (lasting few j)) source start (left opts j n) s k asked d.rides
-        ride_lasts =
-            ride_turned Finds_built (Meets t (lasting few j)) source start (λ v l m h. λ x. let y = h (built_at v l m) in (lives p formed ok (lasting few j) v y.0, (y.1, y.2))) rooms.stays tt d.rides ride_built
+        -- where what is entered again to be destroyed is not at hand, and the object at hand is told of
+        module _ (h : RideHolds (BuiltHere j) source 0 start (left opts j n) s k asked d.rides) (clear : RideMeets (EntersClear p few) source start (left opts j n) s k asked d.rides) (b : Began p few j start) where
+          abbrev Finds_once : State → Type 0
+          Finds_once v = Once p formed ok few places j start b Finds_built known_at v
 
-        pub ride_lives : RideMeets (LivesState t (lasting few j)) source start (left opts j n) s k asked d.rides
-        ride_lives =
-            ride_turned Finds_built (LivesState t (lasting few j)) source start (λ v l m h. lives p formed ok (lasting few j) v (built_at v l m)) rooms.stays tt d.rides ride_built
+          ride_once : RideMeets Finds_once source start (left opts j n) s k asked d.rides
+          ride_once =
+              endings.ride_met t (lasting few j) source (λ c o h. raws c o (passes t numbers home base j c o h)) Finds_once (λ m v. EntersClear p few v × BuiltHere j m v) (λ m v x e. (x.0, λ g. built_met p formed ok (lasting few j) m v (x.1 g) e)) start (λ v l m. lives p formed ok (lasting few j) v (built_at v l (led p formed ok few places j start b Finds_built known_at rooms.stays tt b.stood l m))) rooms.stays tt 0 d.rides (with_clear (BuiltHere j) (EntersClear p few) source 0 d.rides h clear) tt
 
-        pub ride_all : RideMeets (Meets t few) source start (left opts j n) s k asked d.rides
-        ride_all =
-            ride_turned (Meets t (lasting few j)) (Meets t few) source start (λ v l m h. meets t numbers home base j raws v (known.lives n v (record { given = d.given; processor = q; runs = d.runs; told = d.told; leads = l }) m) h) rooms.stays tt d.rides ride_lasts
+          pub ride_built : RideMeets Finds_built source start (left opts j n) s k asked d.rides
+          ride_built = rode p formed ok few places j start b Finds_built known_at rooms.stays tt b.stood d.rides ride_once
 
-    -- act by act, where what is left of runs shows of each that nobody has at hand what has gone
-    module _ (Left : (j : Journal) (w : World) → Runs source input opts j w → Type 0) (shorter : (j : Journal) (w : World) (a : List Entry) (v : World) (r : Runs source input opts j w) (on : is_over j ≡ false) (m : May source opts input j w a v) → Left (j ++ a) v (more r on m) → Left j w r) (forgets : (j : Journal) (w : World) (r : Runs source input opts j w) → RunFits source input opts j w r → is_over j ≡ false → PassesBelow few opts j → HasMet input opts j w r → Left j w r → RunForgets t few source input opts j w r) where
-      pub run_met : {j : Journal} {w : World} (r : Runs source input opts j w) → RunFits source input opts j w r → PassesBelow few opts j → RunHoldsAt (λ i. BuiltOutside p (lasting few i)) source input opts j w r → Left j w r → HasMet input opts j w r
-      run_met begun f below h x = record { all = tt; lasts = tt; lives = tt; built = tt }
-      run_met (more {j} {w} {a} {w' = v} r on (gives q n s le)) f below h x =
-          let so = run_met r f.0 (earlier few opts j a below) h.0 (shorter j w a v r on (gives q n s le) x) in
-          record { all = (so.all, tt); lasts = (so.lasts, tt); lives = (so.lives, tt); built = (so.built, tt) }
-      run_met (more {j} {w} {a} {w' = v} r on (no_room q n s le)) f below h x =
-          let so = run_met r f.0 (earlier few opts j a below) h.0 (shorter j w a v r on (no_room q n s le) x) in
-          record { all = (so.all, tt); lasts = (so.lasts, tt); lives = (so.lives, tt); built = (so.built, tt) }
-      run_met (more {j} {w} {a} {w' = v} r on (acts q n k s asked d)) f below h x =
-          let l = shorter j w a v r on (acts q n k s asked d) x in
-          let e = earlier few opts j a below in
-          let so = run_met r f.0 e h.0 l in
-          let g = forgets j w r f.0 on e so l in
-          record {
-            all = (so.all, ride_all j w r f.0 on e g so q n k s asked d h.1);
-            lasts = (so.lasts, ride_lasts j w r f.0 on e g so q n k s asked d h.1);
-            lives = (so.lives, ride_lives j w r f.0 on e g so q n k s asked d h.1);
-            built = (so.built, ride_built j w r f.0 on e g so q n k s asked d h.1);
-          }
+          pub ride_lasts : RideMeets (Meets t (lasting few j)) source start (left opts j n) s k asked d.rides
+          ride_lasts =
+              ride_turned Finds_built (Meets t (lasting few j)) source start (λ v l m h. λ x. let y = h (built_at v l m) in (lives p formed ok (lasting few j) v y.0, (y.1, y.2))) rooms.stays tt d.rides ride_built
+
+          pub ride_lives : RideMeets (LivesState t (lasting few j)) source start (left opts j n) s k asked d.rides
+          ride_lives =
+              ride_turned Finds_built (LivesState t (lasting few j)) source start (λ v l m h. lives p formed ok (lasting few j) v (built_at v l m)) rooms.stays tt d.rides ride_built
+
+          pub ride_all : RideMeets (Meets t few) source start (left opts j n) s k asked d.rides
+          ride_all =
+              ride_turned (Meets t (lasting few j)) (Meets t few) source start (λ v l m h. meets t numbers home base j raws v (known.lives n v (record { given = d.given; processor = q; runs = d.runs; told = d.told; leads = l }) m) h) rooms.stays tt d.rides ride_lasts
+
+        -- what goes on at the end of a ride that is met
+        ends : RideMeets (EntersClear p few) source start (left opts j n) s k asked d.rides → Began p few j start → RideMeets Finds_built source start (left opts j n) s k asked d.rides → LetsState t (there (λ o. is_gone o j)) s × LetsAsked t (there (λ o. is_gone o j)) asked.request s
+        ends clear b m = ended p formed ok few places j start b Finds_built known_at rooms.stays tt b.stood d.rides clear m
 
     -- all is known then in each state, so each step finds what it reads
 
@@ -179,3 +213,48 @@ module _ (p : Program) (formed : IsFormed p) (ok : breaks_of p ≡ []) (numbers 
     run_reads (more {j} {w} {a} r on (acts q n k s asked d)) f below h =
         let e = earlier few opts j a below in
         (run_reads r f.0 e h.0, ride_reads j w r f.0 on e h.0 q n k s asked d h.1)
+
+    -- what was made is at home at a place
+    pub homed : (j : Journal) (w : World) (r : Runs source input opts j w) → RunFits source input opts j w r → PassesBelow few opts j → HasMet input opts j w r → ((o : ℕ) → o < object_count j → home o ≡ home_of source input opts j w r o) → (o : ℕ) → o < object_count j → IsPlace (home o)
+    homed j w r f below so tells o lt = subst IsPlace (sym (tells o lt)) (homes_placed p formed ok few input opts r (run_reads r f below so.all) o)
+
+    -- act by act, where what is left of runs shows of each what `Shown` says
+    module _ (Left : (j : Journal) (w : World) → Runs source input opts j w → Type 0) (shorter : (j : Journal) (w : World) (a : List Entry) (v : World) (r : Runs source input opts j w) (on : is_over j ≡ false) (m : May source opts input j w a v) → Left (j ++ a) v (more r on m) → Left j w r) (shows : (j : Journal) (w : World) (r : Runs source input opts j w) → RunFits source input opts j w r → is_over j ≡ false → PassesBelow few opts j → HasMet input opts j w r → Left j w r → Shown input opts j w r) (clears : (j : Journal) (w : World) (r : Runs source input opts j w) (on : is_over j ≡ false) (q n k : ℕ) (s : State) (asked : Asked) (d : AsksIn source opts j w q n k s asked) → Left (j ++ act opts source.sites input j q n k asked) (world_after source (act opts source.sites input j q n k asked) w n s) (more r on (acts q n k s asked d)) → RideMeets (EntersClear p few) source (answered source d.given (drawn j w n)) (left opts j n) s k asked d.rides) where
+      -- each activation that does more than to come to its end is of an object that has not gone
+      pub run_present : {j : Journal} {w : World} (r : Runs source input opts j w) → RunFits source input opts j w r → is_over j ≡ false → PassesBelow few opts j → HasMet input opts j w r → Left j w r → PresentWorld t j w
+      run_present begun f on below so x = present_begun t source input opts
+      run_present (more {j} {w} {a} {w' = v} r o (gives q n s le)) f on below so x =
+          present_given t source input opts j w q n (run_present r f.0 o (earlier few opts j a below) (before input opts r o (gives q n s le) so) (shorter j w a v r o (gives q n s le) x))
+      run_present (more {j} {w} {a} {w' = v} r o (no_room q n s le)) f on below so x =
+          no_both (is_over (j ++ lone_limit ∷ [])) (over_limit j 0 0) on
+      run_present (more {j} {w} {a} {w' = v} r o (acts q n k s asked d)) f on below so x =
+          let e = earlier few opts j a below in
+          let so_far = before input opts r o (acts q n k s asked d) so in
+          let l = shorter j w a v r o (acts q n k s asked d) x in
+          let had = run_present r f.0 o e so_far l in
+          let g = shows j w r f.0 o e so_far l in
+          let b = began p formed ok input opts range j w r f.0 o g.alone had few (homed j w r f.0 e so_far g.homes) q n k s asked d in
+          let y = ends j w r f.0 o e g.forgets so_far q n k s asked d (clears j w r o q n k s asked d x) b so.built.1 in
+          present_acted t source input opts j w q n k s asked d on had y.0 y.1 (shows (j ++ a) v (more r o (acts q n k s asked d)) f on below so x).nobodys.1
+
+      pub run_met : {j : Journal} {w : World} (r : Runs source input opts j w) → RunFits source input opts j w r → PassesBelow few opts j → RunHoldsAt BuiltHere source input opts j w r → Left j w r → HasMet input opts j w r
+      run_met begun f below h x = record { all = tt; lasts = tt; lives = tt; built = tt }
+      run_met (more {j} {w} {a} {w' = v} r on (gives q n s le)) f below h x =
+          let so = run_met r f.0 (earlier few opts j a below) h.0 (shorter j w a v r on (gives q n s le) x) in
+          record { all = (so.all, tt); lasts = (so.lasts, tt); lives = (so.lives, tt); built = (so.built, tt) }
+      run_met (more {j} {w} {a} {w' = v} r on (no_room q n s le)) f below h x =
+          let so = run_met r f.0 (earlier few opts j a below) h.0 (shorter j w a v r on (no_room q n s le) x) in
+          record { all = (so.all, tt); lasts = (so.lasts, tt); lives = (so.lives, tt); built = (so.built, tt) }
+      run_met (more {j} {w} {a} {w' = v} r on (acts q n k s asked d)) f below h x =
+          let l = shorter j w a v r on (acts q n k s asked d) x in
+          let e = earlier few opts j a below in
+          let so = run_met r f.0 e h.0 l in
+          let g = shows j w r f.0 on e so l in
+          let c = clears j w r on q n k s asked d x in
+          let b = began p formed ok input opts range j w r f.0 on g.alone (run_present r f.0 on e so l) few (homed j w r f.0 e so g.homes) q n k s asked d in
+          record {
+            all = (so.all, ride_all j w r f.0 on e g.forgets so q n k s asked d h.1 c b);
+            lasts = (so.lasts, ride_lasts j w r f.0 on e g.forgets so q n k s asked d h.1 c b);
+            lives = (so.lives, ride_lives j w r f.0 on e g.forgets so q n k s asked d h.1 c b);
+            built = (so.built, ride_built j w r f.0 on e g.forgets so q n k s asked d h.1 c b);
+          }

@@ -17,12 +17,12 @@ use Rattle.uc_typing.specs.Typing.{Ty, Num, Cell, Obj, Raw, Name, Sig, Table, ob
 use Rattle.uc_life_laws.specs.Things.{Few, IsFew, Base, Known}
 use Rattle.uc_life_laws.specs.LifeStates.{BehindMark, OpensAtBy, Outwards}
 use Rattle.uc_life_laws.specs.Lives.{OutwardsOrMade, LivesState, FindsLiving}
-use Rattle.uc_life_laws.specs.Knowing.{AtHand, KnownAll, KnownParams, KnownFrames, KnownThis, Knows, KnowsWaits, HasObject, Here, ReadsKnown, IsStill, FindsObject, FindsExpr, Finds}
+use Rattle.uc_life_laws.specs.Knowing.{AtHand, KnowsState, KnownAll, KnownParams, KnownFrames, KnownThis, Knows, KnowsWaits, HasObject, Here, ReadsKnown, IsStill, FindsObject, FindsExpr, Finds}
 use Rattle.uc_life_laws.specs.KnownRuns.{Meets}
 use Rattle.uc_life_laws.specs.Endings.{RawsPass}
 use Rattle.uc_life_laws.specs.Fewer.{KeepsOthers, Lasts, HandLasts, ExLasts}
 use Rattle.uc_life_laws.specs.Lasting.{lasting, lasting_numbers}
-use Rattle.uc_life_laws.proofs.Fewer.{held_same, lies_same, known_fewer, lives_fewer, env_lives}
+use Rattle.uc_life_laws.proofs.Fewer.{held_same, lies_same, known_fewer, lives_fewer, env_lives, law_fewer}
 use Rattle.uc_life_laws.proofs.Knowns.{frames_length}
 use Rattle.uc_life_laws.proofs.Lasting.{each_env}
 
@@ -167,6 +167,11 @@ module _ (t : Table) (numbers : Ty → ℕ → Bool) (home : ℕ → Value) (bas
     ),
     (finds raws x.0.sigs x.0.run.sig x.0.run.scope s s.run.control x.0.run.own h.0, opens (OutwardsOrMade x.0.sigs) s s.run.control h.1),
   )
+
+  -- so all is known with the numbers of what is gone
+  pub knows_all : (s : State) → KnowsState t less [] s → KnowsState t few [] s
+  knows_all s x =
+      law_fewer.knows t less numbers keeps [] s (each_env (ExLasts t less numbers) (λ n y. ex_lasts n y) s.env) x (record { waiting = lasts _; operands = inl (lasts _) })
 
   pub meets : RawsPass few → (s : State) → LivesState t less s → Meets t less s → Meets t few s
   meets raws s x m = λ y.

@@ -1,7 +1,7 @@
--- A state in order tells of the object at hand that it has the number of one that is whole, where it is; of a cluster that is a variable the run does, and of
--- a plain object its constructor.
-use Rattle.std.proofs.Common.{◌≡◌, ℕ, zero, suc, ◌<◌, ◌⊎◌, inl, inr, ⊎_elim, Bool, true, false, List, [], ◌∷◌, Option, Some, refl, sym, ap, subst}
-use Rattle.std.specs.Prelude.{nat_lt}
+-- A state in order tells of the object at hand that it has the number of one that is whole, where it is, or is not gone; of a cluster that is a variable the
+-- run does, and of a plain object its constructor.
+use Rattle.std.proofs.Common.{◌≡◌, ℕ, zero, suc, ◌<◌, ◌⊎◌, inl, inr, ⊎_elim, Bool, true, false, List, [], ◌∷◌, Option, Some, refl, sym, ap, ◌∙◌, subst}
+use Rattle.std.specs.Prelude.{nat_lt, if◌then◌else◌}
 use Rattle.std.proofs.lemmas.Bool.{ltb-true}
 use Rattle.uc_tree.specs.Programs.{Program}
 use Rattle.uc_tree.specs.Source as src
@@ -10,6 +10,7 @@ use Rattle.uc_entry.specs.declared.entry.Options.{Options}
 use Rattle.uc_entry.specs.declared.request.Answer.{Answer}
 use Rattle.uc_entry.specs.declared.request.Asked.{Asked}
 use Rattle.uc_acts.specs.Journal.{Journal, is_over}
+use Rattle.uc_acts.specs.Known.{is_gone}
 use Rattle.uc_acts.specs.Queues.{running, cluster_count}
 use Rattle.uc_acts.specs.Answers.{answer_to}
 use Rattle.uc_acts.specs.Serves.{left}
@@ -17,9 +18,12 @@ use Rattle.uc_acts.specs.KernelRuns.{InRange}
 use Rattle.uc_machine.specs.declared.exec.Exec.{Exec}
 use Rattle.uc_machine.specs.declared.exec.Owner.TheVariants.{Frame}
 use Rattle.uc_machine.specs.Executions.{others}
+use Rattle.uc_machine.specs.Switches.{new_exec}
+use Rattle.uc_machine.specs.Monitors.{this_object}
 use Rattle.uc_machine.specs.Pieces as piece
 use Rattle.uc_machine.specs.Pieces.{Slot, FieldAt, Value, Number, Place, Running, Object, Nothing, Todo, State, Goes, at, further}
-use Rattle.uc_machine.specs.Quiet.{quiet, act_todo}
+use Rattle.uc_machine.specs.Quiet.{quiet, act_todo, home_at}
+use Rattle.uc_typing.specs.Pieces.{Ok}
 use Rattle.uc_machine.specs.Answering.{answered}
 use Rattle.uc_machine.specs.Rides as rides
 use Rattle.uc_machine.specs.Rides.{Rides}
@@ -33,7 +37,7 @@ use Rattle.uc_state_laws.specs.Limits.{IsWithinLimits}
 use Rattle.uc_state_laws.specs.RoomRuns as rooms
 use Rattle.uc_state_laws.specs.RoomRuns.{Leads, Comes}
 use Rattle.uc_state_laws.specs.Opens as there
-use Rattle.uc_state_laws.specs.Opens.{HasAddresses}
+use Rattle.uc_state_laws.specs.Opens.{HasAddresses, RideMeets, RunMeets}
 use Rattle.uc_state_laws.specs.Endings.{still_reading, RideHolds}
 use Rattle.uc_place_laws.proofs.OpenRuns.{law_opens, law_there}
 use Rattle.uc_place_laws.specs.OpeningLaws.{IsCalled}
@@ -41,24 +45,33 @@ use Rattle.uc_place_laws.proofs.OpeningRuns.{law_runs as called}
 use Rattle.uc_building_laws.specs.Building.{heads_of}
 use Rattle.uc_building_laws.specs.BuildingStates.{Built, BuiltState}
 use Rattle.uc_building_laws.specs.BuiltEndings.{BuiltOutside}
+use Rattle.uc_building_laws.specs.BuiltReads.{reads_bound}
 use Rattle.uc_building_laws.proofs.Building.{whole_built}
+use Rattle.uc_building_laws.proofs.BuiltReads.{law_built_reads}
 use Rattle.uc_building_laws.proofs.Constructors.{fair}
 use Rattle.uc_building_laws.proofs.Kept.{law_kept}
 use Rattle.uc_typing.specs.Typing.{Ty, Num, Cell, Obj, Raw, Row, Clu, Pro, Name, Sig, Table, CleansAt, object_ty}
-use Rattle.uc_life_laws.specs.Things.{Few, IsField, Holds, IsFew, Known}
+use Rattle.uc_life_laws.specs.Things.{Few, Base, itself, lies, inside, IsField, Holds, IsFew, LiesIn, Known}
+use Rattle.uc_life_laws.specs.HomedStates.{OpensAt, Opens}
 use Rattle.uc_life_laws.specs.LifeStates.{Outwards, frame_at, OpensAtBy}
 use Rattle.uc_life_laws.specs.Lives.{OutwardsOrMade}
 use Rattle.uc_life_laws.specs.Lasting.{lasting}
+use Rattle.uc_life_laws.specs.Silent.{AllSilent}
 use Rattle.uc_life_laws.specs.KnownRuns.{PassesBelow}
-use Rattle.uc_life_laws.specs.Knowing.{AtHand, KnownThis, IsStill, FindsObject, FindsExpr, Finds}
+use Rattle.uc_life_laws.specs.Knowing.{AtHand, KnownThis, HasObject, IsStill, main_of, FindsObject, FindsExpr, Finds}
 use Rattle.uc_life_laws.specs.Endings.{RawsPass}
+use Rattle.uc_life_laws.specs.Rooted.{IsPlace}
 use Rattle.uc_life_laws.proofs.Endings.{goes_on, ticks_on}
 use Rattle.uc_life_laws.proofs.KindsLemmas.{plain}
 use Rattle.uc_life_laws.proofs.KnownWorlds.{earlier}
 use Rattle.uc_life_laws.proofs.OpenedRuns.{good_counted}
+use Rattle.uc_homed_ends.specs.Elements.{no_fields}
 use Rattle.uc_lasting_programs.specs.Meeting.{RunHoldsAt}
-use Rattle.uc_lasting_programs.specs.Remaining.{IsThere, ObjectLeft, ExprLeft, FindsLeft, OpensLeftAt, LeftOutside}
+use Rattle.uc_lasting_programs.specs.Remaining.{ObjectLeft, ExprLeft, FindsLeft, IsMutexCells, OpensLeftAt, LeftOutside}
 use Rattle.uc_lasting_programs.proofs.Clusters.{is_cluster, cluster_holds}
+use Rattle.uc_lasting_programs.proofs.MutexScopes.{is_mutex_cells, mutex_holds}
+use Rattle.uc_lasting_programs.proofs.PresentRides.{IsPresent}
+use Rattle.uc_lasting_programs.proofs.Seats.{HasSeat, SeatsAt, Seats}
 
 -- what is whole may be destroyed
 raw_few : (t : Table) (few : Few) → RawsPass few → (n : Exec) (c : ℕ) (v : Value) → IsFew t few n (Obj c) v → IsFew t few n (Raw c) v
@@ -85,30 +98,50 @@ is_object (Row n a) = inr (λ i e. absurd (cc))
 is_object Clu = inr (λ i e. absurd (cc))
 is_object Pro = inr (λ i e. absurd (cc))
 
-module _ (t : Table) (few : Few) (raws : RawsPass few) (gs : List Sig) (g : Sig) (sc : List Name) (s : State) (this : KnownThis t few s.env.exec (AtHand t few s.env.exec (others gs) s.callers) g g.this s.run.this) where
-  still : IsThere t few gs g sc s → IsStill t few gs g sc s
-  still h = by g.whole refl
+-- the object at hand has the number of one that is whole, where one that is not has it
+abbrev IsThere : (t : Table) (few : Few) (s : State) → Type 0
+IsThere t few s = (c : ℕ) → IsFew t few s.env.exec (Raw c) s.run.this → IsFew t few s.env.exec (Obj c) s.run.this
+
+module _ (t : Table) (few : Few) (raws : RawsPass few) (gs : List Sig) (g : Sig) (sc : List Name) (s : State) (this : KnownThis t few s.env.exec (AtHand t few s.env.exec (others gs) s.callers) g g.this s.run.this) (there : (AllSilent s.run.control → ⊥) → IsThere t few s) where
+  still : (AllSilent s.run.control → ⊥) → IsStill t few gs g sc s
+  still busy = by g.whole refl
     where
       by : (b : Bool) → g.whole ≡ b → IsStill t few gs g sc s
-      by true w = λ c e. ((λ f. h w c e f), (λ f. raw_few t few raws s.env.exec c s.run.this f))
+      by true w = λ c e. ((λ f. there busy c f), (λ f. raw_few t few raws s.env.exec c s.run.this f))
       by false w = λ c e.
           ((λ f. whole_few t few s.env.exec (AtHand t few s.env.exec (others gs) s.callers) g g.this s.run.this w this c e), (λ f. raw_few t few raws s.env.exec c s.run.this f))
 
-  object : (o : ObjectExpr) (a : Ty) → ObjectLeft t few gs g sc s o a → FindsObject t few gs g sc s o a
-  object src.This a h = still h
-  object (src.GetOwn k i) a h = h
-  object o a h = tt
+  object : (AllSilent s.run.control → ⊥) → (o : ObjectExpr) (a : Ty) → ObjectLeft t few gs g sc s o a → FindsObject t few gs g sc s o a
+  object busy src.This a h = still busy
+  object busy (src.GetOwn k i) a h = h
+  object busy o a h = tt
 
-  expr : (e : Expr) (a : Ty) → ExprLeft t few gs g sc s e a → FindsExpr t few gs g sc s e a
-  expr (src.OfObject o) a h = object o a h
-  expr e a h = tt
+  expr : (AllSilent s.run.control → ⊥) → (e : Expr) (a : Ty) → ExprLeft t few gs g sc s e a → FindsExpr t few gs g sc s e a
+  expr busy (src.OfObject o) a h = object busy o a h
+  expr busy e a h = tt
 
-  finds : (l : List Todo) (own : List Ty) → FindsLeft t few gs g sc s l own → Finds t few gs g sc s l own
-  finds (piece.Eval e ∷ todo) own h = λ a y. expr e a (h a y)
-  finds (piece.LoadNow ∷ todo) (Cell a ∷ tys) h = h
-  finds (piece.SetUpNow r ∷ todo) own h = λ m e. (still (h m e).0, (h m e).1)
-  finds (piece.SpawnNow r ∷ todo) own h = h
-  finds l own h = tt
+  -- a new execution has its object, which stands there
+  seat_lies : (n : Exec) (c : ℕ) (v : Value) → s.run.this ≡ v → HasSeat t few.home (Base few) n c v → ((o : ℕ) → s.run.this ≡ Object o → LiesIn t few n (Base few n) (Obj c) s.run.this) → LiesIn t few n (Base few n) (Obj c) s.run.this
+  seat_lies n c (Number z) e h f = subst (LiesIn t few n (Base few n) (Obj c)) (sym e) tt
+  seat_lies n c (Place o p) e h f = subst (LiesIn t few n (Base few n) (Obj c)) (sym e) (inl (lies h itself))
+  seat_lies n c (Running x) e h f = subst (LiesIn t few n (Base few n) (Obj c)) (sym e) tt
+  seat_lies n c (Object o) e h f = f o e
+  seat_lies n c Nothing e h f = subst (LiesIn t few n (Base few n) (Obj c)) (sym e) tt
+
+  -- so has a task
+  task_has : (i : Option ℕ) (c : ℕ) → i ≡ Some c → t.mutex c ≡ true → (o : ℕ) → Base few (main_of o) (few.home o) (Cell (Obj c)) → HasObject t few i o
+  task_has i c e m o h = subst (λ x. HasObject t few x o) (sym e) (inl (inside m (lies h itself) itself))
+
+  finds : (l : List Todo) → s.run.control ≡ l → (own : List Ty) (base : List Name) → Ok t g base sc l own → SeatsAt t few.home (Base few) l s → ((r : ℕ) (todo : List Todo) → s.run.control ≡ piece.SpawnNow r ∷ todo → IsPlace (few.home (this_object s))) → FindsLeft t few gs g sc s l own → Finds t few gs g sc s l own
+  finds (piece.Eval e ∷ todo) q own base ok seats placed h = λ a y. expr (λ z. subst AllSilent q z) e a (h a y)
+  finds (piece.LoadNow ∷ todo) q (Cell a ∷ tys) base ok seats placed h = h
+  finds (piece.SetUpNow r ∷ todo) q own base ok seats placed h = λ m e.
+      (still (λ z. subst AllSilent q z), λ c f. seat_lies (new_exec (home_at s.run.this s.env) s.env) c s.run.this refl (seats c (ok.0.0 ∙ f)) (λ o i. h m e c o f i))
+  finds (piece.SpawnNow r ∷ todo) q own base ok seats placed h =
+      let at = ok.1 in
+      let e : (t.routine r).this ≡ Some at.0 = ok.0.0 ∙ at.1 in
+      task_has (t.routine r).this at.0 e at.2 (this_object s) (seats at.0 e (placed r todo q))
+  finds l q own base ok seats placed h = tt
 
 -- so each step finds all, in a run and on a ride, where clusters that were made pass
 
@@ -119,10 +152,36 @@ module _ (p : Program) (formed : IsFormed p) (ok : breaks_of p ≡ []) (within :
   abbrev t : Table
   t = table_of p
 
+  -- what constructors have bound is known where they read it
+  finds_there : (few : Few) → RawsPass few → (s : State) (x : BuiltState t (heads_of p) few [] s) → ((AllSilent s.run.control → ⊥) → IsThere t few s) → Seats t few.home (Base few) s → ((r : ℕ) (todo : List Todo) → s.run.control ≡ piece.SpawnNow r ∷ todo → IsPlace (few.home (this_object s))) → (reads_bound t (heads_of p) x.0.run.sig s ≡ false → FindsLeft t few x.0.sigs x.0.run.sig x.0.run.scope s s.run.control x.0.run.own) → Finds t few x.0.sigs x.0.run.sig x.0.run.scope s s.run.control x.0.run.own
+  finds_there few raws s x there seats placed h = by (reads_bound t (heads_of p) x.0.run.sig s) refl
+    where
+      by : (b : Bool) → reads_bound t (heads_of p) x.0.run.sig s ≡ b → Finds t few x.0.sigs x.0.run.sig x.0.run.scope s s.run.control x.0.run.own
+      by true e = law_built_reads p formed ok few s x e
+      by false e = finds t few raws x.0.sigs x.0.run.sig x.0.run.scope s x.0.run.this there s.run.control refl x.0.run.own x.0.run.base x.0.run.ok seats placed (h e)
+
   -- who runs in a journal, told its answer
-  module _ (few : Few) (raws : RawsPass few) (j : Journal) (w : World) (r : Runs source input opts j w) (f : RunFits source input opts j w r) (on : is_over j ≡ false) (clusters : (n : ℕ) → n < cluster_count j → few.numbers Clu n ≡ true) (u processor : ℕ) (given : Answer) (runs_on : running processor j ≡ u ∷ []) (told : answer_to source.sites u j ≡ Some given) where
+  module _ (few : Few) (raws : RawsPass few) (j : Journal) (wholes : (c o : ℕ) → is_gone o j ≡ false → few.numbers (Raw c) o ≡ true → few.numbers (Obj c) o ≡ true) (w : World) (r : Runs source input opts j w) (f : RunFits source input opts j w r) (on : is_over j ≡ false) (clusters : (n : ℕ) → n < cluster_count j → few.numbers Clu n ≡ true) (homes : Few) (same : (o : ℕ) → few.home o ≡ homes.home o) (u processor : ℕ) (given : Answer) (runs_on : running processor j ≡ u ∷ []) (told : answer_to source.sites u j ≡ Some given) where
     abbrev start : State
     start = answered source given (drawn j w u)
+
+    -- scopes open where mutex objects are at home, as it is told of homes
+    abbrev Opened : State → Type 0
+    Opened s = Opens t no_fields homes s
+
+    abbrev Present : State → Type 0
+    Present s = IsPresent few.home j s
+
+    -- what was made and is not gone has the number of one that is whole
+    whole : (s : State) → Present s → (AllSilent s.run.control → ⊥) → IsThere t few s
+    whole s there busy c h = by s.run.this refl h
+      where
+        by : (v : Value) → s.run.this ≡ v → IsFew t few s.env.exec (Raw c) v → IsFew t few s.env.exec (Obj c) v
+        by (Number z) e h = tt
+        by (Place o p) e h = tt
+        by (Running x) e h = tt
+        by (Object o) e h = wholes c o (there.not_gone o e busy) h
+        by Nothing e h = tt
 
     abbrev comes : (s : State) → Leads source start s → Comes source j w u s
     comes s l = record { given = given; processor = processor; runs = runs_on; told = told; leads = l }
@@ -142,38 +201,46 @@ module _ (p : Program) (formed : IsFormed p) (ok : breaks_of p ≡ []) (within :
           each m f true q = law_kept.opens t (heads_of p) few s x c rest todo e k i d m f q
           each m f false q = h.1 k i d m f q
 
-      opens : Leads source start s → (control : List Todo) → s.run.control ≡ control → OpensLeftAt t (heads_of p) few (OutwardsOrMade x.0.sigs) control s → OpensAtBy t few (OutwardsOrMade x.0.sigs) control s
-      opens l (piece.Rest (src.Scoped c rest) ∷ todo) e h =
+      -- a mutex object holds what is at home there, and so does each element of an array of such
+      mutex_opens : (c : CleanUp) (rest : Stmts) (todo : List Todo) → s.run.control ≡ piece.Rest (src.Scoped c rest) ∷ todo → Opened s → OpensLeftAt t (heads_of p) few (OutwardsOrMade x.0.sigs) (piece.Rest (src.Scoped c rest) ∷ todo) s → (k : ℕ) (a : Ty) → CleansAt t a (src.Variable k) c → IsMutexCells t a → Holds_at c todo k a
+      mutex_opens c rest todo e z h k a y m = mutex_holds t few s.env.exec (Behind c todo) (Frame s.env.exec s.run.frame) (frame_at s.run.frame s.env.frames) (Place (Frame s.env.exec s.run.frame) (Slot k ∷ [])) a m (inl (inl (inl (inl (k, y, refl))))) homes same (subst (λ control. OpensAt t no_fields homes control s) e z k a y) (h.2 k a y m)
+
+      opens : Leads source start s → Opened s → (control : List Todo) → s.run.control ≡ control → OpensLeftAt t (heads_of p) few (OutwardsOrMade x.0.sigs) control s → OpensAtBy t few (OutwardsOrMade x.0.sigs) control s
+      opens l z (piece.Rest (src.Scoped c rest) ∷ todo) e h =
           let goes : quiet source s ≡ Goes (at (piece.Rest rest ∷ (piece.Clean c ∷ todo)) s.run.operands s) = ap (λ control. act_todo source control s) e in
           let behind = law_there.comes p formed ok within input opts range j w r f on u (at (piece.Rest rest ∷ (piece.Clean c ∷ todo)) s.run.operands s) (comes (at (piece.Rest rest ∷ (piece.Clean c ∷ todo)) s.run.operands s) (goes_on (λ v. Unit {0}) source l goes)) in
           let counted = good_counted rest c todo (λ n. nat_lt n (cluster_count j)) s.run.operands s behind in
           let room : HasAddresses s = subst (λ control. there.OpensAt source control s) e (law_opens.comes p formed ok within input opts range j w r f on u s (comes s l)) in
-          λ k a y. ⊎_elim (λ q. subst (λ a. Holds_at c todo k a) (sym q) (cluster_holds t few (λ n. nat_lt n (cluster_count j)) (λ n l. clusters n (ltb-true n (cluster_count j) l)) s.env.exec (Behind c todo) (Frame s.env.exec s.run.frame) (frame_at s.run.frame s.env.frames) k room c (subst (λ a. CleansAt t a (src.Variable k) c) q y) counted.0 counted.1)) (λ other. ⊎_elim (λ q. subst (λ a. Holds_at c todo k a) (sym q.1) (object_holds c rest todo e h k q.0 (subst (λ a. CleansAt t a (src.Variable k) c) q.1 y))) (λ no_object. h.0 k a y other no_object) (is_object a)) (is_cluster a)
-      opens l control e h = tt
+          λ k a y. ⊎_elim (λ q. subst (λ a. Holds_at c todo k a) (sym q) (cluster_holds t few (λ n. nat_lt n (cluster_count j)) (λ n l. clusters n (ltb-true n (cluster_count j) l)) s.env.exec (Behind c todo) (Frame s.env.exec s.run.frame) (frame_at s.run.frame s.env.frames) k room c (subst (λ a. CleansAt t a (src.Variable k) c) q y) counted.0 counted.1)) (λ other. ⊎_elim (λ q. subst (λ a. Holds_at c todo k a) (sym q.1) (object_holds c rest todo e h k q.0 (subst (λ a. CleansAt t a (src.Variable k) c) q.1 y))) (λ no_object. ⊎_elim (λ m. mutex_opens c rest todo e z h k a y m) (λ no_mutex. h.0 k a y other no_object no_mutex) (is_mutex_cells t a)) (is_object a)) (is_cluster a)
+      opens l z control e h = tt
 
     -- what is called where the scope of an object opens next is its constructor
     calls : (s : State) → Leads source start s → IsCalled p source s
     calls s l = called.comes p formed ok input opts range j w r f on u s (comes s l)
 
-    meets : (n : ℕ) (s : State) → Leads source start s → LeftOutside t (heads_of p) few n s → BuiltOutside p few n s
-    meets zero s l h = λ x.
+    meets : (n : ℕ) (s : State) → Leads source start s → Opened s → LeftOutside t (heads_of p) few n s → Seats t few.home (Base few) s → Present s → BuiltOutside p few n s
+    meets zero s l o h seats there = λ x.
         let z = h.finds x in
-        (z.0, finds t few raws z.0.0.sigs z.0.0.run.sig z.0.0.run.scope s z.0.0.run.this s.run.control z.0.0.run.own z.1.0, opens s z.0 l s.run.control refl z.1.1, fair p formed ok few s (plain t few (Built t (heads_of p) few) [] s z.0.0) h.anew (calls s l))
-    meets (suc n) s l h = calls s l
+        (z.0, finds_there few raws s z.0 (whole s there) seats there.placed z.1.0, opens s z.0 l o s.run.control refl z.1.1, fair p formed ok few s (plain t few (Built t (heads_of p) few) [] s z.0.0) h.anew (calls s l))
+    meets (suc n) s l o h seats there = calls s l
 
-    ride_on : {s v : State} {q k : ℕ} {a : Asked} → Leads source start s → (n : ℕ) (d : Rides source s q v k a) → RideHolds (LeftOutside t (heads_of p) few) source n s q v k a d → RideHolds (BuiltOutside p few) source n s q v k a d
-    ride_on l n rides.slices h = tt
-    ride_on l n (rides.goes_on {s} e d) h = (meets n s l h.0, ride_on (goes_on (λ v. Unit {0}) source l e) (still_reading n s.run.control) d h.1)
-    ride_on l n (rides.ticks {s} e d) h = (meets n s l h.0, ride_on (ticks_on (λ v. Unit {0}) source l e) (still_reading n s.run.control) d h.1)
-    ride_on l n (rides.asks {s} e) h = meets n s l h
+    ride_on : {s v : State} {q k : ℕ} {a : Asked} → Leads source start s → (n : ℕ) (d : Rides source s q v k a) → RideMeets Opened source s q v k a d → RideHolds (LeftOutside t (heads_of p) few) source n s q v k a d → RideMeets (Seats t few.home (Base few)) source s q v k a d → RideHolds (λ n s. Present s → BuiltOutside p few n s) source n s q v k a d
+    ride_on l n rides.slices o h i = tt
+    ride_on l n (rides.goes_on {s} e d) o h i = (meets n s l o.0 h.0 i.0, ride_on (goes_on (λ v. Unit {0}) source l e) (still_reading n s.run.control) d o.1 h.1 i.1)
+    ride_on l n (rides.ticks {s} e d) o h i = (meets n s l o.0 h.0 i.0, ride_on (ticks_on (λ v. Unit {0}) source l e) (still_reading n s.run.control) d o.1 h.1 i.1)
+    ride_on l n (rides.asks {s} e) o h i = meets n s l o h i
 
-  pub ride_remains : (few : Few) → RawsPass few → (j : Journal) (w : World) (r : Runs source input opts j w) → RunFits source input opts j w r → is_over j ≡ false → ((n : ℕ) → n < cluster_count j → few.numbers Clu n ≡ true) → (q u k : ℕ) (s : State) (asked : Asked) (d : AsksIn source opts j w q u k s asked) → RideHolds (LeftOutside t (heads_of p) few) source 0 (answered source d.given (drawn j w u)) (left opts j u) s k asked d.rides → RideHolds (BuiltOutside p few) source 0 (answered source d.given (drawn j w u)) (left opts j u) s k asked d.rides
-  ride_remains few raws j w r f on clusters q u k s asked d h = ride_on few raws j w r f on clusters u q d.given d.runs d.told rooms.stays 0 d.rides h
+  pub ride_remains : (few : Few) → RawsPass few → (j : Journal) → ((c o : ℕ) → is_gone o j ≡ false → few.numbers (Raw c) o ≡ true → few.numbers (Obj c) o ≡ true) → (w : World) (r : Runs source input opts j w) → RunFits source input opts j w r → is_over j ≡ false → ((n : ℕ) → n < cluster_count j → few.numbers Clu n ≡ true) → (homes : Few) → ((o : ℕ) → few.home o ≡ homes.home o) → (q u k : ℕ) (s : State) (asked : Asked) (d : AsksIn source opts j w q u k s asked) → RideMeets (Opens t no_fields homes) source (answered source d.given (drawn j w u)) (left opts j u) s k asked d.rides → RideHolds (LeftOutside t (heads_of p) few) source 0 (answered source d.given (drawn j w u)) (left opts j u) s k asked d.rides → RideMeets (Seats t few.home (Base few)) source (answered source d.given (drawn j w u)) (left opts j u) s k asked d.rides → RideHolds (λ n s. IsPresent few.home j s → BuiltOutside p few n s) source 0 (answered source d.given (drawn j w u)) (left opts j u) s k asked d.rides
+  ride_remains few raws j wholes w r f on clusters homes same q u k s asked d o h i = ride_on few raws j wholes w r f on clusters homes same u q d.given d.runs d.told rooms.stays 0 d.rides o h i
 
-  pub run_remains : (few : Few) → ((i : Journal) → RawsPass (lasting few i)) → {j : Journal} {w : World} (r : Runs source input opts j w) → RunFits source input opts j w r → PassesBelow few opts j → RunHoldsAt (λ i. LeftOutside t (heads_of p) (lasting few i)) source input opts j w r → RunHoldsAt (λ i. BuiltOutside p (lasting few i)) source input opts j w r
-  run_remains few raws begun f below h = tt
-  run_remains few raws (more {j} {w} {a} r on (gives q n s le)) f below h = (run_remains few raws r f.0 (earlier few opts j a below) h.0, tt)
-  run_remains few raws (more {j} {w} {a} r on (no_room q n s le)) f below h = (run_remains few raws r f.0 (earlier few opts j a below) h.0, tt)
-  run_remains few raws (more {j} {w} {a} r on (acts q n k s asked d)) f below h =
+  -- what is not gone has its number still
+  pub last_whole : (few : Few) → ((c o : ℕ) → few.numbers (Raw c) o ≡ true → few.numbers (Obj c) o ≡ true) → (i : Journal) (c o : ℕ) → is_gone o i ≡ false → (lasting few i).numbers (Raw c) o ≡ true → (lasting few i).numbers (Obj c) o ≡ true
+  last_whole few whole i c o g h = subst (λ b. (if b then false else few.numbers (Obj c) o) ≡ true) (sym g) (whole c o h)
+
+  pub run_remains : (few : Few) → ((i : Journal) → RawsPass (lasting few i)) → ((c o : ℕ) → few.numbers (Raw c) o ≡ true → few.numbers (Obj c) o ≡ true) → {j : Journal} {w : World} (r : Runs source input opts j w) → RunFits source input opts j w r → PassesBelow few opts j → RunMeets (Opens t no_fields few) source input opts j w r → RunHoldsAt (λ i. LeftOutside t (heads_of p) (lasting few i)) source input opts j w r → RunMeets (Seats t few.home (Base few)) source input opts j w r → RunHoldsAt (λ i n s. IsPresent few.home i s → BuiltOutside p (lasting few i) n s) source input opts j w r
+  run_remains few raws whole begun f below o h i = tt
+  run_remains few raws whole (more {j} {w} {a} r on (gives q n s le)) f below o h i = (run_remains few raws whole r f.0 (earlier few opts j a below) o.0 h.0 i.0, tt)
+  run_remains few raws whole (more {j} {w} {a} r on (no_room q n s le)) f below o h i = (run_remains few raws whole r f.0 (earlier few opts j a below) o.0 h.0 i.0, tt)
+  run_remains few raws whole (more {j} {w} {a} r on (acts q n k s asked d)) f below o h i =
       let before = earlier few opts j a below in
-      (run_remains few raws r f.0 before h.0, ride_remains (lasting few j) (raws j) j w r f.0 on before.clusters q n k s asked d h.1)
+      (run_remains few raws whole r f.0 before o.0 h.0 i.0, ride_remains (lasting few j) (raws j) j (last_whole few whole j) w r f.0 on before.clusters few (λ z. refl) q n k s asked d o.1 h.1 i.1)

@@ -1,5 +1,5 @@
 -- Who runs is spared: what is bound is its own, and a new execution is another one, since who runs was made before, and its home is in hand.
-use Rattle.std.proofs.Common.{◌≡◌, ℕ, true, false, List, [], ◌∷◌, Option, Some, None, refl, sym, ap, subst}
+use Rattle.std.proofs.Common.{◌≡◌, ℕ, ◌≤◌, true, false, List, [], ◌∷◌, Option, Some, None, refl, sym, ap, ◌∙◌, subst, arith}
 use Rattle.std.specs.Prelude.{is_some, if◌then◌else◌, slice_get}
 use Rattle.std.proofs.lemmas.Bool.{eq-eqb}
 use Rattle.uc_tree.specs.Programs.{Program}
@@ -13,10 +13,11 @@ use Rattle.uc_acts.specs.Serves.{left}
 use Rattle.uc_machine.specs.declared.exec.Exec.{Exec}
 use Rattle.uc_machine.specs.declared.exec.Home.{Home}
 use Rattle.uc_machine.specs.declared.exec.Home.TheVariants as home
+use Rattle.uc_machine.specs.declared.exec.Owner.TheVariants.{Frame, Fields}
 use Rattle.uc_machine.specs.Executions.{members_at}
-use Rattle.uc_machine.specs.Switches.{new_exec}
+use Rattle.uc_machine.specs.Switches.{new_exec, serial_in}
 use Rattle.uc_machine.specs.Pieces as piece
-use Rattle.uc_machine.specs.Pieces.{Todo, State, Env, Members, Goes, Ticks}
+use Rattle.uc_machine.specs.Pieces.{Value, Todo, State, Env, Members, Goes, Ticks}
 use Rattle.uc_machine.specs.Quiet.{quiet, home_at}
 use Rattle.uc_machine.specs.Answering.{answered}
 use Rattle.uc_machine.specs.Rides.{Rides, slices, goes_on, ticks, asks}
@@ -33,6 +34,7 @@ use Rattle.uc_state_laws.proofs.DeepWorlds.{deep_run}
 use Rattle.uc_name_laws.specs.Below.{IsBelow}
 use Rattle.uc_name_laws.specs.NameSteps.{IsBorn, Spares}
 use Rattle.uc_life_laws.specs.Things.{Few}
+use Rattle.uc_life_laws.specs.Belonging.{Belongs, frame}
 use Rattle.uc_life_laws.proofs.NamedLemmas.{law_named_runs}
 use Rattle.uc_depth_laws.specs.Entering.{EnteredSource}
 use Rattle.uc_depth_laws.proofs.Answers.{law_steps}
@@ -49,7 +51,7 @@ use Rattle.uc_calls_laws.proofs.CallParts.{law_no_mains}
 use Rattle.uc_putting_laws.specs.PuttingLaws.{setting_of, Fair}
 use Rattle.uc_putting_laws.specs.OwnPlaces.{OwnPlacesAt, OwnPlaces}
 use Rattle.uc_putting_laws.proofs.OwnPlaces.{law_own_places}
-use Rattle.uc_running_laws.specs.OtherNames.{Other, ReadsOthers, BindsAt, BindsOthers}
+use Rattle.uc_running_laws.specs.OtherNames.{Other, OfCoroutine, MayName, ReadsOthers, BindsAt, BindsOthers}
 use Rattle.uc_running_laws.proofs.OtherRuns.{law_names_runs}
 
 -- what is at a home in hand
@@ -61,14 +63,29 @@ some_held : (o : Option Members) → is_some o ≡ true → Held o
 some_held None e = let f : false ≡ true = e in absurd (cc)
 some_held (Some m) e = (m, refl)
 
-here_held : (h : Home) (e : Env) → IsHere e.own e.hand h → Held (members_at h e)
+pub here_held : (h : Home) (e : Env) → IsHere e.own e.hand h → Held (members_at h e)
 here_held (home.Task t) e i = (e.house, ap (λ b. if b then Some e.house else None) (eq-eqb t e.own i))
 here_held (home.Object o) e i = some_held (find o e.hand) i
 
+-- one that is made at a place of the running execution's own is no main of a task: at the home of that one is made already
+not_main : (few : Few) (v : Value) (e : Env) → Belongs few e.exec v → Held (members_at e.exec.home e) → ((m : Members) → members_at e.exec.home e ≡ Some m → 1 ≤ m.serial) → OfCoroutine (new_exec (home_at v e) e)
+not_main few (piece.Place (Frame x d) p) e (frame q) m f =
+    λ o same.
+    let at : members_at x.home e ≡ Some m.0 = subst (λ (n : Exec). members_at n.home e ≡ Some m.0) (sym q) m.1 in
+    let none : serial_in (members_at x.home e) ≡ 0 = ap (λ (n : Exec). n.serial) same in
+    let zero : m.0.serial ≡ 0 = sym (ap serial_in at) ∙ none in
+    let one : 1 ≤ m.0.serial = f m.0 m.1 in
+    omega (arith, zero, one)
+not_main few (piece.Place (Fields k) p) e b m f = λ o same. let no : home.Object k ≡ home.Task o = ap (λ (n : Exec). n.home) same in cc
+not_main few (piece.Object k) e b m f = λ o same. let no : home.Object k ≡ home.Task o = ap (λ (n : Exec). n.home) same in cc
+not_main few (piece.Number z) e b m f = elim b [ ]
+not_main few (piece.Running x) e b m f = elim b [ ]
+not_main few piece.Nothing e b m f = elim b [ ]
+
 module _ (few : Few) (source : Source) (s : State) where
-  -- one that is made next is another one
+  -- one that is made next is another one; and at the home of the running execution one is made
   abbrev pub Fresh : Type 0
-  Fresh = (n : Exec) → IsBorn source s n → Other s.env.exec n
+  Fresh = ((n : Exec) → IsBorn source s n → Other s.env.exec n) × ((m : Members) → members_at s.env.exec.home s.env ≡ Some m → 1 ≤ m.serial)
 
   binds : (l : List Todo) → s.run.control ≡ l → Fresh → IsHere s.env.own s.env.hand s.env.exec.home → OwnPlacesAt few source l s → BindsAt few source l s
   binds [] e f i h = tt
@@ -79,11 +96,16 @@ module _ (few : Few) (source : Source) (s : State) where
       q : Home
       q = home_at s.run.this s.env
 
-      made : (x : Routine) → slice_get source.routines r ≡ Some x → Other s.env.exec (new_exec q s.env)
-      made x k same =
-          let m : Held (members_at s.env.exec.home s.env) = here_held s.env.exec.home s.env i in
-          let at : members_at q s.env ≡ Some m.0 = subst (λ (n : Exec). members_at n.home s.env ≡ Some m.0) (sym same) m.1 in
-          f (new_exec q s.env) (record { main = r; todo = todo; next = e; routine = x; known = k; members = m.0; in_hand = at; named = refl }) same
+      there : Held (members_at s.env.exec.home s.env)
+      there = here_held s.env.exec.home s.env i
+
+      other : (x : Routine) → slice_get source.routines r ≡ Some x → Other s.env.exec (new_exec q s.env)
+      other x k same =
+          let at : members_at q s.env ≡ Some there.0 = subst (λ (n : Exec). members_at n.home s.env ≡ Some there.0) (sym same) there.1 in
+          f.0 (new_exec q s.env) (record { main = r; todo = todo; next = e; routine = x; known = k; members = there.0; in_hand = at; named = refl }) same
+
+      made : (x : Routine) → slice_get source.routines r ≡ Some x → MayName s.env.exec (new_exec q s.env)
+      made x k = (other x k, not_main few s.run.this s.env h there f.1)
   binds (piece.ForgetNow ∷ todo) e f i h = h
   binds (p ∷ todo) e f i h = tt
 
@@ -131,9 +153,11 @@ module _ (p : Program) (formed : IsFormed p) (ok : breaks_of p ≡ []) (few : Fe
         along (own_object t j) (answered source d.given (drawn j w t)) new d.rides leads.stays (standing_start (main_part_of p) source inner entered.ends input opts range rests on deeps x.standing q t n s asked d) h
       where
         new : (u : State) → Leads source (answered source d.given (drawn j w t)) u → Fresh few source u
-        new u l m b same =
-            let c = (law_named_runs source input opts j w r range f on).comes t u (record { given = d.given; processor = q; runs = d.runs; told = d.told; leads = l }) in
-            c.new m b (subst (IsBelow c.now) (sym same) c.names.env_named.exec_below)
+        new u l =
+            let c = (law_named_runs source input opts j w r range f on).comes t u (record { given = d.given; processor = q; runs = d.runs; told = d.told; leads = l }) in (
+              (λ m b same. c.new m b (subst (IsBelow c.now) (sym same) c.names.env_named.exec_below)),
+              (λ m e. let n = (c.names.env_named.members_named u.env.exec.home m e).serial_is in let l = c.names.env_named.exec_below in omega (arith, n, l)),
+            )
 
     run_binds : {j : Journal} {w : World} (r : Runs source input opts j w) → RunFits source input opts j w r → RunAlone source input opts j w r → RunMeets (OwnPlaces few source) source input opts j w r → RunMeets (BindsOthers few source) source input opts j w r
     run_binds begun f g h = tt

@@ -1,6 +1,6 @@
 -- State by state what is let go of is nowhere in the world, and what executions have of others stands upwards where an event is raised, since no step
 -- forgets the running execution.
-use Rattle.std.proofs.Common.{◌≡◌, ℕ, ◌⊎◌, inl, inr, Bool, true, false, List, [], ◌∷◌, ◌++◌, refl, sym, ap, ◌∙◌, subst}
+use Rattle.std.proofs.Common.{◌≡◌, ℕ, ◌⊎◌, inl, inr, false, List, [], ◌∷◌, ◌++◌, refl, sym, ap, ◌∙◌, subst}
 use Rattle.std.specs.Prelude.{pos, slice_get}
 use Rattle.uc_tree.specs.Programs.{Program}
 use Rattle.uc_tree.specs.Source.{Source}
@@ -41,7 +41,6 @@ use Rattle.uc_life_laws.specs.Things.{Few, Base, Things}
 use Rattle.uc_life_laws.specs.KnownAnswers.{MainPasses}
 use Rattle.uc_life_laws.specs.KnownRuns.{PassesBelow, Meets, AllIsKnown}
 use Rattle.uc_life_laws.specs.Marks.{Puts}
-use Rattle.uc_life_laws.specs.Knowing.{main_of}
 use Rattle.uc_life_laws.specs.Belonging.{Belongs}
 use Rattle.uc_life_laws.specs.Rooted.{IsPlace, Lives}
 use Rattle.uc_life_laws.proofs.KnownWorlds.{earlier, law_known_runs}
@@ -51,7 +50,9 @@ use Rattle.uc_running_laws.specs.OtherNames.{ReadsOthers}
 use Rattle.uc_running_laws.proofs.RunningLemmas.{run_leaves}
 use Rattle.uc_putting_laws.specs.Putting.{Setting, CodeRoutine}
 use Rattle.uc_putting_laws.specs.PuttingLaws.{special_of, setting_of, Fair}
+use Rattle.uc_putting_laws.specs.LoneObjects.{LoneObject}
 use Rattle.uc_putting_laws.proofs.Puts.{law_puts}
+use Rattle.uc_putting_laws.proofs.LoneObjects.{law_lone_objects}
 use Rattle.uc_putting_laws.proofs.OwnPlaces.{law_own_places}
 use Rattle.uc_putting_laws.proofs.Routines.{law_calling}
 use Rattle.uc_putting_laws.proofs.Worlds as put
@@ -88,8 +89,9 @@ use Rattle.uc_lasting_programs.proofs.Finding.{ride_map, ride_found, law_finding
 use Rattle.uc_lasting_programs.proofs.TaskEnds.{run_ends}
 use Rattle.uc_lasting_programs.proofs.TaskMains.{begins_none}
 use Rattle.uc_lasting_programs.proofs.Sparing.{run_spares, ride_spares}
+use Rattle.uc_lasting_programs.proofs.Standings.{run_stands, ride_stands}
 
-module _ (p : Program) (formed : IsFormed p) (ok : breaks_of p ≡ []) (few : Few) (own : Exec → Value → Ty → Bool) (yet : Exec → List Active → Value → Ty → Bool) (places : (n : Exec) (w : Value) (b : Ty) → Base few n w b → IsPlace w) (zero : (n : Exec) → Belongs few n (few.home 0) → ⊥) (mine : (z : Value) (b : Ty) → Base few (main_of 0) z b → own (main_of 0) z b ≡ true) where
+module _ (p : Program) (formed : IsFormed p) (ok : breaks_of p ≡ []) (few : Few) (places : (n : Exec) (w : Value) (b : Ty) → Base few n w b → IsPlace w) (zero : (n : Exec) → Belongs few n (few.home 0) → ⊥) where
   abbrev source : Source
   source = source_of p
 
@@ -139,7 +141,7 @@ module _ (p : Program) (formed : IsFormed p) (ok : breaks_of p ≡ []) (few : Fe
     ride_told Up (asks {s} e) b f m = record { before = b.0; known = m; upwards = b.1 }
 
   abbrev Upwards : (j : Journal) (w : World) (u : ℕ) (makers : Makers) → State → Type 0
-  Upwards j w u makers v = RaisesUpwards (table_of p) few own yet makers.rank j w u v
+  Upwards j w u makers v = RaisesUpwards (table_of p) few makers.rank j w u v
 
   module _ (input : List ℕ) (opts : Options) (range : InRange opts) (first : MainPasses (table_of p) few ((table_of p).routine (source_of p).main).this 0) where
     -- no coroutine begins with the main of a task, and none is called
@@ -153,7 +155,7 @@ module _ (p : Program) (formed : IsFormed p) (ok : breaks_of p ≡ []) (few : Fe
         (run_begins j w r fits.0 o before met.0 calls.0, ride_begins d.rides (ride_known d.rides met.1 (λ v l y. let c : way.Comes (source_of p) j w u v = record { given = d.given; processor = q; runs = d.runs; told = d.told; leads = l } in record { knows = known.comes u v c y; life = known.lives u v c y })) calls.1)
 
     -- behind a run in which nobody else has at hand what is let go of
-    told : (j : Journal) (w : World) (r : Runs (source_of p) input opts j w) → RunFits (source_of p) input opts j w r → is_over j ≡ false → PassesBelow few opts j → RunMeets (Meets (table_of p) few) (source_of p) input opts j w r → RunMeets (Fair (setting_of p few)) (source_of p) input opts j w r → RunMeets (ReadsOthers few) (source_of p) input opts j w r → RunMeets (StepApart (table_of p) few (source_of p)) (source_of p) input opts j w r → (q u n : ℕ) (s : State) (asked : Asked) (d : AsksIn (source_of p) opts j w q u n s asked) → RideMeets (Meets (table_of p) few) (source_of p) (answered (source_of p) d.given (drawn j w u)) (left opts j u) s n asked d.rides → RideMeets (Fair (setting_of p few)) (source_of p) (answered (source_of p) d.given (drawn j w u)) (left opts j u) s n asked d.rides → RideMeets (ReadsOthers few) (source_of p) (answered (source_of p) d.given (drawn j w u)) (left opts j u) s n asked d.rides → (k : IsKeptTo (table_of p) few own yet (source_of p) input opts j w r q u n s asked d) → RideMeets (Told j w u (Upwards j w u (way_makers (source_of p) input opts r d))) (source_of p) (answered (source_of p) d.given (drawn j w u)) (left opts j u) s n asked d.rides
+    told : (j : Journal) (w : World) (r : Runs (source_of p) input opts j w) → RunFits (source_of p) input opts j w r → is_over j ≡ false → PassesBelow few opts j → RunMeets (Meets (table_of p) few) (source_of p) input opts j w r → RunMeets (Fair (setting_of p few)) (source_of p) input opts j w r → RunMeets (ReadsOthers few) (source_of p) input opts j w r → RunMeets (StepApart (table_of p) few (source_of p)) (source_of p) input opts j w r → (q u n : ℕ) (s : State) (asked : Asked) (d : AsksIn (source_of p) opts j w q u n s asked) → RideMeets (Meets (table_of p) few) (source_of p) (answered (source_of p) d.given (drawn j w u)) (left opts j u) s n asked d.rides → RideMeets (Fair (setting_of p few)) (source_of p) (answered (source_of p) d.given (drawn j w u)) (left opts j u) s n asked d.rides → RideMeets (ReadsOthers few) (source_of p) (answered (source_of p) d.given (drawn j w u)) (left opts j u) s n asked d.rides → (k : IsKeptTo (table_of p) few (source_of p) input opts j w r q u n s asked d) → RideMeets (Told j w u (Upwards j w u (way_makers (source_of p) input opts r d))) (source_of p) (answered (source_of p) d.given (drawn j w u)) (left opts j u) s n asked d.rides
     told j w r fits on below met fair reads apart q u n s asked d meets fairs names k =
         let lone : RunAlone (source_of p) input opts j w r = law_apart_runs.runs p formed ok few input opts range j w r fits below first met apart in
         let rests = run_rests (source_of p) input opts range r fits on in
@@ -177,10 +179,10 @@ module _ (p : Program) (formed : IsFormed p) (ok : breaks_of p ≡ []) (few : Fe
           spawned = subst (λ m. RunSpawnsLater m source input opts j w r) birth.1 birth.0.spawned;
           rides = subst (λ m. RideMeets (MakesLater source m) source (answered source d.given (drawn j w u)) (left opts j u) s n asked d.rides) birth.1 birth.0.rides;
         } in
-        let before = law_before_rides (table_of p) few own yet (source_of p) input opts j w r range fits on zero mine (run_leaves p formed ok input opts range r fits lone) (run_spares p formed ok few input opts range r fits lone fair reads) (law_finding.runs_bind p formed ok few input opts range j w r fits fair) found.calls found.finds (law_runs.runs p formed ok few input opts range j w r fits fair) (law_calls_runs.runs p formed ok few places input opts range j w r fits below first met fair).0 q u n s asked d (ride_map (put.Stands p (setting_of p few)) (BindsOwn (source_of p)) (λ v x. law_finding.binds few (source_of p) v (law_own_places.states (setting_of p few) v x.put)) d.rides stands) (ride_map (λ v. FindsAll (source_of p) v × CallsNoMain (source_of p) v) (CallsNoMain (source_of p)) (λ v x. x.1) d.rides finds) (ride_map (λ v. FindsAll (source_of p) v × CallsNoMain (source_of p) v) (FindsAll (source_of p)) (λ v x. x.0) d.rides finds) (ride_map (put.Stands p (setting_of p few)) (Puts (table_of p) few) (λ v x. law_puts (setting_of p few) v x.put) d.rides stands) (ride_calls p formed ok few places d.rides meets fairs there begins) births homes (law_kept_parts.runs (source_of p) (special_of p) births.makers homes (way_still (source_of p) input opts r d) input opts j w r (law_parts_runs.runs p formed ok homes input opts range j w r fits (λ o. refl)) births.made births.spawned (law_naming.runs (source_of p) births.makers homes input opts j w r q u n s asked d k.kept)) (run_ends p formed ok input opts range births.makers homes (way_still (source_of p) input opts r d) r fits lone (law_task_mains.runs (source_of p) input opts j w r (run_begins j w r fits on below met found.calls)) found.finds on births.made births.spawned (λ x e. ride_before (source_of p) (run_still (source_of p) input opts r) d.rides x e)) (law_kept_parts.ride (source_of p) (special_of p) births.makers homes (way_still (source_of p) input opts r d) (run_made (source_of p) input opts r) d.rides (law_parts_runs.rides p formed ok homes input opts range j w r fits (λ o. refl) on q u n s asked d) births.rides (law_naming.ride (source_of p) births.makers homes input opts j w r q u n s asked d k.keeps)) k.rooted in
+        let before = law_before_rides (table_of p) few (source_of p) input opts j w r range fits on zero (run_leaves p formed ok input opts range r fits lone) (run_spares p formed ok few input opts range r fits lone fair reads) (law_finding.runs_bind p formed ok few input opts range j w r fits fair) found.calls found.finds (law_runs.runs p formed ok few input opts range j w r fits fair) (law_calls_runs.runs p formed ok few places input opts range j w r fits below first met fair).0 q u n s asked d (ride_map (put.Stands p (setting_of p few)) (BindsOwn (source_of p)) (λ v x. law_finding.binds few (source_of p) v (law_own_places.states (setting_of p few) v x.put)) d.rides stands) (ride_map (λ v. FindsAll (source_of p) v × CallsNoMain (source_of p) v) (CallsNoMain (source_of p)) (λ v x. x.1) d.rides finds) (ride_map (λ v. FindsAll (source_of p) v × CallsNoMain (source_of p) v) (FindsAll (source_of p)) (λ v x. x.0) d.rides finds) (ride_map (put.Stands p (setting_of p few)) (Puts (table_of p) few) (λ v x. law_puts (setting_of p few) v x.put) d.rides stands) (ride_map (put.Stands p (setting_of p few)) (LoneObject (table_of p) few (source_of p)) (λ v x. law_lone_objects (setting_of p few) (law_calling p formed ok) v x.put) d.rides stands) (ride_calls p formed ok few places d.rides meets fairs there begins) births homes (law_kept_parts.runs (source_of p) (special_of p) births.makers homes (way_still (source_of p) input opts r d) input opts j w r (law_parts_runs.runs p formed ok homes input opts range j w r fits (λ o. refl)) births.made births.spawned (law_naming.runs p (setting_of p few) births.makers homes input opts j w r q u n s asked d range fits (run_stands p formed ok few input opts range r fits lone fair found.calls) births.made births.spawned k.kept)) (run_ends p formed ok input opts range births.makers homes (way_still (source_of p) input opts r d) r fits lone (law_task_mains.runs (source_of p) input opts j w r (run_begins j w r fits on below met found.calls)) found.finds on births.made births.spawned (λ x e. ride_before (source_of p) (run_still (source_of p) input opts r) d.rides x e)) (law_kept_parts.ride (source_of p) (special_of p) births.makers homes (way_still (source_of p) input opts r d) (run_made (source_of p) input opts r) d.rides (law_parts_runs.rides p formed ok homes input opts range j w r fits (λ o. refl) on q u n s asked d) births.rides (law_naming.ride p (setting_of p few) births.makers homes input opts j w r q u n s asked d range fits on (ride_stands p formed ok few input opts range r fits lone fair found.calls on q u n s asked d fairs (ride_map (λ v. FindsAll (source_of p) v × CallsNoMain (source_of p) v) (CallsNoMain (source_of p)) (λ v x. x.1) d.rides finds)) births.made births.spawned births.rides k.kept k.keeps)) k.rooted in
         ride_told j w u (Upwards j w u (way_makers (source_of p) input opts r d)) d.rides before (ride_spares p formed ok few input opts range r fits lone fair reads on q u n s asked d fairs names) (ride_known d.rides meets there)
 
-    along : (j : Journal) (w : World) (r : Runs (source_of p) input opts j w) → RunFits (source_of p) input opts j w r → is_over j ≡ false → PassesBelow few opts j → RunMeets (Meets (table_of p) few) (source_of p) input opts j w r → RunMeets (Fair (setting_of p few)) (source_of p) input opts j w r → RunMeets (ReadsOthers few) (source_of p) input opts j w r → RunMeets (StepApart (table_of p) few (source_of p)) (source_of p) input opts j w r → (q u n : ℕ) (s : State) (asked : Asked) (d : AsksIn (source_of p) opts j w q u n s asked) → RideMeets (Meets (table_of p) few) (source_of p) (answered (source_of p) d.given (drawn j w u)) (left opts j u) s n asked d.rides → RideMeets (Fair (setting_of p few)) (source_of p) (answered (source_of p) d.given (drawn j w u)) (left opts j u) s n asked d.rides → RideMeets (ReadsOthers few) (source_of p) (answered (source_of p) d.given (drawn j w u)) (left opts j u) s n asked d.rides → (k : IsKeptTo (table_of p) few own yet (source_of p) input opts j w r q u n s asked d) → RideMeets (StepApart (table_of p) few (source_of p)) (source_of p) (answered (source_of p) d.given (drawn j w u)) (left opts j u) s n asked d.rides × RideMeets (Upwards j w u (way_makers (source_of p) input opts r d)) (source_of p) (answered (source_of p) d.given (drawn j w u)) (left opts j u) s n asked d.rides
+    along : (j : Journal) (w : World) (r : Runs (source_of p) input opts j w) → RunFits (source_of p) input opts j w r → is_over j ≡ false → PassesBelow few opts j → RunMeets (Meets (table_of p) few) (source_of p) input opts j w r → RunMeets (Fair (setting_of p few)) (source_of p) input opts j w r → RunMeets (ReadsOthers few) (source_of p) input opts j w r → RunMeets (StepApart (table_of p) few (source_of p)) (source_of p) input opts j w r → (q u n : ℕ) (s : State) (asked : Asked) (d : AsksIn (source_of p) opts j w q u n s asked) → RideMeets (Meets (table_of p) few) (source_of p) (answered (source_of p) d.given (drawn j w u)) (left opts j u) s n asked d.rides → RideMeets (Fair (setting_of p few)) (source_of p) (answered (source_of p) d.given (drawn j w u)) (left opts j u) s n asked d.rides → RideMeets (ReadsOthers few) (source_of p) (answered (source_of p) d.given (drawn j w u)) (left opts j u) s n asked d.rides → (k : IsKeptTo (table_of p) few (source_of p) input opts j w r q u n s asked d) → RideMeets (StepApart (table_of p) few (source_of p)) (source_of p) (answered (source_of p) d.given (drawn j w u)) (left opts j u) s n asked d.rides × RideMeets (Upwards j w u (way_makers (source_of p) input opts r d)) (source_of p) (answered (source_of p) d.given (drawn j w u)) (left opts j u) s n asked d.rides
     along j w r fits on below met fair reads apart q u n s asked d meets fairs names k =
         let all = told j w r fits on below met fair reads apart q u n s asked d meets fairs names k in (
           ride_map (Told j w u (Upwards j w u (way_makers (source_of p) input opts r d))) (StepApart (table_of p) few (source_of p)) (step j w u (Upwards j w u (way_makers (source_of p) input opts r d))) d.rides all,
@@ -208,7 +210,7 @@ module _ (p : Program) (formed : IsFormed p) (ok : breaks_of p ≡ []) (few : Fe
       left_nowhere : (v : State) (o : ℕ) (e : asked.request ≡ ask.Gone o) → TellsAll v → LetsGoAt o v s → IsLeftNowhere (table_of p) few j (act opts (source_of p).sites input j q u n asked) (world_after (source_of p) (act opts (source_of p).sites input j q u n asked) w u s) u o
       left_nowhere v o e h lets =
           let before = nowhere v o lets.todo lets.lets_go h in
-          let there : (m : Exec) (cs : List Active) → Lives j (world_at w u v) m cs → IsNoHome (table_of p) few o (Things (table_of p) few m cs) = subst (λ (o : ℕ). (m : Exec) (cs : List Active) → Lives j (world_at w u v) m cs → IsNoHome (table_of p) few o (Things (table_of p) few m cs)) (sym lets.object) (λ m cs i. law_nowhere.lives (table_of p) few j (world_at w u v) before.own before.yet before.rank (this_object v) before.nowhere m cs i) in
+          let there : (m : Exec) (cs : List Active) → Lives j (world_at w u v) m cs → IsNoHome (table_of p) few o (Things (table_of p) few m cs) = subst (λ (o : ℕ). (m : Exec) (cs : List Active) → Lives j (world_at w u v) m cs → IsNoHome (table_of p) few o (Things (table_of p) few m cs)) (sym lets.object) (λ m cs i. law_nowhere.lives (table_of p) few j (world_at w u v) before.rank (this_object v) before.nowhere m cs i) in
           record { nowhere = behind (table_of p) few (source_of p) j w u v s (act opts (source_of p).sites input j q u n asked) o lets alive (no_spawn o e) there }
 
     -- what is told of the state in which the last is asked
@@ -218,7 +220,7 @@ module _ (p : Program) (formed : IsFormed p) (ok : breaks_of p ≡ []) (few : Fe
     last_at P (ticks e r) h = last_at P r h.1
     last_at P (asks {s} e) h = inr (s, h, e)
 
-    goes_by : (j : Journal) (w : World) (r : Runs (source_of p) input opts j w) → RunFits (source_of p) input opts j w r → is_over j ≡ false → PassesBelow few opts j → RunMeets (Meets (table_of p) few) (source_of p) input opts j w r → RunMeets (Fair (setting_of p few)) (source_of p) input opts j w r → RunMeets (ReadsOthers few) (source_of p) input opts j w r → RunMeets (StepApart (table_of p) few (source_of p)) (source_of p) input opts j w r → (q u n : ℕ) (s : State) (asked : Asked) (d : AsksIn (source_of p) opts j w q u n s asked) → RideMeets (Meets (table_of p) few) (source_of p) (answered (source_of p) d.given (drawn j w u)) (left opts j u) s n asked d.rides → RideMeets (Fair (setting_of p few)) (source_of p) (answered (source_of p) d.given (drawn j w u)) (left opts j u) s n asked d.rides → RideMeets (ReadsOthers few) (source_of p) (answered (source_of p) d.given (drawn j w u)) (left opts j u) s n asked d.rides → IsKeptTo (table_of p) few own yet (source_of p) input opts j w r q u n s asked d → is_over (j ++ act opts (source_of p).sites input j q u n asked) ≡ false → (x : Request) → asked.request ≡ x → GoesBy (IsLeftNowhere (table_of p) few) j (act opts (source_of p).sites input j q u n asked) (world_after (source_of p) (act opts (source_of p).sites input j q u n asked) w u s) u x
+    goes_by : (j : Journal) (w : World) (r : Runs (source_of p) input opts j w) → RunFits (source_of p) input opts j w r → is_over j ≡ false → PassesBelow few opts j → RunMeets (Meets (table_of p) few) (source_of p) input opts j w r → RunMeets (Fair (setting_of p few)) (source_of p) input opts j w r → RunMeets (ReadsOthers few) (source_of p) input opts j w r → RunMeets (StepApart (table_of p) few (source_of p)) (source_of p) input opts j w r → (q u n : ℕ) (s : State) (asked : Asked) (d : AsksIn (source_of p) opts j w q u n s asked) → RideMeets (Meets (table_of p) few) (source_of p) (answered (source_of p) d.given (drawn j w u)) (left opts j u) s n asked d.rides → RideMeets (Fair (setting_of p few)) (source_of p) (answered (source_of p) d.given (drawn j w u)) (left opts j u) s n asked d.rides → RideMeets (ReadsOthers few) (source_of p) (answered (source_of p) d.given (drawn j w u)) (left opts j u) s n asked d.rides → IsKeptTo (table_of p) few (source_of p) input opts j w r q u n s asked d → is_over (j ++ act opts (source_of p).sites input j q u n asked) ≡ false → (x : Request) → asked.request ≡ x → GoesBy (IsLeftNowhere (table_of p) few) j (act opts (source_of p).sites input j q u n asked) (world_after (source_of p) (act opts (source_of p).sites input j q u n asked) w u s) u x
     goes_by j w r fits on below met fair reads apart q u n s asked d meets fairs names k going (ask.Gone o) e =
         by (last_at (TellsAll j w r fits on q u n s asked d going (Upwards j w u (way_makers (source_of p) input opts r d))) d.rides (told j w r fits on below met fair reads apart q u n s asked d meets fairs names k))
       where
@@ -229,7 +231,7 @@ module _ (p : Program) (formed : IsFormed p) (ok : breaks_of p ≡ []) (few : Fe
             left_nowhere j w r fits on q u n s asked d going (Upwards j w u (way_makers (source_of p) input opts r d)) v o e h lets
     goes_by j w r fits on below met fair reads apart q u n s asked d meets fairs names k going x e = tt
 
-    run_apart : (j : Journal) (w : World) (r : Runs (source_of p) input opts j w) → RunFits (source_of p) input opts j w r → is_over j ≡ false → PassesBelow few opts j → RunMeets (Meets (table_of p) few) (source_of p) input opts j w r → RunMeets (Fair (setting_of p few)) (source_of p) input opts j w r → RunMeets (ReadsOthers few) (source_of p) input opts j w r → RunKeepsTo (table_of p) few own yet (source_of p) input opts r → RunMeets (StepApart (table_of p) few (source_of p)) (source_of p) input opts j w r × RunGoes (IsLeftNowhere (table_of p) few) (source_of p) input opts r
+    run_apart : (j : Journal) (w : World) (r : Runs (source_of p) input opts j w) → RunFits (source_of p) input opts j w r → is_over j ≡ false → PassesBelow few opts j → RunMeets (Meets (table_of p) few) (source_of p) input opts j w r → RunMeets (Fair (setting_of p few)) (source_of p) input opts j w r → RunMeets (ReadsOthers few) (source_of p) input opts j w r → RunKeepsTo (table_of p) few (source_of p) input opts r → RunMeets (StepApart (table_of p) few (source_of p)) (source_of p) input opts j w r × RunGoes (IsLeftNowhere (table_of p) few) (source_of p) input opts r
     run_apart _ _ begun fits on below met fair reads k = (tt, tt)
     run_apart _ _ (more {j} {w} {a} r o (gives q u s le)) fits on below met fair reads k =
         let h = run_apart j w r fits.0 o (earlier few opts j a below) met.0 fair.0 reads.0 k.0 in ((h.0, tt), (h.1, tt))
@@ -244,8 +246,8 @@ module _ (p : Program) (formed : IsFormed p) (ok : breaks_of p ≡ []) (few : Fe
 
 pub law_ways : LawWays
 law_ways = record {
-  runs = λ p formed ok few own yet places zero mine input opts range j w r fits on below first met fair reads k.
-      run_apart p formed ok few own yet places zero mine input opts range first j w r fits on below met fair reads k;
-  rides = λ p formed ok few own yet places zero mine input opts range j w r fits on below first met fair reads k q u n s asked d meets fairs names h.
-      along p formed ok few own yet places zero mine input opts range first j w r fits on below met fair reads (run_apart p formed ok few own yet places zero mine input opts range first j w r fits on below met fair reads k).0 q u n s asked d meets fairs names h;
+  runs = λ p formed ok few places zero input opts range j w r fits on below first met fair reads k.
+      run_apart p formed ok few places zero input opts range first j w r fits on below met fair reads k;
+  rides = λ p formed ok few places zero input opts range j w r fits on below first met fair reads k q u n s asked d meets fairs names h.
+      along p formed ok few places zero input opts range first j w r fits on below met fair reads (run_apart p formed ok few places zero input opts range first j w r fits on below met fair reads k).0 q u n s asked d meets fairs names h;
 }

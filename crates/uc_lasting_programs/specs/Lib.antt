@@ -4,6 +4,8 @@ pub mod CallsRuns
 pub mod Forgetting
 pub mod Ways
 pub mod Telling
+pub mod Seats
 pub mod Meeting
 pub mod Remaining
+pub mod NumberReads
 pub mod LastingPrograms

@@ -1,5 +1,5 @@
 -- Runs of programs in which nobody else has at hand what is let go of, since it is nowhere in the world on the way to that.
-use Rattle.std.specs.Prelude.{◌≡◌, ℕ, Bool, false, List, [], true}
+use Rattle.std.specs.Prelude.{◌≡◌, ℕ, false, List, []}
 use Rattle.uc_tree.specs.Programs.{Program}
 use Rattle.uc_tree.specs.Source.{Source}
 use Rattle.uc_entry.specs.declared.entry.Entry.{Entry}
@@ -9,7 +9,7 @@ use Rattle.uc_acts.specs.Journal.{Journal, is_over}
 use Rattle.uc_acts.specs.Serves.{left}
 use Rattle.uc_acts.specs.KernelRuns.{InRange}
 use Rattle.uc_machine.specs.declared.exec.Exec.{Exec}
-use Rattle.uc_machine.specs.Pieces.{Value, Active, State}
+use Rattle.uc_machine.specs.Pieces.{Value, State}
 use Rattle.uc_machine.specs.Answering.{answered}
 use Rattle.uc_meaning.specs.Runs.{World, May, Runs, AsksIn, drawn, gives, no_room, acts, begun, more}
 use Rattle.uc_state_laws.specs.Fitting.{RunFits}
@@ -23,7 +23,6 @@ use Rattle.uc_life_laws.specs.Homes.{home_of}
 use Rattle.uc_life_laws.specs.Things.{Few, Base}
 use Rattle.uc_life_laws.specs.KnownAnswers.{MainPasses}
 use Rattle.uc_life_laws.specs.KnownRuns.{PassesBelow, Meets}
-use Rattle.uc_life_laws.specs.Knowing.{main_of}
 use Rattle.uc_life_laws.specs.Belonging.{Belongs}
 use Rattle.uc_life_laws.specs.Rooted.{IsPlace}
 use Rattle.uc_running_laws.specs.OtherNames.{ReadsOthers}
@@ -36,14 +35,15 @@ use Rattle.uc_making_laws.specs.Upheld.{way_makers}
 use Rattle.uc_making_laws.specs.BeforeRides.{RootedOnWay, RaisesUpwards}
 use Rattle.uc_making_laws.specs.ForgetsThis.{RunGoes, IsLeftNowhere}
 
-module _ (t : Table) (few : Few) (own : Exec → Value → Ty → Bool) (yet : Exec → List Active → Value → Ty → Bool) (source : Source) (input : List ℕ) (opts : Options) where
+module _ (t : Table) (few : Few) (source : Source) (input : List ℕ) (opts : Options) where
   -- what no law gives of the way to what task u asks next, behind a run, by those whom both tell to have made others, and the homes of mutex objects that
   -- the run tells: of the executions that are still there at the end of that way what was to be cleaned up as they were made stays, as far as no law gives
-  -- it, where coroutines that are forgotten name their executions, and what those that live have of others was among it, where an object goes or is given up, or an event is raised at one
+  -- it, where coroutines name their executions as these are made; and what those that live have of others, in which an object is at home that goes or is given up, or at which an event is
+  -- raised, was among it
   pub record IsKeptTo (j : Journal) (w : World) (r : Runs source input opts j w) (p u n : ℕ) (s : State) (q : Asked) (d : AsksIn source opts j w p u n s q) : Type 0 where
     pub kept : RunNamesOwn (with_homes (home_of source input opts j w r) (way_makers source input opts r d)) (way_still source input opts r d) source input opts r
     pub keeps : RideNamesOwn (with_homes (home_of source input opts j w r) (way_makers source input opts r d)) (way_still source input opts r d) source (run_made source input opts r) d.rides
-    pub rooted : RideMeets (λ v. RootedOnWay t few own yet (with_homes (home_of source input opts j w r) (way_makers source input opts r d)) j w u v source) source (answered source d.given (drawn j w u)) (left opts j u) s n q d.rides
+    pub rooted : RideMeets (λ v. RootedOnWay t few (with_homes (home_of source input opts j w r) (way_makers source input opts r d)) j w u v source) source (answered source d.given (drawn j w u)) (left opts j u) s n q d.rides
 
   abbrev pub MayKeepTo : {j : Journal} {w : World} {a : List Entry} {x : World} → Runs source input opts j w → May source opts input j w a x → Type 0
   MayKeepTo r (gives p u s h) = Unit {0}
@@ -56,14 +56,12 @@ module _ (t : Table) (few : Few) (own : Exec → Value → Ty → Bool) (yet : E
   RunKeepsTo (more r o m) = RunKeepsTo r × MayKeepTo r m
 
 -- then at each step nobody else has at hand what is let go of, in each run in which all that was asked so far fits, where executions have places alone of
--- others, object 0 is at home in nobody's own, the main of task 0 has its own object alone of others and steps find what they are to find; behind each act by
+-- others, object 0 is at home in nobody's own and steps find what they are to find; behind each act by
 -- which an object goes nobody has at hand that in which it was at home; and so it is on the way to what is asked next, on which what executions have of others
 -- stands upwards where an event is raised
 pub record LawWays : Type 0 where
-  pub runs : (p : Program) → IsFormed p → breaks_of p ≡ [] → (few : Few) (own : Exec → Value → Ty → Bool)
-      (yet : Exec → List Active → Value → Ty → Bool) → ((n : Exec) (w : Value) (b : Ty) → Base few n w b → IsPlace w) →
+  pub runs : (p : Program) → IsFormed p → breaks_of p ≡ [] → (few : Few) → ((n : Exec) (w : Value) (b : Ty) → Base few n w b → IsPlace w) →
       ((n : Exec) → Belongs few n (few.home 0) → ⊥) →
-      ((z : Value) (b : Ty) → Base few (main_of 0) z b → own (main_of 0) z b ≡ true) →
       (input : List ℕ) (opts : Options) → InRange opts →
       (j : Journal) (w : World) (r : Runs (source_of p) input opts j w) →
       RunFits (source_of p) input opts j w r → is_over j ≡ false → PassesBelow few opts j →
@@ -71,13 +69,11 @@ pub record LawWays : Type 0 where
       RunMeets (Meets (table_of p) few) (source_of p) input opts j w r →
       RunMeets (Fair (setting_of p few)) (source_of p) input opts j w r →
       RunMeets (ReadsOthers few) (source_of p) input opts j w r →
-      RunKeepsTo (table_of p) few own yet (source_of p) input opts r →
+      RunKeepsTo (table_of p) few (source_of p) input opts r →
       RunMeets (StepApart (table_of p) few (source_of p)) (source_of p) input opts j w r ×
       RunGoes (IsLeftNowhere (table_of p) few) (source_of p) input opts r
-  pub rides : (p : Program) → IsFormed p → breaks_of p ≡ [] → (few : Few) (own : Exec → Value → Ty → Bool)
-      (yet : Exec → List Active → Value → Ty → Bool) → ((n : Exec) (w : Value) (b : Ty) → Base few n w b → IsPlace w) →
+  pub rides : (p : Program) → IsFormed p → breaks_of p ≡ [] → (few : Few) → ((n : Exec) (w : Value) (b : Ty) → Base few n w b → IsPlace w) →
       ((n : Exec) → Belongs few n (few.home 0) → ⊥) →
-      ((z : Value) (b : Ty) → Base few (main_of 0) z b → own (main_of 0) z b ≡ true) →
       (input : List ℕ) (opts : Options) → InRange opts →
       (j : Journal) (w : World) (r : Runs (source_of p) input opts j w) →
       RunFits (source_of p) input opts j w r → is_over j ≡ false → PassesBelow few opts j →
@@ -85,11 +81,11 @@ pub record LawWays : Type 0 where
       RunMeets (Meets (table_of p) few) (source_of p) input opts j w r →
       RunMeets (Fair (setting_of p few)) (source_of p) input opts j w r →
       RunMeets (ReadsOthers few) (source_of p) input opts j w r →
-      RunKeepsTo (table_of p) few own yet (source_of p) input opts r →
+      RunKeepsTo (table_of p) few (source_of p) input opts r →
       (q t n : ℕ) (s : State) (asked : Asked) (d : AsksIn (source_of p) opts j w q t n s asked) →
       RideMeets (Meets (table_of p) few) (source_of p) (answered (source_of p) d.given (drawn j w t)) (left opts j t) s n asked d.rides →
       RideMeets (Fair (setting_of p few)) (source_of p) (answered (source_of p) d.given (drawn j w t)) (left opts j t) s n asked d.rides →
       RideMeets (ReadsOthers few) (source_of p) (answered (source_of p) d.given (drawn j w t)) (left opts j t) s n asked d.rides →
-      (k : IsKeptTo (table_of p) few own yet (source_of p) input opts j w r q t n s asked d) →
+      (k : IsKeptTo (table_of p) few (source_of p) input opts j w r q t n s asked d) →
       RideMeets (StepApart (table_of p) few (source_of p)) (source_of p) (answered (source_of p) d.given (drawn j w t)) (left opts j t) s n asked d.rides ×
-      RideMeets (RaisesUpwards (table_of p) few own yet (way_makers (source_of p) input opts r d).rank j w t) (source_of p) (answered (source_of p) d.given (drawn j w t)) (left opts j t) s n asked d.rides
+      RideMeets (RaisesUpwards (table_of p) few (way_makers (source_of p) input opts r d).rank j w t) (source_of p) (answered (source_of p) d.given (drawn j w t)) (left opts j t) s n asked d.rides

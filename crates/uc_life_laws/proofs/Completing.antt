@@ -13,7 +13,7 @@ use Rattle.uc_machine.specs.Insides as inside
 use Rattle.uc_life_laws.proofs.Cells.{either}
 use Rattle.uc_life_laws.proofs.Outermost.{more_placed, elements_ends, outermost_ends}
 use Rattle.uc_life_laws.specs.Destroying.{Seat}
-use Rattle.uc_life_laws.specs.Held.{Onwards, SoonIn, Soon}
+use Rattle.uc_life_laws.specs.Held.{Opens, WaitsBy, Onwards, SoonIn, Soon}
 use Rattle.uc_life_laws.specs.Completing.{AreParts, Next, TakesOver, AreTaken, IsSetUp, LawCompleting}
 
 module _ (source : Source) (w : Seat) (ps : List Placed) (n : Exec) where
@@ -38,15 +38,23 @@ module _ (source : Source) (w : Seat) (ps : List Placed) (n : Exec) where
   -- with any operands, one of which is dropped
   record Taken (b : Active) (older : List Active) (l : List Todo) : Type 0 where
     many : ℕ
+    waits : WaitsBy source w ps n b.frame b.this b.elements l
     ends : Ends ps (placed b.frame b.this l (stacked older))
     soon : (vs : List Value) → SoonIn source w ps n many (record b { control = l; operands = vs }) older
+
+  -- the scope opens next, or it becomes a part
+  opens_next : (b : Active) (older : List Active) (todo : List Todo) (ss : Stmts) → Next source w ps n b older todo ss → Opens source w ps n b.frame b.this ss
+  opens_next b older todo (src.Scoped c rest) h = h.0
+  opens_next b older todo (src.Built c rest) h = h.0
+  opens_next b older todo ss h = absurd h
 
   taken : (b : Active) (older : List Active) (l : List Todo) → TakesOver source w ps n b older l → Taken b older l
   taken b older (piece.DropNow ∷ (piece.Within line ∷ (piece.Rest ss ∷ todo))) h =
       let o = next_ends b older todo ss h in
-      record { many = 3; ends = o; soon = λ vs. (tt, o, λ e q. (q, (tt, o, λ e q. (q, next b older todo ss (piece.below vs) h)))) }
+      record { many = 3; waits = opens_next b older todo ss h; ends = o; soon = λ vs. (tt, o, λ e q. (q, (tt, o, λ e q. (q, next b older todo ss (piece.below vs) h)))) }
   taken b older (piece.DropNow ∷ (piece.MoreNow ∷ (piece.FillNow m e d ∷ todo))) h = record {
     many = 2;
+    waits = h.1;
     ends = elements b older todo h.2;
     soon = λ vs. (tt, elements b older todo h.2, λ v q. (q, (tt, elements b older todo h.2, λ v q. (q, inl ((b.elements, one_more b.elements h.0, h.1), h.2)))));
   }
@@ -63,7 +71,7 @@ module _ (source : Source) (w : Seat) (ps : List Placed) (n : Exec) where
 
     -- the activation ends
     ending : SoonIn source w ps n (suc h.many) (record a { control = [] }) (b ∷ older)
-    ending = (tt, h.ends, λ e q. (q, h.soon (piece.nought ∷ b.operands)))
+    ending = (h.waits, h.ends, λ e q. (q, h.soon (piece.nought ∷ b.operands)))
 
     -- a mutex object has been built, and its task begins
     built : SoonIn source w ps n (suc (suc h.many)) (record a { control = piece.MadeNow ∷ [] }) (b ∷ older)

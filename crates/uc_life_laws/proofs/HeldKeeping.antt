@@ -12,11 +12,12 @@ use Rattle.uc_machine.specs.declared.exec.Stage.TheVariants.{Fresh, Started, End
 use Rattle.uc_machine.specs.Executions.{Links, exec_eq, joined, members_at, change, change_in, parked_at, frames_by, frames_changed, frame_changed, value_changed, with_owned, with_frames}
 use Rattle.uc_machine.specs.Switches as sw
 use Rattle.uc_machine.specs.Switches.{Moved, To, Stops}
-use Rattle.uc_machine.specs.Pieces.{Value, Number, Place, Running, Object, Nothing, Todo, State, Env, Members, address, stored, nought, written}
+use Rattle.uc_machine.specs.Pieces.{Value, Number, Place, Running, Object, Nothing, Todo, Active, State, Env, Members, address, stored, nought, written}
 use Rattle.uc_life_laws.specs.LifeStates.{SlotBy, ParkedBy, MembersBy, EnvBy}
 use Rattle.uc_tree.specs.Source.{Source}
-use Rattle.uc_life_laws.specs.Held.{Seating, AllHeld, HeldEx}
+use Rattle.uc_life_laws.specs.Held.{Seating, AllHeld, AllNamed, HeldEx}
 use Rattle.uc_life_laws.proofs.Cells.{either}
+use Rattle.uc_life_laws.proofs.FirstCells.{named_map, in_written}
 use Rattle.uc_life_laws.proofs.Parked as parked
 use Rattle.uc_life_laws.proofs.Parked.{Ex, at_home}
 
@@ -24,45 +25,59 @@ module _ (source : Source) (seats : Seating) (up : Exec → Bool) where
   -- all that the running execution has made, and each that does not run
   pub record FullState (s : State) : Type 0 where
     pub stack : AllHeld source seats up s.env.exec (s.run ∷ s.callers)
+    pub named : AllNamed source seats up s.env.exec s.callers s.env.frames
     pub env : EnvBy (HeldEx source seats up) s.env
 
   pub like : {e f : Env} → EnvBy (HeldEx source seats up) e → f.hand ≡ e.hand → f.house ≡ e.house → f.own ≡ e.own → EnvBy (HeldEx source seats up) f
   like s h g o = parked.like (HeldEx source seats up) s h g o
 
-  -- a task changes, but who runs stays, and so do all executions that do not run
+  -- a task changes, but who runs stays, what its frames name is named, and all executions that do not run stay
   pub record Keeps (e f : Env) : Type 0 where
     pub exec : f.exec ≡ e.exec
+    pub named : (n : Exec) (cs : List Active) → AllNamed source seats up n cs e.frames → AllNamed source seats up n cs f.frames
     pub env : EnvBy (HeldEx source seats up) f
 
   pub keeps_both : {e f g : Env} → Keeps e f → Keeps f g → Keeps e g
-  keeps_both {e} {f} {g} h k = record { exec = k.exec ∙ h.exec; env = k.env }
+  keeps_both {e} {f} {g} h k = record { exec = k.exec ∙ h.exec; named = λ n cs a. k.named n cs (h.named n cs a); env = k.env }
 
-  pub keeps_like : {e f : Env} → EnvBy (HeldEx source seats up) e → f.exec ≡ e.exec → f.hand ≡ e.hand → f.house ≡ e.house → f.own ≡ e.own → Keeps e f
-  keeps_like s x h g o = record { exec = x; env = like s h g o }
+  pub keeps_like : {e f : Env} → EnvBy (HeldEx source seats up) e → f.exec ≡ e.exec → f.frames ≡ e.frames → f.hand ≡ e.hand → f.house ≡ e.house → f.own ≡ e.own → Keeps e f
+  keeps_like s x r h g o = record { exec = x; named = λ n cs a. subst (AllNamed source seats up n cs) (sym r) a; env = like s h g o }
 
   keeps_change : (h : Home) (f : Members → Members) (e : Env) → parked.KeepsParked (HeldEx source seats up) h f → EnvBy (HeldEx source seats up) e → Keeps e (change h f e)
-  keeps_change h f e k s = record { exec = parked.change_exec h f e; env = parked.change_rests (HeldEx source seats up) h f e k s }
+  keeps_change h f e k s = record {
+    exec = parked.change_exec h f e;
+    named = λ n cs a. subst (AllNamed source seats up n cs) (sym (parked.change_frames h f e)) a;
+    env = parked.change_rests (HeldEx source seats up) h f e k s;
+  }
 
   -- writes
 
-  frames_kept : (h : Home) (n : ℕ) (f : List (List Value) → List (List Value)) (o : Option Ex) (m : Members) → SlotBy (HeldEx source seats up) (at_home h n) o → ParkedBy (HeldEx source seats up) h m.parked → ParkedBy (HeldEx source seats up) h (frames_by n f o m).parked
-  frames_kept h n f None m r s = s
-  frames_kept h n f (Some x) m r s = parked.update_parked (HeldEx source seats up) h n (Some (record x { frames = f x.frames })) m.parked r s
+  -- frames change to what names as before
+  abbrev FramesKeep : (List (List Value) → List (List Value)) → Type 0
+  FramesKeep f = (n : Exec) (cs : List Active) (fs : List (List Value)) → AllNamed source seats up n cs fs → AllNamed source seats up n cs (f fs)
 
-  with_frames_keeps : (n : Exec) (f : List (List Value) → List (List Value)) (e : Env) → EnvBy (HeldEx source seats up) e → Keeps e (with_frames n f e)
-  with_frames_keeps n f e s =
-      either (Keeps e) (exec_eq n e.exec) (record e { frames = f e.frames }) (change n.home (frames_changed n.serial f) e) (record { exec = refl; env = like s refl refl refl }) (keeps_change n.home (frames_changed n.serial f) e (λ m h. frames_kept n.home n.serial f (joined (find n.serial m.parked)) m (parked.found_parked (HeldEx source seats up) n.home n.serial m.parked h) h) s)
+  frames_kept : (h : Home) (n : ℕ) (f : List (List Value) → List (List Value)) → FramesKeep f → (o : Option Ex) (m : Members) → SlotBy (HeldEx source seats up) (at_home h n) o → ParkedBy (HeldEx source seats up) h m.parked → ParkedBy (HeldEx source seats up) h (frames_by n f o m).parked
+  frames_kept h n f k None m r s = s
+  frames_kept h n f k (Some x) m r s = parked.update_parked (HeldEx source seats up) h n (Some (record x { frames = f x.frames })) m.parked (r.0, k (at_home h n) x.callers x.frames r.1) s
 
-  pub owned_keeps : (o : Owner) (g : List Value → List Value) (e : Env) → EnvBy (HeldEx source seats up) e → Keeps e (with_owned o g e)
-  owned_keeps (Frame n d) g e s = with_frames_keeps n (frame_changed d g) e s
-  owned_keeps (Fields o) g e s = keeps_change (home.Object o) _ e (λ m h. h) s
+  with_frames_keeps : (n : Exec) (f : List (List Value) → List (List Value)) → FramesKeep f → (e : Env) → EnvBy (HeldEx source seats up) e → Keeps e (with_frames n f e)
+  with_frames_keeps n f k e s =
+      either (Keeps e) (exec_eq n e.exec) (record e { frames = f e.frames }) (change n.home (frames_changed n.serial f) e) (record { exec = refl; named = λ m cs a. k m cs e.frames a; env = like s refl refl refl }) (keeps_change n.home (frames_changed n.serial f) e (λ m h. frames_kept n.home n.serial f k (joined (find n.serial m.parked)) m (parked.found_parked (HeldEx source seats up) n.home n.serial m.parked h) h) s)
+
+  frames_written : (d k : ℕ) (w : Value) → FramesKeep (frame_changed d (value_changed k (stored w) nought))
+  frames_written d k w n cs fs h x u p t =
+      named_map n cs cs fs (frame_changed d (value_changed k (stored w) nought) fs) x (λ m e q i. in_written n cs fs x m e q i d k w) (seats.seat x).place (h x u p t)
+
+  owned_keeps : (o : Owner) (k : ℕ) (w : Value) (e : Env) → EnvBy (HeldEx source seats up) e → Keeps e (with_owned o (value_changed k (stored w) nought) e)
+  owned_keeps (Frame n d) k w e s = with_frames_keeps n (frame_changed d (value_changed k (stored w) nought)) (frames_written d k w) e s
+  owned_keeps (Fields o) k w e s = keeps_change (home.Object o) _ e (λ m h. h) s
 
   pub written_keeps : (v w : Value) (e : Env) → EnvBy (HeldEx source seats up) e → Keeps e (written v w e)
-  written_keeps (Number n) w e s = keeps_like s refl refl refl refl
-  written_keeps (Place o p) w e s = owned_keeps o (value_changed (address p) (stored w) nought) e s
-  written_keeps (Running x) w e s = keeps_like s refl refl refl refl
-  written_keeps (Object o) w e s = owned_keeps (Fields o) (value_changed 0 (stored w) nought) e s
-  written_keeps Nothing w e s = keeps_like s refl refl refl refl
+  written_keeps (Number n) w e s = keeps_like s refl refl refl refl refl
+  written_keeps (Place o p) w e s = owned_keeps o (address p) w e s
+  written_keeps (Running x) w e s = keeps_like s refl refl refl refl refl
+  written_keeps (Object o) w e s = owned_keeps (Fields o) 0 w e s
+  written_keeps Nothing w e s = keeps_like s refl refl refl refl refl
 
   -- executions are made and go, and their links change
 
@@ -74,11 +89,12 @@ module _ (source : Source) (seats : Seating) (up : Exec → Bool) where
   pub born_keeps : (h : Home) (x : Ex) (e : Env) → ((m : Members) → members_at h e ≡ Some m → HeldEx source seats up (sw.new_exec h e) x) → EnvBy (HeldEx source seats up) e → Keeps e (sw.born h x e)
   born_keeps h x e r s = record {
     exec = parked.change_exec h (sw.one_more x) e;
+    named = λ n cs a. subst (AllNamed source seats up n cs) (sym (parked.change_frames h (sw.one_more x) e)) a;
     env = born_by h x (members_at h e) e r (parked.members_rests (HeldEx source seats up) h e s) s;
   }
 
   pub forgotten_keeps : (o : Option Exec) (e : Env) → EnvBy (HeldEx source seats up) e → Keeps e (sw.forgotten o e)
-  forgotten_keeps None e s = keeps_like s refl refl refl refl
+  forgotten_keeps None e s = keeps_like s refl refl refl refl refl
   forgotten_keeps (Some n) e s = keeps_change n.home (sw.slot_gone n.serial) e (λ m h. parked.without_parked (HeldEx source seats up) n.home n.serial m.parked h) s
 
   links_kept : (h : Home) (g : Links → Links) (n : ℕ) (o : Option Ex) (m : Members) → SlotBy (HeldEx source seats up) (at_home h n) o → ParkedBy (HeldEx source seats up) h m.parked → ParkedBy (HeldEx source seats up) h (sw.links_by g n o m).parked
@@ -87,10 +103,10 @@ module _ (source : Source) (seats : Seating) (up : Exec → Bool) where
 
   pub links_keeps : (g : Links → Links) (n : Exec) (e : Env) → EnvBy (HeldEx source seats up) e → Keeps e (sw.with_links g n e)
   links_keeps g n e s =
-      either (Keeps e) (exec_eq n e.exec) (record e { links = g e.links }) (change n.home (sw.links_changed g n.serial) e) (keeps_like s refl refl refl refl) (keeps_change n.home (sw.links_changed g n.serial) e (λ m h. links_kept n.home g n.serial (joined (find n.serial m.parked)) m (parked.found_parked (HeldEx source seats up) n.home n.serial m.parked h) h) s)
+      either (Keeps e) (exec_eq n e.exec) (record e { links = g e.links }) (change n.home (sw.links_changed g n.serial) e) (keeps_like s refl refl refl refl refl) (keeps_change n.home (sw.links_changed g n.serial) e (λ m h. links_kept n.home g n.serial (joined (find n.serial m.parked)) m (parked.found_parked (HeldEx source seats up) n.home n.serial m.parked h) h) s)
 
   pub enlivened_keeps : (o : Option Exec) (e : Env) → EnvBy (HeldEx source seats up) e → Keeps e (sw.enlivened o e)
-  enlivened_keeps None e s = keeps_like s refl refl refl refl
+  enlivened_keeps None e s = keeps_like s refl refl refl refl refl
   enlivened_keeps (Some n) e s = links_keeps (λ l. record l { live = true }) n e s
 
   -- switches
@@ -106,8 +122,9 @@ module _ (source : Source) (seats : Seating) (up : Exec → Bool) where
 
   switched_rests : (n : Exec) (x : Ex) (s : State) → HeldEx source seats up n x → FullState s → FullState (sw.switched n x s)
   switched_rests n x s r h = record {
-    stack = r;
-    env = like (parked.slot_rests (HeldEx source seats up) s.env.exec (Some (sw.stopped s)) (sw.set_slot n None s.env) h.stack (parked.slot_rests (HeldEx source seats up) n None s.env tt h.env)) refl refl refl;
+    stack = r.0;
+    named = r.1;
+    env = like (parked.slot_rests (HeldEx source seats up) s.env.exec (Some (sw.stopped s)) (sw.set_slot n None s.env) (h.stack, h.named) (parked.slot_rests (HeldEx source seats up) n None s.env tt h.env)) refl refl refl;
   }
 
   able_stage : (g : Stage) (n : Exec) (x : Ex) → HeldEx source seats up n x → FullNext (sw.able_at g n x)
@@ -151,7 +168,7 @@ module _ (source : Source) (seats : Seating) (up : Exec → Bool) where
   suspend_rests s h = either FullMoved (sw.in_destruction s.env) (Stops SwitchInUnwind) (sw.go_on (sw.able s.env.links.resumer s.env) s) tt (go_on_rests (sw.able s.env.links.resumer s.env) s (able_rests s.env.links.resumer s.env h.env) h)
 
   ended_rests : (s : State) → FullState s → FullState (sw.ended s)
-  ended_rests s h = record { stack = h.stack; env = like h.env refl refl refl }
+  ended_rests s h = record { stack = h.stack; named = h.named; env = like h.env refl refl refl }
 
   pub finish_rests : (s : State) → FullState s → FullMoved (sw.finish s)
   finish_rests s h =
@@ -169,7 +186,11 @@ module _ (source : Source) (seats : Seating) (up : Exec → Bool) where
 
   -- the same running execution, in a task that has changed
   pub with_env : {e : Env} (s : State) → FullState s → Keeps s.env e → FullState (record s { env = e })
-  with_env {e} s h k = record { stack = subst (λ n. AllHeld source seats up n (s.run ∷ s.callers)) (sym k.exec) h.stack; env = k.env }
+  with_env {e} s h k = record {
+    stack = subst (λ n. AllHeld source seats up n (s.run ∷ s.callers)) (sym k.exec) h.stack;
+    named = subst (λ n. AllNamed source seats up n s.callers e.frames) (sym k.exec) (k.named s.env.exec s.callers h.named);
+    env = k.env;
+  }
 
   over_rests : (n : Exec) (s : State) → FullState s → FullState (sw.over n s)
   over_rests n s h = with_env s h (links_keeps (λ l. record l { live = false; stage = Ended }) n s.env h.env)

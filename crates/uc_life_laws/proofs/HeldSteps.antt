@@ -1,6 +1,6 @@
 -- A quiet step of a task keeps what holds those executions that are held otherwise than by what it takes away.
-use Rattle.std.proofs.Common.{◌≡◌, ℕ, zero, suc, ◌++◌, ◌⊎◌, inl, inr, Bool, true, false, List, [], ◌∷◌, length, drop, Option, Some, None, refl}
-use Rattle.std.specs.Prelude.{nat_eq, nat_lt}
+use Rattle.std.proofs.Common.{◌≡◌, ℕ, zero, suc, ◌++◌, ◌⊎◌, inl, inr, Bool, true, false, List, [], ◌∷◌, length, drop, Option, Some, None, refl, sym, subst}
+use Rattle.std.specs.Prelude.{nat_eq, nat_lt, if◌then◌else◌}
 use Rattle.uc_tree.specs.declared.limits.TheConstants.{CALLS, PENDING_EVENTS}
 use Rattle.uc_tree.specs.Source as src
 use Rattle.uc_tree.specs.Source.{Source, Shape, Expr, ObjectExpr, Stmt, Stmts, EventStmt, TaskStmt, Routine, Purpose, Order, Way, CleanUp, Handlers, Clauses, Raised, Item, Declared}
@@ -11,7 +11,7 @@ use Rattle.uc_machine.specs.declared.exec.Pending.{Pending}
 use Rattle.uc_machine.specs.declared.exec.UnwindReason.{UnwindReason}
 use Rattle.uc_machine.specs.declared.exec.UnwindReason.TheVariants as reason
 use Rattle.uc_machine.specs.declared.exec.Visited.{Visited}
-use Rattle.uc_machine.specs.Executions.{values_cleared}
+use Rattle.uc_machine.specs.Executions.{others, frame_changed, frames_changed, values_cleared, change}
 use Rattle.uc_machine.specs.Switches as sw
 use Rattle.uc_machine.specs.Switches.{Moved, To, Stops}
 use Rattle.uc_machine.specs.Insides as inside
@@ -23,8 +23,10 @@ use Rattle.uc_machine.specs.Quiet as quiet
 use Rattle.uc_machine.specs.Pieces as piece
 use Rattle.uc_machine.specs.Pieces.{Value, Number, Place, Running, Object, Nothing, Todo, Sort, Active, State, Env, Members, Step, Goes, Ticks, Asks, Outcome, Gives, Faults, at, in_env, top, below, number, nought, written}
 use Rattle.uc_life_laws.specs.LifeStates.{EnvBy}
-use Rattle.uc_life_laws.specs.Held.{Seating, AreLines, NoMain, HeldBy, HeldIn, Held, HeldEx, TakesAt}
+use Rattle.uc_life_laws.specs.Held.{Seating, AreLines, NoMain, HeldBy, HeldIn, Held, AllNamed, HeldEx, TakesAt}
 use Rattle.uc_life_laws.proofs.Cells.{either}
+use Rattle.uc_life_laws.proofs.LifeSteps.{exec_same}
+use Rattle.uc_life_laws.proofs.FirstCells.{named_map, in_newer}
 use Rattle.uc_life_laws.proofs.HeldKeeping as kept
 use Rattle.uc_life_laws.proofs.HeldKeeping.{Keeps, FullState}
 
@@ -154,9 +156,10 @@ module _ (source : Source) (seats : Seating) (up : Exec → Bool) (H : Exec → 
   pub record Walked (m : Exec) (u : State) : Type 0 where
     pub exec : u.env.exec ≡ m
     pub stack : (x : Exec) → up x ≡ true → seats.parent x ≡ m → H x → Held source (seats.seat x) (seats.before x) m (u.run ∷ u.callers)
+    pub named : AllNamed source seats up m u.callers u.env.frames
     pub env : EnvBy (HeldEx source seats up) u.env
 
-  module _ (s : State) (env : EnvBy (HeldEx source seats up) s.env) (old : (x : Exec) → up x ≡ true → seats.parent x ≡ s.env.exec → H x → Held source (seats.seat x) (seats.before x) s.env.exec (s.run ∷ s.callers)) where
+  module _ (s : State) (env : EnvBy (HeldEx source seats up) s.env) (named : AllNamed source seats up s.env.exec s.callers s.env.frames) (old : (x : Exec) → up x ≡ true → seats.parent x ≡ s.env.exec → H x → Held source (seats.seat x) (seats.before x) s.env.exec (s.run ∷ s.callers)) where
     abbrev pub Outer : List Active → Type 0
     Outer cs = (x : Exec) → up x ≡ true → seats.parent x ≡ s.env.exec → H x → Held source (seats.seat x) (seats.before x) s.env.exec cs
 
@@ -174,52 +177,61 @@ module _ (source : Source) (seats : Seating) (up : Exec → Bool) (H : Exec → 
 
     -- nothing has changed
     stays : Done s
-    stays = inl (record { exec = refl; stack = old; env = env })
+    stays = inl (record { exec = refl; stack = old; named = named; env = env })
 
     -- with something else to do, and other operands
     pub go : (todo : List Todo) (vs : List Value) → Holding todo → Done (at todo vs s)
-    go todo vs h = inl (record { exec = refl; stack = h; env = env })
+    go todo vs h = inl (record { exec = refl; stack = h; named = named; env = env })
 
     -- and with another rest of the task
     pub go_in : (todo : List Todo) (vs : List Value) (e : Env) → Keeps source seats up s.env e → Holding todo → Done (at todo vs (in_env e s))
-    go_in todo vs e k h = inl (record { exec = k.exec; stack = h; env = k.env })
+    go_in todo vs e k h = inl (record { exec = k.exec; stack = h; named = k.named s.env.exec s.callers named; env = k.env })
 
     -- nothing that is told of changes
-    pub same : {e : Env} → e.exec ≡ s.env.exec → e.hand ≡ s.env.hand → e.house ≡ s.env.house → e.own ≡ s.env.own → Keeps source seats up s.env e
-    same x h g o = kept.keeps_like source seats up env x h g o
+    pub same : {e : Env} → e.exec ≡ s.env.exec → e.frames ≡ s.env.frames → e.hand ≡ s.env.hand → e.house ≡ s.env.house → e.own ≡ s.env.own → Keeps source seats up s.env e
+    same x r h g o = kept.keeps_like source seats up env x r h g o
 
-    -- the end of an activation
+    -- the end of an activation: its frame goes, and what the others name is named
 
-    pub returned : (given : Value) (cs : List Active) → Outer cs → WStep (piece.return_step given cs s)
-    returned given [] h = stays
-    returned given (a ∷ cs) h = inl (record { exec = refl; stack = h; env = kept.like source seats up env refl refl refl })
+    abbrev pub Popped : List Active → Type 0
+    Popped [] = Unit {0}
+    Popped (a ∷ cs) = AllNamed source seats up s.env.exec cs (others s.env.frames)
 
-    past : (v : Visited) (given : Value) (cs : List Active) → Outer cs → WStep (raising.return_past v given cs s)
-    past v given [] h = stays
-    past v given (a ∷ cs) h = inl (record { exec = refl; stack = h; env = kept.like source seats up env refl refl refl })
+    pub returned : (given : Value) (cs : List Active) → Popped cs → Outer cs → WStep (piece.return_step given cs s)
+    returned given [] q h = stays
+    returned given (a ∷ cs) q h = inl (record { exec = refl; stack = h; named = q; env = kept.like source seats up env refl refl refl })
 
-    end_by : (v : Option Visited) (given : Value) → Holding [] → WStep (raising.end_by v given s)
-    end_by None given h = returned given s.callers h
-    end_by (Some v) given h = past v given s.callers h
+    past : (v : Visited) (given : Value) (cs : List Active) → Popped cs → Outer cs → WStep (raising.return_past v given cs s)
+    past v given [] q h = stays
+    past v given (a ∷ cs) q h = inl (record { exec = refl; stack = h; named = q; env = kept.like source seats up env refl refl refl })
 
-    pub end_step : (w : Way) → Holding [] → WStep (quiet.end_step w s)
-    end_step src.ToReturn h = end_by s.run.handles _ h
-    end_step src.ToEnd h = end_by s.run.handles _ h
-    end_step src.ToBreak h = returned _ s.callers h
-    end_step src.ToContinue h = returned _ s.callers h
+    end_by : (v : Option Visited) (given : Value) → Popped s.callers → Holding [] → WStep (raising.end_by v given s)
+    end_by None given q h = returned given s.callers q h
+    end_by (Some v) given q h = past v given s.callers q h
 
-    pass_on : (w : Option UnwindReason) (c : Active) (cs : List Active) → Outer (c ∷ cs) → WStep (raising.pass_on w c cs s)
-    pass_on None c cs h = stays
-    pass_on (Some why) c cs h = inl (record { exec = refl; stack = h; env = kept.like source seats up env refl refl refl })
+    pub end_step : (w : Way) → Popped s.callers → Holding [] → WStep (quiet.end_step w s)
+    end_step src.ToReturn q h = end_by s.run.handles _ q h
+    end_step src.ToEnd q h = end_by s.run.handles _ q h
+    end_step src.ToBreak q h = returned _ s.callers q h
+    end_step src.ToContinue q h = returned _ s.callers q h
 
-    leave_for : (b : Bool) (c : Active) (cs : List Active) → Outer (c ∷ cs) → WStep (raising.leave_for b c cs s)
-    leave_for true c cs h = stays
-    leave_for false c cs h = pass_on s.run.raised c cs h
+    pass_on : (w : Option UnwindReason) (c : Active) (cs : List Active) → Popped (c ∷ cs) → Outer (c ∷ cs) → WStep (raising.pass_on w c cs s)
+    pass_on None c cs q h = stays
+    pass_on (Some why) c cs q h = inl (record { exec = refl; stack = h; named = q; env = kept.like source seats up env refl refl refl })
 
-    pub leaves : (cs : List Active) → Outer cs → WStep (raising.leave_step cs s)
-    leaves [] h = stays
-    leaves (c ∷ cs) h =
-        either WStep (raising.arrives s.run.raised (length (c ∷ cs))) _ _ (returned s.run.result (c ∷ cs) h) (leave_for _ c cs h)
+    leave_for : (b : Bool) (c : Active) (cs : List Active) → Popped (c ∷ cs) → Outer (c ∷ cs) → WStep (raising.leave_for b c cs s)
+    leave_for true c cs q h = stays
+    leave_for false c cs q h = pass_on s.run.raised c cs q h
+
+    pub leaves : (cs : List Active) → Popped cs → Outer cs → WStep (raising.leave_step cs s)
+    leaves [] q h = stays
+    leaves (c ∷ cs) q h =
+        either WStep (raising.arrives s.run.raised (length (c ∷ cs))) _ _ (returned s.run.result (c ∷ cs) q h) (leave_for _ c cs q h)
+
+    -- an activation begins
+    newer : (f : List Value) (c : Active) → AllNamed source seats up s.env.exec (c ∷ s.callers) (f ∷ s.env.frames)
+    newer f c x u p t =
+        named_map s.env.exec s.callers (c ∷ s.callers) s.env.frames (f ∷ s.env.frames) x (λ m d q i. in_newer s.env.exec s.callers s.env.frames x m d q i f c) (seats.seat x).place (named x u p t)
 
     -- another execution runs, where it is told of all that this one holds
     pub moved : (m : Moved (List Todo) Value) (todo : List Todo) (vs : List Value) → Holding todo → kept.FullMoved source seats up m → WStep (piece.moves m (at todo vs s))
@@ -277,14 +289,15 @@ module _ (source : Source) (seats : Seating) (up : Exec → Bool) (H : Exec → 
     stmt a todo h = go _ _ h
 
     -- cells start anew
-    pub clears : (k m : ℕ) (todo : List Todo) → Holding todo → WStep (quiet.turns todo (in_env (piece.cleared k m s) s))
-    clears k m todo h = go_in todo s.run.operands (piece.cleared k m s) (kept.owned_keeps source seats up (piece.this_frame s) (values_cleared k m nought) s.env env) h
+    pub clears : (k m : ℕ) (todo : List Todo) → AllNamed source seats up s.env.exec s.callers (frame_changed s.run.frame (values_cleared k m nought) s.env.frames) → Holding todo → WStep (quiet.turns todo (in_env (piece.cleared k m s) s))
+    clears k m todo q h =
+        subst (λ (b : Bool). Done (at todo s.run.operands (in_env (if b then record s.env { frames = frame_changed s.run.frame (values_cleared k m nought) s.env.frames } else change s.env.exec.home (frames_changed s.env.exec.serial (frame_changed s.run.frame (values_cleared k m nought))) s.env) s))) (sym (exec_same s.env.exec)) (inl (record { exec = refl; stack = h; named = q; env = kept.like source seats up env refl refl refl }))
 
     -- calls
 
     begun : (r : Routine) (this : Value) (counts : Bool) (todo : List Todo) (vs : List Value) → Holding todo → WStep (quiet.begun_step r this counts todo vs s)
     begun r this counts todo vs h =
-        inl (record { exec = refl; stack = routine s.env.exec _ this 0 ((record s.run { control = todo; operands = vs }) ∷ s.callers) (λ x. In s.env.exec s.run.frame s.run.this s.run.elements s.callers (λ x. Held source (seats.seat x) (seats.before x) s.env.exec s.callers) x todo) r h; env = kept.like source seats up env refl refl refl })
+        inl (record { exec = refl; stack = routine s.env.exec _ this 0 ((record s.run { control = todo; operands = vs }) ∷ s.callers) (λ x. In s.env.exec s.run.frame s.run.this s.run.elements s.callers (λ x. Held source (seats.seat x) (seats.before x) s.env.exec s.callers) x todo) r h; named = newer _ _; env = kept.like source seats up env refl refl refl })
 
     pub call : (r : Option Routine) (todo : List Todo) → Holding todo → WStep (quiet.call_step r todo s)
     call None todo h = go _ _ h
@@ -305,7 +318,7 @@ module _ (source : Source) (seats : Seating) (up : Exec → Bool) (H : Exec → 
     set_up (Some r) todo o h =
         let q = quiet.home_at s.run.this s.env in
         let x = quiet.fresh r s.run.this in
-        let k : Keeps source seats up s.env (sw.born q x s.env) = kept.born_keeps source seats up q x s.env (λ m e y u p. absurd (o m e y u p)) env in
+        let k : Keeps source seats up s.env (sw.born q x s.env) = kept.born_keeps source seats up q x s.env (λ m e. (λ y u p. absurd (o m e y u p), λ y u p t. absurd (o m e y u p))) env in
         go_in _ _ _ (kept.keeps_both source seats up k (kept.written_keeps source seats up s.run.this _ (sw.born q x s.env) k.env)) h
 
     pub live : (r : Option Routine) (todo : List Todo) → Holding todo → WStep (quiet.live_step r todo s)
@@ -322,8 +335,8 @@ module _ (source : Source) (seats : Seating) (up : Exec → Bool) (H : Exec → 
     unless q step todo h k = either (WStep) (inside.is_held_up q s.env) _ step (go todo _ h) k
 
     enter_at : (d : Option ℕ) (q m : ℕ) (todo : List Todo) → Holding todo → WStep (monitors.enter_at d q m todo s)
-    enter_at (Some d) q m todo h = go_in _ _ _ (same refl refl refl refl) h
-    enter_at None q m todo h = go_in _ _ _ (same refl refl refl refl) h
+    enter_at (Some d) q m todo h = go_in _ _ _ (same refl refl refl refl refl) h
+    enter_at None q m todo h = go_in _ _ _ (same refl refl refl refl refl) h
 
     pub enter : (m : ℕ) (r : Option Routine) (todo : List Todo) → Holding todo → WStep (monitors.enter_step m r todo s)
     enter m None todo h = go _ _ h
@@ -332,14 +345,14 @@ module _ (source : Source) (seats : Seating) (up : Exec → Bool) (H : Exec → 
         either (WStep) (monitors.may_call r.written s) _ _ (enter_at (find q s.env.depths) q m todo h) (go todo _ h)
 
     pub leave : (b : Bool) (q : ℕ) (todo : List Todo) → Holding todo → WStep (monitors.leave_at b q todo s)
-    leave false q todo h = go_in _ _ _ (same refl refl refl refl) h
+    leave false q todo h = go_in _ _ _ (same refl refl refl refl refl) h
     leave true q todo h =
-        unless q _ todo h (inl (record { exec = refl; stack = polled s.env.exec s.run.frame s.run.this s.run.elements s.callers (λ x. Held source (seats.seat x) (seats.before x) s.env.exec s.callers) s.run.raised todo h; env = kept.like source seats up env refl refl refl }))
+        unless q _ todo h (inl (record { exec = refl; stack = polled s.env.exec s.run.frame s.run.this s.run.elements s.callers (λ x. Held source (seats.seat x) (seats.before x) s.env.exec s.callers) s.run.raised todo h; named = named; env = kept.like source seats up env refl refl refl }))
 
     pub make : (c n : ℕ) (r : Option Routine) (todo : List Todo) → Holding todo → WStep (monitors.make_step c n r todo s)
     make c n None todo h = go _ _ h
     make c n (Some r) todo h =
-        either (WStep) (monitors.may_call r.written s) _ _ (go_in _ _ _ (same refl refl refl refl) h) (go todo _ h)
+        either (WStep) (monitors.may_call r.written s) _ _ (go_in _ _ _ (same refl refl refl refl refl) h) (go todo _ h)
 
     pub bind : (r : Option Routine) (todo : List Todo) → Holding todo → WStep (monitors.bind_step r todo s)
     bind None todo h = go _ _ h
@@ -374,11 +387,11 @@ module _ (source : Source) (seats : Seating) (up : Exec → Bool) (H : Exec → 
     pub enables : (events cell : ℕ) (todo : List Todo) → Holding todo → WStep (polls.enable_step events cell todo s)
     enables events cell todo h =
         let k : Keeps source seats up s.env (written (piece.variable_at cell s) (Number (signed_64 s.env.links.enabled)) s.env) = kept.written_keeps source seats up (piece.variable_at cell s) (Number (signed_64 s.env.links.enabled)) s.env env in
-        go_in _ _ _ (kept.keeps_both source seats up k (kept.keeps_like source seats up k.env refl refl refl refl)) h
+        go_in _ _ _ (kept.keeps_both source seats up k (kept.keeps_like source seats up k.env refl refl refl refl refl)) h
 
     quiet_poll : (x : Option Pending) (todo : List Todo) → Holding todo → WStep (polls.quiet_poll x todo s)
     quiet_poll None todo h = go _ _ h
-    quiet_poll (Some p) todo h = go_in _ _ _ (same refl refl refl refl) h
+    quiet_poll (Some p) todo h = go_in _ _ _ (same refl refl refl refl refl) h
 
     poll_by : (b : Bool) (todo : List Todo) → Holding todo → WStep (polls.poll_by b todo s)
     poll_by true todo h = go _ _ h
@@ -393,7 +406,7 @@ module _ (source : Source) (seats : Seating) (up : Exec → Bool) (H : Exec → 
 
     -- the running activation is told anew
     told : (b : Active) → Outer (b ∷ s.callers) → Done (record s { run = b })
-    told b h = inl (record { exec = refl; stack = h; env = env })
+    told b h = inl (record { exec = refl; stack = h; named = named; env = env })
 
     pub throws : (e : Event) (todo : List Todo) → Holding todo → WStep (raising.throw_step e todo s)
     throws e todo h = told _ h
@@ -401,7 +414,7 @@ module _ (source : Source) (seats : Seating) (up : Exec → Bool) (H : Exec → 
     -- the handler of a resumption begins
     handles : (o : Option Found) (e : Event) (todo : List Todo) → Holding todo → WStep (raising.handle_step o e todo s)
     handles None e todo h = throws e todo h
-    handles (Some x) e todo h = inl (record { exec = refl; stack = h; env = kept.like source seats up env refl refl refl })
+    handles (Some x) e todo h = inl (record { exec = refl; stack = h; named = newer [] _; env = kept.like source seats up env refl refl refl })
 
     pub raises : (e : Event) (todo : List Todo) → Holding todo → WStep (raising.raise_step e todo s)
     raises e todo h = handles (raising.seek None e (record s.run { control = todo } ∷ s.callers)) e todo h
@@ -468,9 +481,9 @@ module _ (source : Source) (seats : Seating) (up : Exec → Bool) (H : Exec → 
 
     pub prints : (x : Option (List Piece)) (p : Piece) (todo : List Todo) (vs : List Value) → Holding todo → WStep (piece.print_step x p todo vs s)
     prints None p todo vs h = go _ _ h
-    prints (Some ps) p todo vs h = go_in _ _ _ (same refl refl refl refl) h
+    prints (Some ps) p todo vs h = go_in _ _ _ (same refl refl refl refl refl) h
 
     pub flushes : (x : Option (List Piece)) (todo : List Todo) (vs : List Value) → Holding todo → WStep (piece.flush_step x todo vs s)
     flushes None todo vs h = go _ _ h
-    flushes (Some []) todo vs h = go_in _ _ _ (same refl refl refl refl) h
-    flushes (Some (p ∷ ps)) todo vs h = go_in _ _ _ (same refl refl refl refl) h
+    flushes (Some []) todo vs h = go_in _ _ _ (same refl refl refl refl refl) h
+    flushes (Some (p ∷ ps)) todo vs h = go_in _ _ _ (same refl refl refl refl refl) h

@@ -1,5 +1,5 @@
 -- Every quiet step of a task leads to where those that are up are held, or held soon, and so does each answer of the form that was asked for.
-use Rattle.std.proofs.Common.{◌≡◌, ℕ, zero, suc, ◌⊎◌, inl, inr, ⊎_elim, Bool, true, List, [], ◌∷◌, Option, Some, None, refl, sym, ◌∙◌, subst}
+use Rattle.std.proofs.Common.{◌≡◌, ℕ, zero, suc, ◌<◌, ◌⊎◌, inl, inr, ⊎_elim, Bool, true, List, [], ◌∷◌, length, Option, Some, None, refl, sym, ap, ◌∙◌, subst, arith}
 use Rattle.uc_machine.specs.declared.exec.Exec.{Exec}
 use Rattle.uc_machine.specs.Pieces.{Active}
 use Rattle.std.specs.Prelude.{nat_lt, slice_get, drop}
@@ -11,18 +11,19 @@ use Rattle.uc_entry.specs.declared.request.Request.{Request}
 use Rattle.uc_entry.specs.declared.request.Request.TheVariants as ask
 use Rattle.uc_answer_laws.specs.Suiting.{Form, IsForm, JustGo, form_of_request}
 use Rattle.uc_machine.specs.declared.exec.Home.TheVariants as home
-use Rattle.uc_machine.specs.Executions.{take_operands}
+use Rattle.uc_machine.specs.Executions.{take_operands, others, frame_changed, values_cleared}
 use Rattle.uc_machine.specs.Raising as raising
 use Rattle.uc_machine.specs.Monitors as monitors
 use Rattle.uc_machine.specs.Quiet as quiet
 use Rattle.uc_machine.specs.Pieces as piece
-use Rattle.uc_machine.specs.Pieces.{Value, Todo, Sort, State, Members, Step, Goes, Ticks, Asks, at, top, number}
+use Rattle.uc_machine.specs.Pieces.{Value, Todo, Sort, State, Members, Step, Goes, Ticks, Asks, at, top, number, nought}
 use Rattle.uc_machine.specs.Answering.{answered, entered, new_members, with_operand}
 use Rattle.uc_life_laws.specs.LifeStates.{MembersBy}
-use Rattle.uc_life_laws.specs.Held.{Seating, NoMain, Stays, HeldBy, HeldIn, Held, Onwards, SoonIn, Soon, SoonFrom, GoesNext, SoonHere, SoonAsked, HeldEx, HeldState, HeldAsked, HeldAsk, HeldStep, IsOwn, LeadsSoon, HoldsNow, OfCounted, HoldsCounted, TakesAt, TakesNow}
+use Rattle.uc_life_laws.specs.Held.{Seating, NamedAt, NoMain, Stays, HeldBy, HeldIn, Held, Onwards, SoonIn, Soon, SoonFrom, GoesNext, SoonHere, SoonAsked, AllNamed, HeldEx, HeldState, HeldAsked, HeldAsk, HeldStep, IsOwn, LeadsSoon, HoldsNow, OfCounted, HoldsCounted, IsHeld, IsWaitedFor, ClearsBehind, LetsGo, TakesAt, TakesNow}
 use Rattle.uc_life_laws.proofs.Cells.{either}
 use Rattle.uc_life_laws.proofs.HeldKeeping as kept
 use Rattle.uc_life_laws.proofs.HeldKeeping.{FullState}
+use Rattle.uc_life_laws.proofs.FirstCells.{named_told, in_cleared, in_older}
 use Rattle.uc_life_laws.proofs.Parked as parked
 use Rattle.uc_life_laws.proofs.HeldSteps as steps
 use Rattle.uc_life_laws.proofs.HeldSteps.{Walked}
@@ -145,7 +146,7 @@ module _ (source : Source) (seats : Seating) (up : Exec → Bool) (s : State) wh
     old x u p h = h.0
 
     abbrev WStep : Step → Type 0
-    WStep step = steps.WStep source seats up H s st.env old step
+    WStep step = steps.WStep source seats up H s st.env st.named old step
 
     abbrev Holding : List Todo → Type 0
     Holding todo = (x : Exec) → up x ≡ true → seats.parent x ≡ s.env.exec → H x → Behind x todo
@@ -154,7 +155,7 @@ module _ (source : Source) (seats : Seating) (up : Exec → Bool) (s : State) wh
     Keeping todo = (x : Exec) → up x ≡ true → seats.parent x ≡ s.env.exec → H x → KeptIn x todo
 
     -- where the object of a task goes next no other execution comes to run, and its main is not up
-    goes_stays : (x : Exec) (l : List Todo) → GoesNext source (seats.seat x) (seats.before x) s.env.exec l s.run s.callers → Stays l
+    goes_stays : (x : Exec) (l : List Todo) → GoesNext source (seats.seat x) (seats.before x) s.env.exec l s.run s.callers → Stays source (seats.seat x) (seats.before x) s.env.exec s.callers l
     goes_stays x [] h = absurd h
     goes_stays x (piece.GoneNow ∷ todo) h = tt
     goes_stays x (p ∷ todo) h = absurd h
@@ -164,21 +165,50 @@ module _ (source : Source) (seats : Seating) (up : Exec → Bool) (s : State) wh
     gone_by x w (piece.GoneNow ∷ todo) o h = o x w h.0 h.1
     gone_by x w (p ∷ todo) o h = h
 
-    -- all are held where another execution may run
-    by_soon : (x : Exec) → (Stays s.run.control → ⊥) → SoonHere source (seats.seat x) (seats.before x) s.env.exec s → Held source (seats.seat x) (seats.before x) s.env.exec (s.run ∷ s.callers)
-    by_soon x f (inl (zero, (zero, h))) = h
-    by_soon x f (inl (zero, (suc k, h))) = absurd (f h.0)
-    by_soon x f (inl (suc k, h)) = absurd (f h.0)
-    by_soon x f (inr h) = absurd (f (goes_stays x s.run.control h))
+    -- all are held where another execution may run, and where cells start anew or a frame goes
+    abbrev StaysFor : Exec → List Todo → Type 0
+    StaysFor x l = Stays source (seats.seat x) (seats.before x) s.env.exec s.callers l
 
-    full : (l : List Todo) → s.run.control ≡ l → (Stays l → ⊥) → (x : Exec) → up x ≡ true → seats.parent x ≡ s.env.exec → Behind x l
-    full l e f x u p = subst (Behind x) e (by_soon x (λ y. f (subst Stays e y)) (st.soon x u p))
+    by_soon : (x : Exec) → SoonHere source (seats.seat x) (seats.before x) s.env.exec s → Held source (seats.seat x) (seats.before x) s.env.exec (s.run ∷ s.callers) ⊎ StaysFor x s.run.control
+    by_soon x (inl (zero, (zero, h))) = inl h
+    by_soon x (inl (zero, (suc k, h))) = inr h.0
+    by_soon x (inl (suc k, h)) = inr h.0
+    by_soon x (inr h) = inr (goes_stays x s.run.control h)
+
+    held_or : (l : List Todo) → s.run.control ≡ l → (x : Exec) → up x ≡ true → seats.parent x ≡ s.env.exec → IsHeld source seats up s x ⊎ StaysFor x l
+    held_or l e x u p = subst (λ l. IsHeld source seats up s x ⊎ StaysFor x l) e (by_soon x (st.soon x u p))
+
+    full : (l : List Todo) → s.run.control ≡ l → ((x : Exec) → StaysFor x l → ⊥) → (x : Exec) → up x ≡ true → seats.parent x ≡ s.env.exec → Behind x l
+    full l e f x u p = subst (Behind x) e (⊎_elim (λ h. h) (λ y. absurd (f x (subst (StaysFor x) e y))) (by_soon x (st.soon x u p)))
 
     at_full : (todo : List Todo) (vs : List Value) → ((x : Exec) → up x ≡ true → seats.parent x ≡ s.env.exec → Behind x todo) → FullState source seats up (at todo vs s)
-    at_full todo vs h = record { stack = h; env = st.env }
+    at_full todo vs h = record { stack = h; named = st.named; env = st.env }
 
-    go : (todo : List Todo) (vs : List Value) → Holding todo → steps.Done source seats up H s st.env old (at todo vs s)
-    go = steps.go source seats up H s st.env old
+    -- first cells name what they named where cells behind them start anew, and where another frame goes
+    cleared_named : (k m : ℕ) (todo : List Todo) → s.run.control ≡ piece.ClearNow k m ∷ todo → ClearsBehind source seats up s k → AllNamed source seats up s.env.exec s.callers (frame_changed s.run.frame (values_cleared k m nought) s.env.frames)
+    cleared_named k m todo e o x u p t =
+        let held : IsHeld source seats up s x = ⊎_elim (λ h. h) (λ z. absurd z) (held_or (piece.ClearNow k m ∷ todo) e x u p) in
+        named_told s.env.exec s.callers s.callers s.env.frames (frame_changed s.run.frame (values_cleared k m nought) s.env.frames) x (seats.seat x).place (λ d q i n. in_cleared s.env.exec s.callers s.env.frames x s.env.exec d q n s.run.frame k m (o x (u, p) t held d q i)) (st.named x u p t)
+
+    popped : (l : List Todo) → s.run.control ≡ l → ((x : Exec) → StaysFor x l → IsWaitedFor source seats up s x) → LetsGo source seats up s → steps.Popped source seats up H s st.env st.named old s.callers
+    popped l e f o = by s.callers refl
+      where
+        by : (cs : List Active) → s.callers ≡ cs → steps.Popped source seats up H s st.env st.named old cs
+        by [] c = tt
+        by (b ∷ older) c = λ x u p t. one x u p t
+          where
+            less : (d : ℕ) → (s.callers ≡ []) ⊎ (d < length s.callers) → d < suc (length older)
+            less d (inl z) = let none : b ∷ older ≡ [] = sym c ∙ z in absurd (cc)
+            less d (inr l) = let n : length s.callers ≡ suc (length older) = ap length c in omega (arith, l, n)
+
+            one : AllNamed source seats up s.env.exec older (others s.env.frames)
+            one x u p t =
+                let k = ⊎_elim (λ h. inl h) (λ y. inr (f x y)) (held_or l e x u p) in
+                let old_names : NamedAt s.env.exec (b ∷ older) s.env.frames x (seats.seat x).place = subst (λ cs. NamedAt s.env.exec cs s.env.frames x (seats.seat x).place) c (st.named x u p t) in
+                named_told s.env.exec (b ∷ older) older s.env.frames (others s.env.frames) x (seats.seat x).place (λ d q i n. in_older s.env.exec b older s.env.frames x s.env.exec d q (less d (o x (u, p) t k d q i)) n) old_names
+
+    go : (todo : List Todo) (vs : List Value) → Holding todo → steps.Done source seats up H s st.env st.named old (at todo vs s)
+    go = steps.go source seats up H s st.env st.named old
 
     -- the statements that are left of a block
     rests : (ss : Stmts) (todo : List Todo) → Holding todo → WStep (quiet.rest_step ss todo s)
@@ -189,32 +219,32 @@ module _ (source : Source) (seats : Seating) (up : Exec → Bool) (s : State) wh
 
     swept : (n : ℕ) (d : Expr) (todo : List Todo) → ((x : Exec) → up x ≡ true → seats.parent x ≡ s.env.exec → H x → Uncounted x todo) → WStep (quiet.sweep_step n d todo s)
     swept zero d todo h = go _ _ (λ x u p q. recount x s.run.elements todo (h x u p q))
-    swept (suc n) d todo h = inl (record { exec = refl; stack = λ x u p q. inr (recount x n todo (h x u p q)); env = st.env })
+    swept (suc n) d todo h = inl (record { exec = refl; stack = λ x u p q. inr (recount x n todo (h x u p q)); named = st.named; env = st.env })
 
     -- one piece, with what is to do behind it
     acts : (p : Todo) (todo : List Todo) → s.run.control ≡ p ∷ todo → TakesAt source seats up (p ∷ todo) s → Keeping (p ∷ todo) → WStep (quiet.act source p todo s)
-    acts (piece.Eval a) todo e o h = steps.eval source seats up H s st.env old a todo h
-    acts (piece.ElementNow m k) todo e o h = steps.element source seats up H s st.env old k _ todo _ _ h
-    acts piece.NegateNow todo e o h = steps.outcome source seats up H s st.env old _ todo _ h
-    acts (piece.OperateNow op) todo e o h = steps.outcome source seats up H s st.env old _ todo _ h
-    acts piece.StoreNow todo e o h = steps.go_in source seats up H s st.env old _ _ _ (kept.written_keeps source seats up (top (piece.below s.run.operands)) (piece.Number (number (top s.run.operands))) s.env st.env) h
-    acts piece.KeepNow todo e o h = steps.go_in source seats up H s st.env old _ _ _ (kept.written_keeps source seats up (top (piece.below s.run.operands)) (piece.Number (number (top s.run.operands))) s.env st.env) h
-    acts (piece.SetNow k) todo e o h = steps.go_in source seats up H s st.env old _ _ _ (kept.written_keeps source seats up (piece.variable_at k s) (piece.Number (number (top s.run.operands))) s.env st.env) h
-    acts piece.BindNow todo e o h = steps.go_in source seats up H s st.env old _ _ _ (kept.written_keeps source seats up (top (piece.below s.run.operands)) (top s.run.operands) s.env st.env) h
+    acts (piece.Eval a) todo e o h = steps.eval source seats up H s st.env st.named old a todo h
+    acts (piece.ElementNow m k) todo e o h = steps.element source seats up H s st.env st.named old k _ todo _ _ h
+    acts piece.NegateNow todo e o h = steps.outcome source seats up H s st.env st.named old _ todo _ h
+    acts (piece.OperateNow op) todo e o h = steps.outcome source seats up H s st.env st.named old _ todo _ h
+    acts piece.StoreNow todo e o h = steps.go_in source seats up H s st.env st.named old _ _ _ (kept.written_keeps source seats up (top (piece.below s.run.operands)) (piece.Number (number (top s.run.operands))) s.env st.env) h
+    acts piece.KeepNow todo e o h = steps.go_in source seats up H s st.env st.named old _ _ _ (kept.written_keeps source seats up (top (piece.below s.run.operands)) (piece.Number (number (top s.run.operands))) s.env st.env) h
+    acts (piece.SetNow k) todo e o h = steps.go_in source seats up H s st.env st.named old _ _ _ (kept.written_keeps source seats up (piece.variable_at k s) (piece.Number (number (top s.run.operands))) s.env st.env) h
+    acts piece.BindNow todo e o h = steps.go_in source seats up H s st.env st.named old _ _ _ (kept.written_keeps source seats up (top (piece.below s.run.operands)) (top s.run.operands) s.env st.env) h
     acts (piece.Arguments src.NoExprs) todo e o h = go _ _ h
     acts (piece.Arguments (src.MoreExprs a es)) todo e o h = go _ _ h
-    acts (piece.CallNow r) todo e o h = steps.call source seats up H s st.env old (slice_get source.routines r) todo h
-    acts (piece.CallOnNow r) todo e o h = steps.call_on source seats up H s st.env old (slice_get source.routines r) todo h
-    acts (piece.CallUnwrittenNow r) todo e o h = steps.call_unwritten source seats up H s st.env old (slice_get source.routines r) todo h
-    acts (piece.CountNow m) todo e o h = inl (record { exec = refl; stack = λ x u p q. recount x m todo (h x u p q); env = st.env })
-    acts piece.MoreNow todo e o h = inl (record { exec = refl; stack = λ x u p q. recount x _ todo (h x u p q); env = st.env })
+    acts (piece.CallNow r) todo e o h = steps.call source seats up H s st.env st.named old (slice_get source.routines r) todo h
+    acts (piece.CallOnNow r) todo e o h = steps.call_on source seats up H s st.env st.named old (slice_get source.routines r) todo h
+    acts (piece.CallUnwrittenNow r) todo e o h = steps.call_unwritten source seats up H s st.env st.named old (slice_get source.routines r) todo h
+    acts (piece.CountNow m) todo e o h = inl (record { exec = refl; stack = λ x u p q. recount x m todo (h x u p q); named = st.named; env = st.env })
+    acts piece.MoreNow todo e o h = inl (record { exec = refl; stack = λ x u p q. recount x _ todo (h x u p q); named = st.named; env = st.env })
     acts (piece.FillNow m b d) todo e o h = go _ _ (steps.filled source seats up H s.env.exec s.run.frame s.run.this s.run.elements s.callers (λ x. Held source (seats.seat x) (seats.before x) s.env.exec s.callers) (nat_lt s.run.elements m) m b d todo h)
     acts (piece.Again order c step b) todo e o h = go _ _ (either (Holding) (piece.is_zero (number (top s.run.operands))) todo (piece.TurnNow order c step b ∷ todo) h h)
-    acts (piece.PrintNow form) todo e o h = steps.prints source seats up H s st.env old s.env.gathered _ todo _ h
-    acts (piece.TextNow k) todo e o h = steps.prints source seats up H s st.env old s.env.gathered _ todo _ h
-    acts piece.GatherNow todo e o h = steps.go_in source seats up H s st.env old _ _ _ (steps.same source seats up H s st.env old refl refl refl refl) h
-    acts piece.FlushNow todo e o h = steps.flushes source seats up H s st.env old s.env.gathered todo _ h
-    acts (piece.ClearNow k m) todo e o h = steps.clears source seats up H s st.env old k m todo h
+    acts (piece.PrintNow form) todo e o h = steps.prints source seats up H s st.env st.named old s.env.gathered _ todo _ h
+    acts (piece.TextNow k) todo e o h = steps.prints source seats up H s st.env st.named old s.env.gathered _ todo _ h
+    acts piece.GatherNow todo e o h = steps.go_in source seats up H s st.env st.named old _ _ _ (steps.same source seats up H s st.env st.named old refl refl refl refl refl) h
+    acts piece.FlushNow todo e o h = steps.flushes source seats up H s st.env st.named old s.env.gathered todo _ h
+    acts (piece.ClearNow k m) todo e o h = steps.clears source seats up H s st.env st.named old k m todo (cleared_named k m todo e o) h
     acts (piece.Items []) todo e o h = go _ _ h
     acts (piece.Items (i ∷ is)) todo e o h = go _ _ (steps.item source seats up H s.env.exec s.run.frame s.run.this s.run.elements s.callers (λ x. Held source (seats.seat x) (seats.before x) s.env.exec s.callers) i (piece.Items is ∷ todo) h)
     acts (piece.Values []) todo e o h = go _ _ h
@@ -225,57 +255,57 @@ module _ (source : Source) (seats : Seating) (up : Exec → Bool) (s : State) wh
     acts (piece.Targets (x ∷ xs)) todo e o h = go _ _ h
     acts (piece.Variables []) todo e o h = go _ _ h
     acts (piece.Variables (d ∷ ds)) todo e o h = go _ _ (steps.starts source seats up H s.env.exec s.run.frame s.run.this s.run.elements s.callers (λ x. Held source (seats.seat x) (seats.before x) s.env.exec s.callers) d.cell d.value (piece.Variables ds ∷ todo) h)
-    acts (piece.Do a) todo e o h = steps.stmt source seats up H s st.env old a todo h
+    acts (piece.Do a) todo e o h = steps.stmt source seats up H s st.env st.named old a todo h
     acts (piece.Rest ss) todo e o h = rests ss todo h
-    acts (piece.Exit w) [] e o h = steps.end_step source seats up H s st.env old w h
-    acts (piece.Exit w) (p ∷ ps) e o h = steps.exits source seats up H s st.env old w p ps h
+    acts (piece.Exit w) [] e o h = steps.end_step source seats up H s st.env st.named old w (popped (piece.Exit w ∷ []) e (λ x z. absurd z) o) h
+    acts (piece.Exit w) (p ∷ ps) e o h = steps.exits source seats up H s st.env st.named old w p ps h
     acts (piece.InLoop order c step b) todo e o h = go _ _ (steps.stepped source seats up H s.env.exec s.run.frame s.run.this s.run.elements s.callers (λ x. Held source (seats.seat x) (seats.before x) s.env.exec s.callers) step _ (steps.tested source seats up H s.env.exec s.run.frame s.run.this s.run.elements s.callers (λ x. Held source (seats.seat x) (seats.before x) s.env.exec s.callers) order c step b todo h))
     acts (piece.Clean c) todo e o h = go _ _ (steps.cleans source seats up H s.env.exec s.run.frame s.run.this s.run.elements s.callers (λ x. Held source (seats.seat x) (seats.before x) s.env.exec s.callers) c todo h)
     acts (piece.Sweep a) todo e o h = swept s.run.elements a todo h
-    acts piece.Unwind [] e o h = steps.leaves source seats up H s st.env old s.callers h
-    acts piece.Unwind (p ∷ ps) e o h = steps.unwinds source seats up H s st.env old p ps (λ f. at_full _ _ (λ x u q. no_main x (piece.sort p) ps (Behind x ps) f (split_in x p ps (full (piece.Unwind ∷ (p ∷ ps)) e f x u q)))) h
-    acts piece.ThrowNow todo e o h = steps.throws source seats up H s st.env old (raising.event_in s.run.operands) todo h
-    acts piece.RaiseNow todo e o h = steps.raises source seats up H s st.env old (raising.event_in s.run.operands) todo h
-    acts (piece.SetUpNow r) todo e o h = steps.set_up source seats up H s st.env old (slice_get source.routines r) todo o h
-    acts piece.EnlivenNow todo e o h = steps.go_in source seats up H s st.env old _ _ _ (kept.enlivened_keeps source seats up (piece.own_exec s) s.env st.env) h
-    acts piece.TakeDownNow todo e o h = steps.moved source seats up H s st.env old _ todo _ h (kept.take_down_rests source seats up (piece.own_exec s) (at todo s.run.operands s) (at_full _ _ (full (piece.TakeDownNow ∷ todo) e (λ z. z))))
-    acts piece.ForgetNow todo e o h = steps.go_in source seats up H s st.env old _ _ _ (kept.forgotten_keeps source seats up (piece.own_exec s) s.env st.env) h
-    acts (piece.LiveNow r) todo e o h = steps.live source seats up H s st.env old (slice_get source.routines r) todo h
-    acts piece.ResumeNow todo e o h = steps.moved source seats up H s st.env old _ (piece.Land ∷ todo) _ h (kept.wake_rests source seats up (quiet.resumed s) (at (piece.Land ∷ todo) s.run.operands s) (at_full _ _ (full (piece.ResumeNow ∷ todo) e (λ z. z))))
-    acts piece.SuspendNow todo e o h = steps.moved source seats up H s st.env old _ (piece.Land ∷ todo) _ h (kept.suspend_rests source seats up (at (piece.Land ∷ todo) s.run.operands s) (at_full _ _ (full (piece.SuspendNow ∷ todo) e (λ z. z))))
-    acts piece.Land todo e o h = steps.land source seats up H s st.env old s.run.raised todo h
-    acts (piece.EnterNow m r) todo e o h = steps.enter source seats up H s st.env old m (slice_get source.routines r) todo h
-    acts piece.LeaveNow todo e o h = steps.leave source seats up H s st.env old _ (monitors.this_object s) todo h
-    acts (piece.MakeNow k r) todo e o h = steps.make source seats up H s st.env old k r (slice_get source.routines r) todo h
-    acts (piece.BindMadeNow k r) todo e o h = steps.bind source seats up H s st.env old (slice_get source.routines r) todo h
-    acts piece.MadeNow todo e o h = steps.unless source seats up H s st.env old (monitors.this_object s) _ todo h (steps.go_in source seats up H s st.env old _ _ _ (steps.same source seats up H s st.env old refl refl refl refl) h)
-    acts (piece.SpawnNow r) todo e o h = steps.unless source seats up H s st.env old (monitors.this_object s) _ (piece.ChildNow r ∷ todo) h (steps.go_in source seats up H s st.env old _ _ _ (steps.same source seats up H s st.env old refl refl refl refl) h)
-    acts piece.GoneNow todo e o h = steps.go_in source seats up H s st.env old _ _ _ (steps.same source seats up H s st.env old refl refl refl refl) h
-    acts piece.GiveUpNow todo e o h = steps.go_in source seats up H s st.env old _ _ _ (steps.same source seats up H s st.env old refl refl refl refl) h
-    acts (piece.ConditionNow k m) todo e o h = steps.condition source seats up H s st.env old k _ todo h
-    acts piece.WaitNow todo e o h = steps.unless source seats up H s st.env old (monitors.this_object s) _ todo h (go _ _ h)
-    acts piece.SignalBlockNow todo e o h = steps.unless source seats up H s st.env old (monitors.this_object s) _ todo h (go _ _ h)
+    acts piece.Unwind [] e o h = steps.leaves source seats up H s st.env st.named old s.callers (popped (piece.Unwind ∷ []) e (λ x z. absurd z) o) h
+    acts piece.Unwind (p ∷ ps) e o h = steps.unwinds source seats up H s st.env st.named old p ps (λ f. at_full _ _ (λ x u q. no_main x (piece.sort p) ps (Behind x ps) f (split_in x p ps (full (piece.Unwind ∷ (p ∷ ps)) e (λ y. f) x u q)))) h
+    acts piece.ThrowNow todo e o h = steps.throws source seats up H s st.env st.named old (raising.event_in s.run.operands) todo h
+    acts piece.RaiseNow todo e o h = steps.raises source seats up H s st.env st.named old (raising.event_in s.run.operands) todo h
+    acts (piece.SetUpNow r) todo e o h = steps.set_up source seats up H s st.env st.named old (slice_get source.routines r) todo o h
+    acts piece.EnlivenNow todo e o h = steps.go_in source seats up H s st.env st.named old _ _ _ (kept.enlivened_keeps source seats up (piece.own_exec s) s.env st.env) h
+    acts piece.TakeDownNow todo e o h = steps.moved source seats up H s st.env st.named old _ todo _ h (kept.take_down_rests source seats up (piece.own_exec s) (at todo s.run.operands s) (at_full _ _ (full (piece.TakeDownNow ∷ todo) e (λ x z. z))))
+    acts piece.ForgetNow todo e o h = steps.go_in source seats up H s st.env st.named old _ _ _ (kept.forgotten_keeps source seats up (piece.own_exec s) s.env st.env) h
+    acts (piece.LiveNow r) todo e o h = steps.live source seats up H s st.env st.named old (slice_get source.routines r) todo h
+    acts piece.ResumeNow todo e o h = steps.moved source seats up H s st.env st.named old _ (piece.Land ∷ todo) _ h (kept.wake_rests source seats up (quiet.resumed s) (at (piece.Land ∷ todo) s.run.operands s) (at_full _ _ (full (piece.ResumeNow ∷ todo) e (λ x z. z))))
+    acts piece.SuspendNow todo e o h = steps.moved source seats up H s st.env st.named old _ (piece.Land ∷ todo) _ h (kept.suspend_rests source seats up (at (piece.Land ∷ todo) s.run.operands s) (at_full _ _ (full (piece.SuspendNow ∷ todo) e (λ x z. z))))
+    acts piece.Land todo e o h = steps.land source seats up H s st.env st.named old s.run.raised todo h
+    acts (piece.EnterNow m r) todo e o h = steps.enter source seats up H s st.env st.named old m (slice_get source.routines r) todo h
+    acts piece.LeaveNow todo e o h = steps.leave source seats up H s st.env st.named old _ (monitors.this_object s) todo h
+    acts (piece.MakeNow k r) todo e o h = steps.make source seats up H s st.env st.named old k r (slice_get source.routines r) todo h
+    acts (piece.BindMadeNow k r) todo e o h = steps.bind source seats up H s st.env st.named old (slice_get source.routines r) todo h
+    acts piece.MadeNow todo e o h = steps.unless source seats up H s st.env st.named old (monitors.this_object s) _ todo h (steps.go_in source seats up H s st.env st.named old _ _ _ (steps.same source seats up H s st.env st.named old refl refl refl refl refl) h)
+    acts (piece.SpawnNow r) todo e o h = steps.unless source seats up H s st.env st.named old (monitors.this_object s) _ (piece.ChildNow r ∷ todo) h (steps.go_in source seats up H s st.env st.named old _ _ _ (steps.same source seats up H s st.env st.named old refl refl refl refl refl) h)
+    acts piece.GoneNow todo e o h = steps.go_in source seats up H s st.env st.named old _ _ _ (steps.same source seats up H s st.env st.named old refl refl refl refl refl) h
+    acts piece.GiveUpNow todo e o h = steps.go_in source seats up H s st.env st.named old _ _ _ (steps.same source seats up H s st.env st.named old refl refl refl refl refl) h
+    acts (piece.ConditionNow k m) todo e o h = steps.condition source seats up H s st.env st.named old k _ todo h
+    acts piece.WaitNow todo e o h = steps.unless source seats up H s st.env st.named old (monitors.this_object s) _ todo h (go _ _ h)
+    acts piece.SignalBlockNow todo e o h = steps.unless source seats up H s st.env st.named old (monitors.this_object s) _ todo h (go _ _ h)
     acts (piece.Guards src.NoClauses) todo e o h = go _ _ h
     acts (piece.Guards (src.Otherwise b)) todo e o h = go _ _ h
     acts (piece.Guards (src.MoreClauses guard b cs)) todo e o h = go _ _ h
-    acts (piece.AcceptNow site m) todo e o h = steps.accept_by source seats up H s st.env old (monitors.mask_of (take_operands piece.Nothing m s.run.operands [])) (monitors.this_object s) site todo (drop m s.run.operands) h
-    acts piece.FailedNow todo e o h = steps.failed source seats up H s st.env old _ todo _ h
+    acts (piece.AcceptNow site m) todo e o h = steps.accept_by source seats up H s st.env st.named old (monitors.mask_of (take_operands piece.Nothing m s.run.operands [])) (monitors.this_object s) site todo (drop m s.run.operands) h
+    acts piece.FailedNow todo e o h = steps.failed source seats up H s st.env st.named old _ todo _ h
     acts (piece.ChooseNow cs) todo e o h = go _ _ (steps.branch source seats up H s.env.exec s.run.frame s.run.this s.run.elements s.callers (λ x. Held source (seats.seat x) (seats.before x) s.env.exec s.callers) _ cs todo h)
-    acts piece.RaiseAtNow todo e o h = steps.raise_at source seats up H s st.env old (top s.run.operands) (raising.event_in (piece.below s.run.operands)) todo (drop 4 s.run.operands) h
-    acts (piece.EnableNow events cell) todo e o h = steps.enables source seats up H s st.env old _ cell todo h
-    acts (piece.DisableNow events cell) todo e o h = steps.enables source seats up H s st.env old _ cell todo h
-    acts (piece.RestoreNow cell) todo e o h = steps.go_in source seats up H s st.env old _ _ _ (steps.same source seats up H s st.env old refl refl refl refl) h
-    acts piece.PollNow todo e o h = steps.poll source seats up H s st.env old todo h
-    acts piece.DeliverNow todo e o h = steps.deliver source seats up H s st.env old _ todo h
-    acts piece.Finish todo e o h = steps.unless source seats up H s st.env old s.env.own _ todo h (steps.returned source seats up H s st.env old _ s.callers (steps.lines source seats up H s.env.exec s.run.frame s.run.this s.run.elements s.callers (λ x. Held source (seats.seat x) (seats.before x) s.env.exec s.callers) todo o h))
-    acts piece.FinishCoroutine todo e o h = steps.moved source seats up H s st.env old _ todo _ h (kept.finish_rests source seats up (at todo s.run.operands s) (at_full _ _ (full (piece.FinishCoroutine ∷ todo) e (λ z. z))))
+    acts piece.RaiseAtNow todo e o h = steps.raise_at source seats up H s st.env st.named old (top s.run.operands) (raising.event_in (piece.below s.run.operands)) todo (drop 4 s.run.operands) h
+    acts (piece.EnableNow events cell) todo e o h = steps.enables source seats up H s st.env st.named old _ cell todo h
+    acts (piece.DisableNow events cell) todo e o h = steps.enables source seats up H s st.env st.named old _ cell todo h
+    acts (piece.RestoreNow cell) todo e o h = steps.go_in source seats up H s st.env st.named old _ _ _ (steps.same source seats up H s st.env st.named old refl refl refl refl refl) h
+    acts piece.PollNow todo e o h = steps.poll source seats up H s st.env st.named old todo h
+    acts piece.DeliverNow todo e o h = steps.deliver source seats up H s st.env st.named old _ todo h
+    acts piece.Finish todo e o h = steps.unless source seats up H s st.env st.named old s.env.own _ todo h (steps.returned source seats up H s st.env st.named old _ s.callers (popped (piece.Finish ∷ todo) e (λ x z. absurd z) o.1) (steps.lines source seats up H s.env.exec s.run.frame s.run.this s.run.elements s.callers (λ x. Held source (seats.seat x) (seats.before x) s.env.exec s.callers) todo o.0 h))
+    acts piece.FinishCoroutine todo e o h = steps.moved source seats up H s st.env st.named old _ todo _ h (kept.finish_rests source seats up (at todo s.run.operands s) (at_full _ _ (full (piece.FinishCoroutine ∷ todo) e (λ x z. z))))
     acts p todo e o h = go _ _ h
 
     stepped : TakesNow source seats up s → WStep (quiet.quiet source s)
     stepped o = by s.run.control refl
       where
         by : (l : List Todo) → s.run.control ≡ l → WStep (quiet.act_todo source l s)
-        by [] e = steps.returned source seats up H s st.env old _ s.callers (λ x u p q. subst (KeptIn x) e q.1)
+        by [] e = steps.returned source seats up H s st.env st.named old _ s.callers (popped [] e (λ x z. z) (subst (λ l. TakesAt source seats up l s) e o)) (λ x u p q. subst (KeptIn x) e q.1)
         by (p ∷ todo) e = acts p todo e (subst (λ l. TakesAt source seats up l s) e o) (λ x u w q. subst (KeptIn x) e q.1)
 
     -- what was held soon is, and what is taken away
@@ -306,25 +336,28 @@ module _ (source : Source) (seats : Seating) (up : Exec → Bool) (s : State) wh
         by (inr h) = absurd (gone_by x (u, p) s.run.control o h)
 
     module _ (o : TakesNow source seats up s) where
-      goes_on : (u : State) → steps.Done source seats up H s st.env old u → ((x : Exec) → Next x (quiet.quiet source s) → Next x (Goes u)) → HeldState source seats up u
-      goes_on u (inr f) g = record { soon = λ x v p. inl (zero, (zero, f.stack x v p)); env = f.env }
+      goes_on : (u : State) → steps.Done source seats up H s st.env st.named old u → ((x : Exec) → Next x (quiet.quiet source s) → Next x (Goes u)) → HeldState source seats up u
+      goes_on u (inr f) g = record { soon = λ x v p. inl (zero, (zero, f.stack x v p)); named = f.named; env = f.env }
       goes_on u (inl w) g = record {
         soon = λ x v p. subst (λ n. SoonHere source (seats.seat x) (seats.before x) n u) (sym w.exec) (⊎_elim (λ l. (g x l).1) (λ h. inl (zero, (zero, w.stack x v (p ∙ w.exec) h))) (told o x v (p ∙ w.exec)));
+        named = subst (λ n. AllNamed source seats up n u.callers u.env.frames) (sym w.exec) w.named;
         env = w.env;
       }
 
-      ticks_on : (u : State) → steps.Done source seats up H s st.env old u → ((x : Exec) → Next x (quiet.quiet source s) → Next x (Ticks u)) → HeldAsked source seats up JustGo u
-      ticks_on u (inr f) g = record { soon = λ x v p. inl (f.stack x v p); env = f.env }
+      ticks_on : (u : State) → steps.Done source seats up H s st.env st.named old u → ((x : Exec) → Next x (quiet.quiet source s) → Next x (Ticks u)) → HeldAsked source seats up JustGo u
+      ticks_on u (inr f) g = record { soon = λ x v p. inl (f.stack x v p); named = f.named; env = f.env }
       ticks_on u (inl w) g = record {
         soon = λ x v p. subst (λ n. SoonAsked source (seats.seat x) (seats.before x) n JustGo u.run u.callers) (sym w.exec) (⊎_elim (λ l. inr (refl, (g x l).1)) (λ h. inl (w.stack x v (p ∙ w.exec) h)) (told o x v (p ∙ w.exec)));
+        named = subst (λ n. AllNamed source seats up n u.callers u.env.frames) (sym w.exec) w.named;
         env = w.env;
       }
 
-      asks_on : (r : Request) (u : State) → steps.Done source seats up H s st.env old u → ((x : Exec) → Next x (quiet.quiet source s) → Next x (Asks r u)) → HeldAsk source seats up r u
+      asks_on : (r : Request) (u : State) → steps.Done source seats up H s st.env st.named old u → ((x : Exec) → Next x (quiet.quiet source s) → Next x (Asks r u)) → HeldAsk source seats up r u
       asks_on (ask.Fault m) u d g = tt
-      asks_on r u (inr f) g = record { soon = λ x v p. inl (f.stack x v p); env = f.env }
+      asks_on r u (inr f) g = record { soon = λ x v p. inl (f.stack x v p); named = f.named; env = f.env }
       asks_on r u (inl w) g = record {
         soon = λ x v p. subst (λ n. SoonAsked source (seats.seat x) (seats.before x) n (form_of_request r) u.run u.callers) (sym w.exec) (⊎_elim (λ l. inr ((g x l).0, (g x l).2)) (λ h. inl (w.stack x v (p ∙ w.exec) h)) (told o x v (p ∙ w.exec)));
+        named = subst (λ n. AllNamed source seats up n u.callers u.env.frames) (sym w.exec) w.named;
         env = w.env;
       }
 
@@ -350,18 +383,19 @@ module _ (source : Source) (seats : Seating) (up : Exec → Bool) where
   module _ (form : Form) (s : State) (h : HeldAsked source seats up form s) where
     -- with other operands
     with_operands : (given : Answer) (vs : List Value) → IsForm form given → (IsForm JustGo given → ⊥) → HeldAsked source seats up JustGo (record s { run = record s.run { operands = vs } })
-    with_operands given vs i f = record { soon = λ x u p. inl (held_now form given s.env.exec s.run s.callers x i f (h.soon x u p)); env = h.env }
+    with_operands given vs i f = record { soon = λ x u p. inl (held_now form given s.env.exec s.run s.callers x i f (h.soon x u p)); named = h.named; env = h.env }
 
     entered_there : (m : Option Members) (o : ℕ) → IsForm form (answer.Object o) → MembersBy (HeldEx source seats up) (home.Object o) m → HeldAsked source seats up JustGo (with_operand (piece.Object o) (entered m o s))
     entered_there None o i k = with_operands (answer.Object o) _ i (λ z. z)
     entered_there (Some m) o i k = record {
       soon = λ x u p. inl (held_now form (answer.Object o) s.env.exec s.run s.callers x i (λ z. z) (h.soon x u p));
+      named = h.named;
       env = record { house = h.env.house; hand = parked.more_hand (HeldEx source seats up) s.env.hand o m k h.env.hand };
     }
 
     -- a bare answer changes nothing
     gone_on : HeldAsked source seats up JustGo s
-    gone_on = record { soon = λ x u p. ⊎_elim (λ k. inl k) (λ k. inr (refl, k.1)) (h.soon x u p); env = h.env }
+    gone_on = record { soon = λ x u p. ⊎_elim (λ k. inl k) (λ k. inr (refl, k.1)) (h.soon x u p); named = h.named; env = h.env }
 
     pub answered_there : (given : Answer) → IsForm form given → HeldAsked source seats up JustGo (answered source given s)
     answered_there (answer.Object o) i = entered_there (new_members source s.run.control) o i (new_there o s.run.control)
@@ -374,7 +408,7 @@ module _ (source : Source) (seats : Seating) (up : Exec → Bool) where
 
   -- who rests so goes on
   pub rested : (s : State) → HeldAsked source seats up JustGo s → HeldState source seats up s
-  rested s h = record { soon = λ x u p. inl (zero, by x (h.soon x u p)); env = h.env }
+  rested s h = record { soon = λ x u p. inl (zero, by x (h.soon x u p)); named = h.named; env = h.env }
     where
       by : (x : Exec) → SoonAsked source (seats.seat x) (seats.before x) s.env.exec JustGo s.run s.callers → Soon source (seats.seat x) (seats.before x) s.env.exec s.run s.callers
       by x (inl k) = (zero, k)

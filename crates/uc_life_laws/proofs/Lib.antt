@@ -51,6 +51,7 @@ pub mod CoverKeeping
 pub mod CoverSteps
 pub mod CoverWalk
 pub mod Claims
+pub mod FirstCells
 pub mod HeldKeeping
 pub mod HeldSteps
 pub mod HeldWalk

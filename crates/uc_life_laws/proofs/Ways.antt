@@ -1,23 +1,26 @@
 -- Steps that take marks away lead to where those that these held are held.
 use Rattle.std.proofs.Common.{◌≡◌, ℕ, zero, suc, ◌<◌, ◌≤◌, inl, inr, ⊎_elim, Bool, true, false, List, [], ◌∷◌, refl, sym, ap, ◌∙◌, subst, arith}
-use Rattle.std.specs.Prelude.{nat_lt, min, ◌+◌}
+use Rattle.std.specs.Prelude.{nat_lt, min, ◌+◌, if◌then◌else◌, slice_index_or}
 use Rattle.std.proofs.lemmas.Bool.{cases_lt}
 use Rattle.uc_tree.specs.Source as src
 use Rattle.uc_tree.specs.Source.{Source, Expr, CleanUp, Way}
 use Rattle.uc_machine.specs.declared.exec.Exec.{Exec}
+use Rattle.uc_machine.specs.declared.exec.Owner.TheVariants.{Frame, Fields}
+use Rattle.uc_machine.specs.Executions.{at_depth, list_in, frames_in, parked_at}
 use Rattle.uc_machine.specs.Raising as raising
 use Rattle.uc_machine.specs.Quiet as quiet
 use Rattle.uc_machine.specs.Quiet.{MOST_ELEMENTS}
 use Rattle.uc_machine.specs.Pieces as piece
-use Rattle.uc_machine.specs.Pieces.{Value, Todo, Sort, Active, State, Step, at}
+use Rattle.uc_machine.specs.Pieces.{Value, Number, Place, Running, Object, Nothing, Todo, Sort, Active, State, Step, address, at, exec_in, loaded, nought}
 use Rattle.uc_life_laws.specs.Placed.{placed, stacked, Ends}
 use Rattle.uc_life_laws.specs.Destroying.{CleansUp, EndsBelow, EndsElement}
-use Rattle.uc_life_laws.specs.Held.{Seating, IsOuter, HeldBy, HeldIn, Held, Onwards, Soon, SoonHere, IsOwn, LeadsSoon, HoldsNow, Takes, OfCounted, HoldsCounted, TakesAt}
-use Rattle.uc_life_laws.specs.Ways.{ReadsLast, ForgetsBy, UnwindsBy, ExitsBy, LeavesAt, LawWays}
+use Rattle.uc_life_laws.specs.Held.{Seating, NamedAt, HeldState, IsOuter, HeldBy, HeldIn, Held, Onwards, Soon, SoonHere, IsOwn, LeadsSoon, HoldsNow, Takes, OfCounted, HoldsCounted, TakesAt}
+use Rattle.uc_life_laws.specs.Ways.{NamesHere, ReadsLast, ForgetsBy, UnwindsBy, ExitsBy, LeavesAt, LawWays}
 use Rattle.uc_life_laws.proofs.HeldLaws.{outer_ends}
+use Rattle.uc_life_laws.proofs.LifeSteps.{exec_same}
 use Rattle.uc_life_laws.proofs.WaysEnds as ends
 
-module _ (source : Source) (seats : Seating) (up : Exec → Bool) (s : State) where
+module _ (source : Source) (seats : Seating) (up : Exec → Bool) (s : State) (st : HeldState source seats up s) where
   module _ (x : Exec) where
     abbrev Now : Active → Type 0
     Now b = Soon source (seats.seat x) (seats.before x) s.env.exec b s.callers
@@ -32,11 +35,25 @@ module _ (source : Source) (seats : Seating) (up : Exec → Bool) (s : State) wh
     outside : (k : Sort) (todo : List Todo) → IsOuter source (seats.seat x) (seats.before x) s.env.exec s.run.frame s.run.this k todo s.callers → Outer todo
     outside k todo h = outer_ends source (seats.seat x) (seats.before x) s.env.exec s.run.frame s.run.this s.callers k todo h
 
+    -- the first cell of the coroutine at hand names it
+    names_by : (v : Value) → NamedAt s.env.exec s.callers s.env.frames x v → s.run.this ≡ v → NamesHere x s v
+    names_by (Place (Frame m d) p) h e =
+        let mine : Place (Frame m d) p ≡ Place (Frame s.env.exec d) p = ap (λ k. Place (Frame k d) p) h.own in
+        (ap (λ v. exec_in (loaded v s.env)) (e ∙ mine) ∙ (ap (λ (b : Bool). exec_in (slice_index_or (list_in (at_depth (if b then s.env.frames else frames_in (parked_at s.env.exec s.env)) d)) (address p) nought)) (exec_same s.env.exec) ∙ ap exec_in h.names), h.home)
+    names_by (Place (Fields o) p) h e = tt
+    names_by (Number z) h e = tt
+    names_by (Running y) h e = tt
+    names_by (Object o) h e = tt
+    names_by Nothing h e = tt
+
+    names : s.run.this ≡ (seats.seat x).place → NamedAt s.env.exec s.callers s.env.frames x (seats.seat x).place → NamesHere x s s.run.this
+    names e h = subst (NamesHere x s) (sym e) (names_by (seats.seat x).place h e)
+
     -- what is done at a clean-up, with these operands, before the rest
     cleaned : IsOwn source seats up s x → (c : CleanUp) (rest : List Todo) (vs : List Value) → quiet.quiet source s ≡ piece.Goes (at (piece.clean_todo c rest) vs s) → CleansUp source (seats.seat x) s.env.exec s.run.frame s.run.this c → Outer rest → ForgetsBy source seats up c s → LeadsSoon source seats up s x
     cleaned own (src.Destroys e) rest vs q h o g = subst Leads (sym q) (refl, ends.ends_at source seats up x s (piece.DropNow ∷ rest) o e vs h (g x own))
     cleaned own (src.DestroysAll m e) rest vs q h o g = subst Leads (sym q) (refl, inl (0, (1, (tt, o, λ v p. (p, inl (h, o))))))
-    cleaned own src.Forgets rest vs q h o g = absurd (g x own h.0 h.1)
+    cleaned own src.Forgets rest vs q h o g = absurd (g x own h.0 h.1 (names h.1 (st.named x own.0 own.1 h.0)))
     cleaned own src.Ends rest vs q h o g = subst Leads (sym q) (refl, inr (h.0, h.1, o))
     cleaned own c rest vs q h o g = absurd h
 
@@ -124,4 +141,4 @@ module _ (source : Source) (seats : Seating) (up : Exec → Bool) (s : State) wh
   taken l e g = g
 
 pub law_ways : LawWays
-law_ways source seats up s g = taken source seats up s s.run.control refl g
+law_ways source seats up s st g = taken source seats up s st s.run.control refl g

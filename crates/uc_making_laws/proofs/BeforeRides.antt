@@ -25,15 +25,20 @@ use Rattle.uc_name_laws.specs.NameSteps as names
 use Rattle.uc_life_laws.proofs.NamedWorlds.{run_named, known}
 use Rattle.uc_typing.specs.Typing.{Table}
 use Rattle.uc_life_laws.specs.Things.{Few}
+use Rattle.uc_machine.specs.Switches.{without}
+use Rattle.uc_life_laws.specs.LifeStates.{EnvBy}
 use Rattle.uc_life_laws.specs.Knowing.{KnowsState}
+use Rattle.uc_life_laws.specs.Ending.{LoneBefore}
 use Rattle.uc_life_laws.specs.OwnNames.{IsOwn, StepOwn, StaysOwn}
 use Rattle.uc_life_laws.proofs.OwnNamesLemmas.{law_own_names}
 use Rattle.uc_life_laws.specs.Belonging.{Belongs}
 use Rattle.uc_life_laws.specs.Marks.{Marked, Free, Outward, AllLone, LoneState, LoneStep, Puts}
-use Rattle.uc_life_laws.specs.Rooted.{StandsUpwards}
 use Rattle.uc_life_laws.proofs.UnmarkedWalk.{law_steps}
 use Rattle.uc_life_laws.proofs.UnmarkedWorlds.{law_runs}
 use Rattle.uc_apart_laws.specs.Before.{world_at, Before, BeforeAt, NowhereBefore}
+use Rattle.uc_apart_laws.specs.Clear.{ClearEx}
+use Rattle.uc_apart_laws.specs.Nowhere.{AroundUpwards}
+use Rattle.uc_putting_laws.specs.LoneObjects.{LoneObjectAt, LoneObject}
 use Rattle.uc_rooted_runs.specs.FreshStates.{FreshEnv, FreshStep}
 use Rattle.uc_rooted_runs.specs.Binds.{BindsOwn}
 use Rattle.uc_rooted_runs.specs.Mains.{FindsAll}
@@ -46,8 +51,8 @@ use Rattle.uc_rooted_runs.proofs.MainRuns.{law_mains}
 use Rattle.uc_making_laws.specs.OwnThis.{ThisState}
 use Rattle.uc_making_laws.specs.RideWhile.{RideWhile}
 use Rattle.uc_making_laws.specs.Upheld.{UpheldAt}
-use Rattle.uc_making_laws.specs.BeforeRides.{IsStoodOnWay, IsRootedOnWay, RootedOnWay, RootedOnWayBy, RaisesUpwards, RaisesUpwardsBy, LawBeforeRides}
-use Rattle.uc_making_laws.proofs.BeforeWorlds.{before as nowhere_before, upwards as upwards_there}
+use Rattle.uc_making_laws.specs.BeforeRides.{HasNoHome, IsRootedOnWay, RootedOnWay, RootedOnWayBy, RaisesUpwards, RaisesUpwardsBy, LawBeforeRides}
+use Rattle.uc_making_laws.proofs.BeforeWorlds.{clear as clear_of, before as nowhere_before, upwards as upwards_there}
 use Rattle.uc_making_laws.proofs.ThisRuns.{law_this_runs}
 use Rattle.uc_making_laws.proofs.Upheld.{own_at, ends, law_upheld}
 
@@ -83,15 +88,15 @@ module _ (t : Table) (few : Few) (source : Source) where
     )
     ride_fresh (asks {s} e) b f g own h = h
 
-  module _ (Sparing Lone This Fresh Up Rooted Goal : State → Type 0) (one : (v : State) → Lone v → This v → Fresh v → Up v → Rooted v → Goal v) where
-    ride_all : {s u : State} {q k : ℕ} {a : Asked} (r : Rides source s q u k a) → RideMeets Lone source s q u k a r → RideMeets This source s q u k a r → RideWhile Sparing Fresh source s q u k a r → RideWhile Sparing Up source s q u k a r → RideMeets Rooted source s q u k a r → RideWhile Sparing Goal source s q u k a r
-    ride_all slices l h f m b = tt
-    ride_all (goes_on {s} e r) l h f m b = (one s l.0 h.0 f.0 m.0 b.0, λ x. ride_all r l.1 h.1 (f.1 x) (m.1 x) b.1)
-    ride_all (ticks {s} e r) l h f m b = (one s l.0 h.0 f.0 m.0 b.0, λ x. ride_all r l.1 h.1 (f.1 x) (m.1 x) b.1)
-    ride_all (asks {s} e) l h f m b = one s l h f m b
+  module _ (Sparing Lone Object This Fresh Up Rooted Goal : State → Type 0) (one : (v : State) → Lone v → Object v → This v → Fresh v → Up v → Rooted v → Goal v) where
+    ride_all : {s u : State} {q k : ℕ} {a : Asked} (r : Rides source s q u k a) → RideMeets Lone source s q u k a r → RideMeets Object source s q u k a r → RideMeets This source s q u k a r → RideWhile Sparing Fresh source s q u k a r → RideWhile Sparing Up source s q u k a r → RideMeets Rooted source s q u k a r → RideWhile Sparing Goal source s q u k a r
+    ride_all slices l o h f m b = tt
+    ride_all (goes_on {s} e r) l o h f m b = (one s l.0 o.0 h.0 f.0 m.0 b.0, λ x. ride_all r l.1 o.1 h.1 (f.1 x) (m.1 x) b.1)
+    ride_all (ticks {s} e r) l o h f m b = (one s l.0 o.0 h.0 f.0 m.0 b.0, λ x. ride_all r l.1 o.1 h.1 (f.1 x) (m.1 x) b.1)
+    ride_all (asks {s} e) l o h f m b = one s l o h f m b
 
 pub law_before_rides : LawBeforeRides
-law_before_rides t few own yet source input opts j w r range fits on zero main leaves spares binds mains finds puts this p u n s q d bound mained found put has b homes kept gone keeps rooted =
+law_before_rides t few source input opts j w r range fits on zero leaves spares binds mains finds puts this p u n s q d bound mained found put objects has b homes kept gone keeps rooted =
     let all = law_own_names source input opts j w r range fits on leaves spares in
     let rests = run_rests source input opts range r fits on in
     let y = run_named source input opts range r fits on in
@@ -106,24 +111,30 @@ law_before_rides t few own yet source input opts j w r range fits on zero main l
     let these = law_this_runs t few source input opts (j ++ act opts source.sites input j p u n q) (world_after source (act opts source.sites input j p u n q) w u s) longer (this, has) in
     let worlds = law_this_runs t few source input opts j w r this in
     let up = law_upheld.upheld homes source input opts j w r range fits on leaves spares mains p u n s q d mained b kept gone keeps in
-    ride_all t few source names.Spares (LoneState t few) (ThisState t few) (λ v. FreshEnv v.env) (UpheldAt (with_homes homes b.makers) (way_still source input opts r d) source j w u) (λ v. RootedOnWay t few own yet (with_homes homes b.makers) j w u v source) (λ v. Before t few j w u v source × RaisesUpwards t few own yet b.makers.rank j w u v) (λ v l h f m g.
-    at_state v l (λ q x e o k belongs free. nowhere_before t few source j w u lt all.later (all.elsewhere u lt) lone.world (worlds.world on) v l h f (with_homes homes b.makers) (way_still source input opts r d) m (m.last q x e) zero own yet main o k belongs free) (λ q x e k. upwards_there t few source j w u lt all.later (all.elsewhere u lt) lone.world (worlds.world on) v l h f (with_homes homes b.makers) (way_still source input opts r d) m (m.last q x e) own yet main k) g) d.rides (ride_lone t few source d.rides put lone_start) these.rides.1 fresh_ride up rooted
+    ride_all t few source names.Spares (LoneState t few) (LoneObject t few source) (ThisState t few) (λ v. FreshEnv v.env) (UpheldAt (with_homes homes b.makers) (way_still source input opts r d) source j w u) (λ v. RootedOnWay t few (with_homes homes b.makers) j w u v source) (λ v. Before t few j w u v source × RaisesUpwards t few b.makers.rank j w u v) (λ v l object h f m g.
+    at_state v l object (λ o belongs free k. clear_of t few source j w u lt all.later (all.elsewhere u lt) lone.world (worlds.world on) v l h f (with_homes homes b.makers) (way_still source input opts r d) m o belongs free zero k) (λ q x e o k belongs free. nowhere_before t few source j w u lt all.later (all.elsewhere u lt) lone.world (worlds.world on) v l h f (with_homes homes b.makers) (way_still source input opts r d) m (m.last q x e) zero o k belongs free) (λ q x e o k. upwards_there t few source j w u lt all.later (all.elsewhere u lt) lone.world (worlds.world on) v l h f (with_homes homes b.makers) (way_still source input opts r d) m (m.last q x e) o k) g) d.rides (ride_lone t few source d.rides put lone_start) objects these.rides.1 fresh_ride up rooted
   where
-    at_state : (v : State) → LoneState t few v → ((q : Request) (x : State) → quiet source v ≡ piece.Asks q x → (o : ℕ) → IsRootedOnWay t few own yet (with_homes homes b.makers) j w u v o → Belongs few v.env.exec (few.home o) → Free t few o (Marked t v.env.exec (v.run ∷ v.callers)) → NowhereBefore t few j w u v o) → ((q : Request) (x : State) → quiet source v ≡ piece.Asks q x → IsStoodOnWay t few own yet (with_homes homes b.makers) j w u v → StandsUpwards t few j (world_at w u v) own yet b.makers.rank) → RootedOnWay t few own yet (with_homes homes b.makers) j w u v source → Before t few j w u v source × RaisesUpwards t few own yet b.makers.rank j w u v
-    at_state v l f up g = (by v.run.control refl g l.stack.0, raises v.run.control refl g)
+    at_state : (v : State) → LoneState t few v → LoneObject t few source v → ((o : ℕ) → Belongs few v.env.exec (few.home o) → Free t few o (Marked t v.env.exec (v.run ∷ v.callers)) → EnvBy (HasNoHome t few o) (record v.env { hand = without o v.env.hand }) → EnvBy (ClearEx t few o) (record v.env { hand = without o v.env.hand })) → ((q : Request) (x : State) → quiet source v ≡ piece.Asks q x → (o : ℕ) → IsRootedOnWay t few (with_homes homes b.makers) j w u v o → Belongs few v.env.exec (few.home o) → Free t few o (Marked t v.env.exec (v.run ∷ v.callers)) → NowhereBefore t few j w u v o) → ((q : Request) (x : State) → quiet source v ≡ piece.Asks q x → (o : ℕ) → IsRootedOnWay t few (with_homes homes b.makers) j w u v o → AroundUpwards t few j (world_at w u v) b.makers.rank o) → RootedOnWay t few (with_homes homes b.makers) j w u v source → Before t few j w u v source × RaisesUpwards t few b.makers.rank j w u v
+    at_state v l y clear f up g = (by v.run.control refl g l.stack.0 y, raises v.run.control refl g)
       where
-        raises : (todo : List Todo) → v.run.control ≡ todo → RootedOnWayBy t few own yet (with_homes homes b.makers) j w u v source todo → RaisesUpwardsBy t few own yet b.makers.rank j w u v todo
-        raises (piece.RaiseAtNow ∷ todo) i h = λ o e. up _ _ (ap (λ l. act_todo source l v) i ∙ ap (λ y. raise_at_step y (event_in (below v.run.operands)) todo (drop 4 v.run.operands) v) e) (h o e)
+        raises : (todo : List Todo) → v.run.control ≡ todo → RootedOnWayBy t few (with_homes homes b.makers) j w u v source todo → RaisesUpwardsBy t few b.makers.rank j w u v todo
+        raises (piece.RaiseAtNow ∷ todo) i h = λ o e none made there. up _ _ (ap (λ l. act_todo source l v) i ∙ ap (λ y. raise_at_step y (event_in (below v.run.operands)) todo (drop 4 v.run.operands) v) e) o (h o e none made there)
         raises (p ∷ todo) i h = tt
         raises [] i h = tt
 
-        by : (todo : List Todo) → v.run.control ≡ todo → RootedOnWayBy t few own yet (with_homes homes b.makers) j w u v source todo → AllLone t few v.env.exec v.run.frame v.run.this v.callers v.run.control → (k : KnowsState t few [] v) → BeforeAt t few j w u v source k v.run.control
-        by (piece.GoneNow ∷ todo) e h k known =
+        by : (todo : List Todo) → v.run.control ≡ todo → RootedOnWayBy t few (with_homes homes b.makers) j w u v source todo → AllLone t few v.env.exec v.run.frame v.run.this v.callers v.run.control → LoneObject t few source v → (k : KnowsState t few [] v) → BeforeAt t few j w u v source k v.run.control
+        by (piece.GoneNow ∷ todo) e h k object known =
             let at : AllLone t few v.env.exec v.run.frame v.run.this v.callers (piece.GoneNow ∷ todo) = subst (AllLone t few v.env.exec v.run.frame v.run.this v.callers) e k in
             subst (λ c. BeforeAt t few j w u v source known c) (sym e) (f _ _ (ap (λ l. act_todo source l v) e) (this_object v) h at.0.0 (freed t few v.env.exec v.run v.callers (piece.GoneNow ∷ todo) (piece.GoneNow ∷ todo) (this_object v) refl at.0.1 e))
-        by (piece.GiveUpNow ∷ todo) e h k known =
+        by (piece.GiveUpNow ∷ todo) e h k object known =
             let at : AllLone t few v.env.exec v.run.frame v.run.this v.callers (piece.GiveUpNow ∷ todo) = subst (AllLone t few v.env.exec v.run.frame v.run.this v.callers) e k in
             subst (λ c. BeforeAt t few j w u v source known c) (sym e) (f _ _ (ap (λ l. act_todo source l v) e) (this_object v) h at.0.0 (freed t few v.env.exec v.run v.callers (piece.GiveUpNow ∷ todo) (piece.GiveUpNow ∷ todo) (this_object v) refl at.0.1 e))
-        by (piece.RaiseAtNow ∷ todo) e h k known = subst (λ c. BeforeAt t few j w u v source known c) (sym e) tt
-        by (p ∷ todo) e h k known = subst (λ c. BeforeAt t few j w u v source known c) (sym e) (h known)
-        by [] e h k known = subst (λ c. BeforeAt t few j w u v source known c) (sym e) (h known)
+        by (piece.MadeNow ∷ todo) e h k object known =
+            let at : LoneBefore t few (this_object v) todo v = subst (λ c. LoneObjectAt t few source c v) e object in
+            subst (λ c. BeforeAt t few j w u v source known c) (sym e) (clear (this_object v) at.0 (freed t few v.env.exec v.run v.callers (piece.MadeNow ∷ todo) (piece.MadeNow ∷ todo) (this_object v) refl at.1 e) h)
+        by (piece.SpawnNow r ∷ todo) e h k object known =
+            let at : LoneBefore t few (this_object v) todo v = subst (λ c. LoneObjectAt t few source c v) e object in
+            subst (λ c. BeforeAt t few j w u v source known c) (sym e) (clear (this_object v) at.0 (freed t few v.env.exec v.run v.callers (piece.SpawnNow r ∷ todo) (piece.SpawnNow r ∷ todo) (this_object v) refl at.1 e) h)
+        by (piece.RaiseAtNow ∷ todo) e h k object known = subst (λ c. BeforeAt t few j w u v source known c) (sym e) tt
+        by (p ∷ todo) e h k object known = subst (λ c. BeforeAt t few j w u v source known c) (sym e) (h known)
+        by [] e h k object known = subst (λ c. BeforeAt t few j w u v source known c) (sym e) (h known)

@@ -1,7 +1,7 @@
--- While a task has come to where an object goes, or is given up, it is nowhere in the world as it stands then; and what executions have of others stands
--- upwards where it is told that it stood so.
-use Rattle.std.proofs.Common.{◌≡◌, ℕ, ◌==◌, ◌<◌, ◌≤◌, Bool, true, false, List, ◌∷◌, Option, Some, None, refl, sym, ap, ◌∙◌, subst, arith, inl, inr, ⊎_elim}
-use Rattle.std.specs.Prelude.{if◌then◌else◌}
+-- While a task has come to where an object goes, or is given up, it is nowhere in the world as it stands then; what executions have of others around an
+-- object stands upwards where it is told that it stood so; and of what has been built those are clear that have nothing of others in which it is at home.
+use Rattle.std.proofs.Common.{◌≡◌, ℕ, ◌==◌, ◌<◌, ◌≤◌, Bool, true, false, List, [], ◌∷◌, Option, Some, None, refl, sym, ap, ◌∙◌, subst, arith, inl, inr, ⊎_elim}
+use Rattle.std.specs.Prelude.{if◌then◌else◌, nat_eq}
 use Rattle.std.proofs.lemmas.Bool.{eqb-true, eq-eqb, ne_eqb}
 use Rattle.uc_tree.specs.Source.{Source, routine_of}
 use Rattle.uc_entry.specs.declared.request.Request.TheVariants as ask
@@ -10,41 +10,47 @@ use Rattle.uc_acts.specs.Journal.{Journal, held}
 use Rattle.uc_acts.specs.Known.{has, task_count}
 use Rattle.uc_machine.specs.declared.exec.Exec.{Exec}
 use Rattle.uc_machine.specs.declared.exec.Home.TheVariants as home
+use Rattle.uc_machine.specs.declared.exec.Stage.{Stage}
+use Rattle.uc_machine.specs.declared.exec.Stage.TheVariants.{Fresh, Started, Ended}
 use Rattle.uc_machine.specs.Executions.{Execution}
+use Rattle.uc_machine.specs.Switches.{without}
 use Rattle.uc_machine.specs.Pieces.{Value, Todo, Active, State, Members}
 use Rattle.uc_machine.specs.Quiet.{first_state}
 use Rattle.uc_meaning.specs.Runs.{World, or_else}
 use Rattle.uc_name_laws.proofs.Homes.{no_both}
 use Rattle.uc_life_laws.proofs.NamedWorlds.{found_none}
 use Rattle.uc_typing.specs.Typing.{Ty, Cell, Obj, Table}
-use Rattle.uc_life_laws.specs.Things.{Few, Base, Stands}
+use Rattle.uc_life_laws.specs.Things.{Few, Base, Things, Stands}
 use Rattle.uc_life_laws.specs.Knowing.{main_of}
-use Rattle.uc_life_laws.specs.LifeStates.{EnvBy, MembersBy}
-use Rattle.uc_life_laws.proofs.Cells.{tested}
+use Rattle.uc_life_laws.specs.LifeStates.{EnvBy, HandBy, MembersBy}
+use Rattle.uc_life_laws.proofs.Cells.{either, tested}
 use Rattle.uc_life_laws.proofs.Parked.{found_hand}
-use Rattle.uc_life_laws.specs.Rooted.{Lives, OwnThings, Yet, StandsUpwards}
+use Rattle.uc_life_laws.specs.Rooted.{Lives, Had}
 use Rattle.uc_life_laws.proofs.Fewer.{both_members, both_env}
-use Rattle.uc_life_laws.proofs.Rooted.{stands_split}
+use Rattle.uc_life_laws.proofs.Rooted.{stands_more, stands_split, things_split}
 use Rattle.uc_life_laws.specs.OwnNames as own_names
 use Rattle.uc_life_laws.specs.OwnNames.{at_hand, IsElsewhere}
 use Rattle.uc_life_laws.specs.Belonging.{Belongs}
 use Rattle.uc_life_laws.specs.Marks.{Marked, Free, LoneEx, LoneState, Freed}
 use Rattle.uc_life_laws.specs.Unmarked.{LoneWorld, Unmarked}
-use Rattle.uc_life_laws.proofs.Own.{law_unmarked}
+use Rattle.uc_life_laws.proofs.Own.{law_own, law_unmarked}
 use Rattle.uc_apart_laws.specs.Before.{world_at, NowhereBefore}
-use Rattle.uc_apart_laws.specs.Nowhere.{IsNowhere, SparesEx}
+use Rattle.uc_apart_laws.specs.Clear.{IsNoHome, ClearBy, ClearEx}
+use Rattle.uc_apart_laws.specs.Nowhere.{MarkedOrOthers, AroundUpwards, IsNowhere, SparesEx}
 use Rattle.uc_rooted_runs.specs.Makers.{Makers}
 use Rattle.uc_rooted_runs.specs.FreshStates.{FreshEx, FreshEnv}
 use Rattle.uc_rooted_runs.specs.OutlastRuns.{now}
 use Rattle.uc_rooted_runs.specs.MadeRuns.{IsMade}
-use Rattle.uc_rooted_runs.proofs.KeptRuns.{in_world as made_there, all_still, based_of}
+use Rattle.uc_rooted_runs.specs.Outlasting.{Outlasts}
+use Rattle.uc_rooted_runs.specs.Upwards.{IsThere}
+use Rattle.uc_rooted_runs.proofs.KeptRuns.{in_world as made_there, all_still}
+use Rattle.uc_rooted_runs.proofs.Outlasting.{law_outlasting}
 use Rattle.uc_rooted_runs.proofs.UnmarkedRuns.{own_name}
-use Rattle.uc_rooted_runs.proofs.Upwards.{law_upwards}
 use Rattle.uc_making_laws.specs.OwnThis.{ThisEx, ThisState}
 use Rattle.uc_making_laws.specs.ThisRuns.{ThisWorld}
 use Rattle.uc_making_laws.specs.Upheld.{UpheldAt}
-use Rattle.uc_making_laws.specs.BeforeRides.{IsStoodOnWay, IsRootedOnWay}
-use Rattle.uc_making_laws.proofs.NoOthers.{in_world, law_no_others}
+use Rattle.uc_making_laws.specs.BeforeRides.{HasNoHomeBy, HasNoHome, no_more, IsRootedOnWay}
+use Rattle.uc_making_laws.proofs.NoOthers.{told, in_parked, in_hand, in_members, in_world, fresh_unopened, law_no_others}
 
 module _ (t : Table) (few : Few) (source : Source) (j : Journal) (w : World) (u : ℕ) (known : u < task_count j) (first : (v : ℕ) → task_count j ≤ v → w.tasks v ≡ first_state (routine_of source source.main) 0) (apart : IsElsewhere j w u) (lone_world : LoneWorld t few w) (this_world : ThisWorld t few w) (s : State) (lone : LoneState t few s) (this : ThisState t few s) (fresh : FreshEnv s.env) where
   abbrev x : World
@@ -75,7 +81,7 @@ module _ (t : Table) (few : Few) (source : Source) (j : Journal) (w : World) (u 
   first_there v le =
       ap (λ (b : Bool). if b then s else w.tasks v) (ne_eqb v u (λ e. let k = known in omega (arith, e, k, le))) ∙ first v le
 
-  module _ (makers : Makers) (asked : Exec → Bool) (held_up : UpheldAt makers asked source j w u s) (last : (n : Exec) → held_up.still n ≡ true → asked n ≡ true) where
+  module _ (makers : Makers) (asked : Exec → Bool) (held_up : UpheldAt makers asked source j w u s) where
     -- who runs has its name alone
     away : (n : Exec) → at_hand j w u n.home ≡ false → n ≡ s.env.exec → ⊥
     away n f e = no_both (at_hand j w u n.home) (ap (λ (k : Exec). at_hand j w u k.home) e ∙ held_up.own.at_home) f
@@ -105,19 +111,8 @@ module _ (t : Table) (few : Few) (source : Source) (j : Journal) (w : World) (u 
       homes = λ q. subst (λ (m : Exec). MembersBy (λ n y. n ≡ m → ⊥) (home.Object q) (or_else (find q s.env.hand) (w.homes q))) (sym run_same) (or_home (λ n y. n ≡ s.env.exec → ⊥) q (find q s.env.hand) refl (found_hand (λ n y. n ≡ s.env.exec → ⊥) q s.env.hand held_up.own.alone.hand) (λ e. both_members Away Away Other (λ n y a b. away n a) (home.Object q) (w.homes q) (apart.homes q (not_held q e)) (apart.homes q (not_held q e))));
     }
 
-    -- what executions have of others stands in what those have that made them
-    pub upwards : (own : Exec → Value → Ty → Bool) (yet : Exec → List Active → Value → Ty → Bool) → ((z : Value) (b : Ty) → Base few (main_of 0) z b → own (main_of 0) z b ≡ true) → IsStoodOnWay t few own yet makers j w u s → StandsUpwards t few j (world_at w u s) own yet makers.rank
-    upwards own yet main stood =
-        law_upwards t few makers (now makers asked held_up.made) j (world_at w u s) own yet held_up.outlasts (λ n cs i z b k e.
-        let is = made_there held_up.made source j (world_at w u s) held_up.there first_there n cs i in
-        let on = asked_there n (made_there held_up.still source j (world_at w u s) (all_still held_up.still j (world_at w u s) held_up.are_still) first_there n cs i) in
-        based_of t few makers asked held_up.made yet own j (world_at w u s) main held_up.later n is on z b k e (stood n cs i z b k e))
-      where
-        asked_there : (n : Exec) → IsMade held_up.still n → IsMade asked n
-        asked_there n (inl e) = inl e
-        asked_there n (inr e) = inr (last n e)
-
-    module _ (zero : (n : Exec) → Belongs few n (few.home 0) → ⊥) (own : Exec → Value → Ty → Bool) (yet : Exec → List Active → Value → Ty → Bool) (main : (z : Value) (b : Ty) → Base few (main_of 0) z b → own (main_of 0) z b ≡ true) (o : ℕ) (rooted : IsRootedOnWay t few own yet makers j w u s o) (belongs : Belongs few s.env.exec (few.home o)) (free : Free t few o (Marked t s.env.exec (s.run ∷ s.callers))) where
+    -- where who runs has no mark around an object that is at home in what is its own
+    module _ (o : ℕ) (belongs : Belongs few s.env.exec (few.home o)) (free : Free t few o (Marked t s.env.exec (s.run ∷ s.callers))) where
       freed : Freed t few (ask.Gone o) (if u == u then s else w.tasks u)
       freed = subst (Freed t few (ask.Gone o)) (sym same) (belongs, free)
 
@@ -128,24 +123,90 @@ module _ (t : Table) (few : Few) (source : Source) (j : Journal) (w : World) (u 
       free_there : (n : Exec) (cs : List Active) → Lives j (world_at w u s) n cs → Free t few o (Marked t n cs)
       free_there n cs i = in_world (λ n cs. Free t few o (Marked t n cs)) j (world_at w u s) unmarked.running unmarked.tasks unmarked.homes n cs i
 
-      none_yet : (n : Exec) (cs : List Active) → Lives j (world_at w u s) n cs → (c : ℕ) → Stands t few (Yet t yet n cs) (Cell (Obj c)) (few.home o) → ⊥
-      none_yet n cs i c h =
-          ⊎_elim (free_there n cs i c) (rooted.told n cs i c) (stands_split t few (Yet t yet n cs) (OwnThings t n cs) (λ z b. yet n cs z b ≡ true) (λ z b k. k) (Cell (Obj c)) (few.home o) h)
+      free_slots : EnvBy (λ n y. Free t few o (Marked t n (y.run ∷ y.callers))) s.env
+      free_slots = subst (λ (m : State). EnvBy (λ n y. Free t few o (Marked t n (y.run ∷ y.callers))) m.env) same (unmarked.tasks u)
 
-      nowhere : IsNowhere t few j (world_at w u s) own yet makers.rank o
-      nowhere = record {
-        up = upwards own yet main rooted.stood;
-        outside = λ n cs i c h. let k = rooted.covered n cs i c h in none_yet k.0 k.1 k.2 k.3 k.4;
-        unmarked = none_yet;
-      }
+      module _ (zero : (n : Exec) → Belongs few n (few.home 0) → ⊥) where
+        not_first : o ≡ 0 → ⊥
+        not_first e = zero s.env.exec (subst (λ (q : ℕ). Belongs few s.env.exec (few.home q)) e belongs)
 
-      pub before : NowhereBefore t few j w u s o
-      before = record {
-        own = own;
-        yet = yet;
-        rank = makers.rank;
-        nowhere = nowhere;
-        spares =
-            let there = law_no_others.spares t few j (world_at w u s) own yet makers.rank u o nowhere this_there (λ e. zero s.env.exec (subst (λ (q : ℕ). Belongs few s.env.exec (few.home q)) e belongs)) (subst (λ (m : Exec). Belongs few m (few.home o)) (sym run_same) belongs) u (subst (λ (m : Exec). EnvBy (λ n y. n ≡ m → ⊥) (if u == u then s else w.tasks u).env) (sym run_same) (subst (λ (m : State). EnvBy (λ n y. n ≡ s.env.exec → ⊥) m.env) (sym same) held_up.own.alone)) (subst (λ (m : State). EnvBy FreshEx m.env) (sym same) fresh.slots) in
-            subst (λ (m : State). EnvBy (SparesEx t few o) m.env) same there;
-      }
+        -- whoever has nothing of others in which it is at home is clear of it
+        record IsOther (n : Exec) (y : Execution (List Todo) Value) : Type 0 where
+          other : n ≡ s.env.exec → ⊥
+          fresh_one : FreshEx n y
+          own_this : ThisEx t few n y
+          free_one : Free t few o (Marked t n (y.run ∷ y.callers))
+
+        clear_by : (g : Stage) (n : Exec) (y : Execution (List Todo) Value) → y.links.stage ≡ g → IsOther n y → HasNoHomeBy t few o g n → ClearBy t few o g n y
+        clear_by Fresh n y e a b = fresh_unopened y.links.stage n y e a.fresh_one
+        clear_by Started n y e a b =
+            let none : IsNoHome t few o (Things t few n (y.run ∷ y.callers)) = λ c h. ⊎_elim (λ m. a.free_one c m) (λ k. b c k) (stands_split t few (Things t few n (y.run ∷ y.callers)) (Marked t n (y.run ∷ y.callers)) (Base few n) (things_split t few n (y.run ∷ y.callers)) (Cell (Obj c)) (few.home o) h) in
+            λ k. (law_no_others.making t few o k.sigs (y.run ∷ y.callers) (law_no_others.none t few o n (y.run ∷ y.callers) a.own_this not_first (λ q. a.other (law_own few n s.env.exec (few.home o) q belongs)) none), none)
+        clear_by Ended n y e a b = tt
+
+        without_hand : (hand : List (ℕ × Members)) → HandBy IsOther hand → HandBy IsOther (without o hand)
+        without_hand [] h = tt
+        without_hand (p ∷ hand) h = either (HandBy IsOther) (nat_eq p.0 o) hand (p ∷ without o hand) h.1 (h.0, without_hand hand h.1)
+
+        others : EnvBy IsOther s.env
+        others =
+            both_env (λ n y. (n ≡ s.env.exec → ⊥) × FreshEx n y) (λ n y. ThisEx t few n y × Free t few o (Marked t n (y.run ∷ y.callers))) IsOther (λ n y a b. record { other = a.0; fresh_one = a.1; own_this = b.0; free_one = b.1 }) s.env
+            (both_env (λ n y. n ≡ s.env.exec → ⊥) FreshEx (λ n y. (n ≡ s.env.exec → ⊥) × FreshEx n y) (λ n y a b. (a, b)) s.env held_up.own.alone fresh.slots)
+            (both_env (ThisEx t few) (λ n y. Free t few o (Marked t n (y.run ∷ y.callers))) (λ n y. ThisEx t few n y × Free t few o (Marked t n (y.run ∷ y.callers))) (λ n y a b. (a, b)) s.env this.env free_slots)
+
+        -- so are all that are at home elsewhere
+        pub clear : EnvBy (HasNoHome t few o) (record s.env { hand = without o s.env.hand }) → EnvBy (ClearEx t few o) (record s.env { hand = without o s.env.hand })
+        clear b =
+            both_env IsOther (HasNoHome t few o) (ClearEx t few o) (λ n y a b. clear_by y.links.stage n y refl a b) (record s.env { hand = without o s.env.hand }) (record { house = others.house; hand = without_hand s.env.hand others.hand }) b
+
+    module _ (last : (n : Exec) → held_up.still n ≡ true → asked n ≡ true) where
+      -- one that is there lives, and what it was to clean up as it made others stays with it
+      living : (n : Exec) (cs : List Active) → IsThere j (world_at w u s) n cs → Lives j (world_at w u s) n cs
+      living n cs (inl i) = inl (i.0, i.1.1, i.2, i.3)
+      living n cs (inr i) = inr i
+
+      abbrev Outlast : Exec → List Active → Type 0
+      Outlast n cs = Outlasts makers (now makers asked held_up.made) n cs
+
+      outlasts : (n : Exec) (cs : List Active) → IsThere j (world_at w u s) n cs → Outlast n cs
+      outlasts n cs (inl i) = told Outlast n (x.tasks i.0).env.exec cs ((x.tasks i.0).run ∷ (x.tasks i.0).callers) i.2 i.3 (held_up.outlasts.stacks i.0 i.1.0 i.1.1)
+      outlasts n cs (inr (inl (v, inl i))) = in_parked Outlast n cs (home.Task (x.tasks v).env.own) (x.tasks v).env.house.parked i (held_up.outlasts.tasks v).house
+      outlasts n cs (inr (inl (v, inr i))) = in_hand Outlast n cs (x.tasks v).env.hand i (held_up.outlasts.tasks v).hand
+      outlasts n cs (inr (inr (q, i))) = in_members Outlast n cs (home.Object q) (x.homes q) i (held_up.outlasts.homes q)
+
+      -- of one that is there it is asked, and it was made by now
+      up_now : (n : Exec) → (n ≡ main_of 0 → ⊥) → IsMade held_up.made n → IsMade held_up.still n → (held_up.made n ≡ true) × (now makers asked held_up.made n ≡ true)
+      up_now n other (inl e) k = absurd (other e)
+      up_now n other (inr e) (inl k) = absurd (other k)
+      up_now n other (inr e) (inr k) = (e, ap (λ (c : Bool). if c then held_up.made n else false) (last n k) ∙ e)
+
+      had : (n : Exec) (cs : List Active) (z : Value) (b : Ty) → Had t few no_more n cs z b → MarkedOrOthers t few n cs z b
+      had n cs z b (inl (inl m)) = inl m
+      had n cs z b (inl (inr e)) = let k : false ≡ true = e in absurd (cc)
+      had n cs z b (inr m) = inr m
+
+      -- what executions have of others around an object stands in what those have that made them
+      pub upwards : (o : ℕ) → IsRootedOnWay t few makers j w u s o → AroundUpwards t few j (world_at w u s) makers.rank o
+      upwards o rooted n cs i z b k a =
+          let r = rooted n cs i z b k a in
+          let m = up_now n r.0 (made_there held_up.made source j (world_at w u s) held_up.there first_there n cs i) (made_there held_up.still source j (world_at w u s) (all_still held_up.still j (world_at w u s) held_up.are_still) first_there n cs i) in
+          let h = r.1 in (
+            makers.parent n,
+            h.active,
+            living (makers.parent n) h.active h.lives,
+            held_up.later n m.0,
+            ⊎_elim (λ y. law_outlasting t few makers (now makers asked held_up.made) (makers.parent n) h.active (outlasts (makers.parent n) h.active h.lives) n m.1 refl z b y) (λ y. stands_more t few (Had t few no_more (makers.parent n) h.active) (MarkedOrOthers t few (makers.parent n) h.active) (had (makers.parent n) h.active) b z y) h.stood,
+          )
+
+      module _ (zero : (n : Exec) → Belongs few n (few.home 0) → ⊥) (o : ℕ) (rooted : IsRootedOnWay t few makers j w u s o) (belongs : Belongs few s.env.exec (few.home o)) (free : Free t few o (Marked t s.env.exec (s.run ∷ s.callers))) where
+        nowhere : IsNowhere t few j (world_at w u s) makers.rank o
+        nowhere = record { up = upwards o rooted; unmarked = free_there o belongs free }
+
+        pub before : NowhereBefore t few j w u s o
+        before = record {
+          rank = makers.rank;
+          nowhere = nowhere;
+          spares =
+              let there = law_no_others.spares t few j (world_at w u s) makers.rank u o nowhere this_there (not_first o belongs free zero) (subst (λ (m : Exec). Belongs few m (few.home o)) (sym run_same) belongs) u (subst (λ (m : Exec). EnvBy (λ n y. n ≡ m → ⊥) (if u == u then s else w.tasks u).env) (sym run_same) (subst (λ (m : State). EnvBy (λ n y. n ≡ s.env.exec → ⊥) m.env) (sym same) held_up.own.alone)) (subst (λ (m : State). EnvBy FreshEx m.env) (sym same) fresh.slots) in
+              subst (λ (m : State). EnvBy (SparesEx t few o) m.env) same there;
+        }

@@ -89,7 +89,7 @@ module _ (t : Table) (few : Few) where
   yet_things n cs w b (inr e) = let z : false ≡ true = e in absurd (cc)
 
   module _ (zero : (n : Exec) → Belongs few n (few.home 0) → ⊥) (j : Journal) (a : List Entry) (x : World) (u o : ℕ) (h : IsLeft t few (j ++ a) x u o) (this : ThisWorld t few x) (lets : LetsWorld t few x) (left : IsLeftNowhere t few j a x u o) (owed : IsOwedNothing j a x u o) (silent : AllSilent (x.tasks u).run.control) where
-    not_zero : o ≡ 0 → ⊥
+    pub not_zero : o ≡ 0 → ⊥
     not_zero e = zero (x.tasks u).env.exec (subst (λ (q : ℕ). Belongs few (x.tasks u).env.exec (few.home q)) e h.belongs)
 
     stack : (n : Exec) (cs : List Active) → Lives (j ++ a) x n cs → ThisStack t few n cs
@@ -97,7 +97,7 @@ module _ (t : Table) (few : Few) where
         in_world (ThisStack t few) (j ++ a) x (λ v. (this.tasks v).stack) (λ v. (this.tasks v).env) this.homes n cs i
 
     -- no activation of another is of the object
-    alone : (n : Exec) (cs : List Active) → Lives (j ++ a) x n cs → (n ≡ (x.tasks u).env.exec → ⊥) → NoThis o cs
+    pub alone : (n : Exec) (cs : List Active) → Lives (j ++ a) x n cs → (n ≡ (x.tasks u).env.exec → ⊥) → NoThis o cs
     alone n cs i away =
         law_no_others.none t few o n cs (stack n cs i) not_zero (λ b. away (law_own few n (x.tasks u).env.exec (few.home o) b h.belongs)) (left.nowhere n cs i)
 
@@ -118,7 +118,7 @@ module _ (t : Table) (few : Few) where
         let none = law_no_others.making t few o k.sigs ((x.tasks v).run ∷ (x.tasks v).callers) f in
         record { waiting = λ c m. none c (inr m); operands = inl none }
 
-    first_this : (v : ℕ) → task_count (j ++ a) ≤ v → NoThis o ((x.tasks v).run ∷ (x.tasks v).callers)
+    pub first_this : (v : ℕ) → task_count (j ++ a) ≤ v → NoThis o ((x.tasks v).run ∷ (x.tasks v).callers)
     first_this v le =
         (λ e. not_zero (same (sym e) (h.first_object v le)), subst (NoThis o) (sym (h.none_waits v le)) tt)
       where
@@ -126,7 +126,7 @@ module _ (t : Table) (few : Few) where
         same e f = cc
 
     -- of the task that acts no activation that waits is of the object
-    none_waits : has_ended u (j ++ a) ≡ false → NoThis o (x.tasks u).callers
+    pub none_waits : has_ended u (j ++ a) ≡ false → NoThis o (x.tasks u).callers
     none_waits on =
         let n = (x.tasks u).env.exec in
         let cs = (x.tasks u).callers in
@@ -162,9 +162,9 @@ module _ (t : Table) (few : Few) where
     }
 
   -- what is so of tasks behind an act
-  record InWorlds (x : World) : Type 0 where
-    this : ThisWorld t few x
-    lets : LetsWorld t few x
+  pub record InWorlds (x : World) : Type 0 where
+    pub this : ThisWorld t few x
+    pub lets : LetsWorld t few x
 
   module _ (zero : (n : Exec) → Belongs few n (few.home 0) → ⊥) (source : Source) (input : List ℕ) (opts : Options) where
     roots_by : (j : Journal) (a : List Entry) (x : World) (u : ℕ) (q : Request) → LeftBehind t few (j ++ a) x u q → InWorlds x → GoesBy (IsLeftNowhere t few) j a x u q → GoesBy IsOwedNothing j a x u q → GoesBy (λ j a x u o. AllSilent (x.tasks u).run.control) j a x u q → RootsAt t few all_own none_yet no_rank j a x q

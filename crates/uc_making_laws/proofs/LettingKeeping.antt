@@ -1,5 +1,5 @@
 -- Activations go on to be told of their objects where members, executions and who runs change.
-use Rattle.std.proofs.Common.{◌≡◌, ℕ, ◌∙◌, true, false, List, ◌∷◌, Option, Some, None, refl, sym, subst}
+use Rattle.std.proofs.Common.{◌≡◌, ℕ, ◌∙◌, true, false, List, Option, Some, None, refl, sym, subst}
 use Rattle.uc_entry.specs.declared.fault.RunFault.TheVariants.{ResumeInUse, SwitchInUnwind}
 use Rattle.uc_entry.specs.Keyed.{find}
 use Rattle.uc_machine.specs.declared.exec.Exec.{Exec}
@@ -12,16 +12,22 @@ use Rattle.uc_machine.specs.declared.exec.Stage.TheVariants.{Fresh, Started, End
 use Rattle.uc_machine.specs.Executions.{Links, exec_eq, joined, change, change_in, members_at, parked_at, frames_by, frames_changed, frame_changed, value_changed, with_owned, with_frames}
 use Rattle.uc_machine.specs.Switches as sw
 use Rattle.uc_machine.specs.Switches.{Moved, To, Stops}
-use Rattle.uc_machine.specs.Pieces.{Value, Number, Place, Running, Object, Nothing, Todo, State, Env, Members, address, stored, nought, written}
+use Rattle.uc_machine.specs.Pieces.{Value, Number, Place, Running, Object, Nothing, Todo, Active, State, Env, Members, address, stored, nought, written}
 use Rattle.uc_life_laws.specs.LifeStates.{SlotBy, ParkedBy, MembersBy, EnvBy}
 use Rattle.uc_typing.specs.Typing.{Table}
 use Rattle.uc_life_laws.specs.Things.{Few}
-use Rattle.uc_making_laws.specs.LettingGo.{LetsFrom, LetsEx, LetsState}
+use Rattle.uc_making_laws.specs.LettingGo.{LetsFrom, LetsBy, LetsEx, LetsState}
 use Rattle.uc_life_laws.proofs.Cells.{either}
 use Rattle.uc_life_laws.proofs.Parked as parked
 use Rattle.uc_life_laws.proofs.Parked.{Ex, at_home}
 
 module _ (t : Table) (few : Few) where
+  -- one that runs is so at each stage
+  pub of_stage : (g : Stage) (n : Exec) (a : Active) (older : List Active) → LetsFrom t few n a older → LetsBy t few g n a older
+  of_stage Fresh n a older h = h
+  of_stage Started n a older h = h
+  of_stage Ended n a older h = tt
+
   pub like : {e f : Env} → EnvBy (LetsEx t few) e → f.hand ≡ e.hand → f.house ≡ e.house → f.own ≡ e.own → EnvBy (LetsEx t few) f
   like s h g o = parked.like (LetsEx t few) s h g o
 
@@ -76,17 +82,21 @@ module _ (t : Table) (few : Few) where
   forgotten_keeps None e s = keeps_like s refl refl refl refl
   forgotten_keeps (Some n) e s = keeps_change n.home (sw.slot_gone n.serial) e (λ m h. parked.without_parked (LetsEx t few) n.home n.serial m.parked h) s
 
-  links_kept : (h : Home) (g : Links → Links) (n : ℕ) (o : Option Ex) (m : Members) → SlotBy (LetsEx t few) (at_home h n) o → ParkedBy (LetsEx t few) h m.parked → ParkedBy (LetsEx t few) h (sw.links_by g n o m).parked
-  links_kept h g n None m r s = s
-  links_kept h g n (Some x) m r s = parked.update_parked (LetsEx t few) h n (Some (record x { links = g x.links })) m.parked (r) s
+  -- the stage stays, or is the end
+  abbrev pub Stages : (Links → Links) → Type 0
+  Stages g = (l : Links) (n : Exec) (a : Active) (older : List Active) → LetsBy t few l.stage n a older → LetsBy t few (g l).stage n a older
 
-  pub links_keeps : (g : Links → Links) (n : Exec) (e : Env) → EnvBy (LetsEx t few) e → Keeps e (sw.with_links g n e)
-  links_keeps g n e s =
-      either (Keeps e) (exec_eq n e.exec) (record e { links = g e.links }) (change n.home (sw.links_changed g n.serial) e) (keeps_like s refl refl refl refl) (keeps_change n.home (sw.links_changed g n.serial) e (λ m h. links_kept n.home g n.serial (joined (find n.serial m.parked)) m (parked.found_parked (LetsEx t few) n.home n.serial m.parked h) h) s)
+  links_kept : (h : Home) (g : Links → Links) → Stages g → (n : ℕ) (o : Option Ex) (m : Members) → SlotBy (LetsEx t few) (at_home h n) o → ParkedBy (LetsEx t few) h m.parked → ParkedBy (LetsEx t few) h (sw.links_by g n o m).parked
+  links_kept h g k n None m r s = s
+  links_kept h g k n (Some x) m r s = parked.update_parked (LetsEx t few) h n (Some (record x { links = g x.links })) m.parked (k x.links (at_home h n) x.run x.callers r) s
+
+  pub links_keeps : (g : Links → Links) → Stages g → (n : Exec) (e : Env) → EnvBy (LetsEx t few) e → Keeps e (sw.with_links g n e)
+  links_keeps g k n e s =
+      either (Keeps e) (exec_eq n e.exec) (record e { links = g e.links }) (change n.home (sw.links_changed g n.serial) e) (keeps_like s refl refl refl refl) (keeps_change n.home (sw.links_changed g n.serial) e (λ m h. links_kept n.home g k n.serial (joined (find n.serial m.parked)) m (parked.found_parked (LetsEx t few) n.home n.serial m.parked h) h) s)
 
   pub enlivened_keeps : (o : Option Exec) (e : Env) → EnvBy (LetsEx t few) e → Keeps e (sw.enlivened o e)
   enlivened_keeps None e s = keeps_like s refl refl refl refl
-  enlivened_keeps (Some n) e s = links_keeps (λ l. record l { live = true }) n e s
+  enlivened_keeps (Some n) e s = links_keeps (λ l. record l { live = true }) (λ l n a older h. h) n e s
 
   -- switches
 
@@ -97,15 +107,15 @@ module _ (t : Table) (few : Few) where
   -- who may be activated
   abbrev LetsNext : Option (Exec × Ex) → Type 0
   LetsNext None = Unit {0}
-  LetsNext (Some p) = LetsEx t few p.0 p.1
+  LetsNext (Some p) = LetsFrom t few p.0 p.1.run p.1.callers
 
-  switched_rests : (n : Exec) (x : Ex) (s : State) → LetsEx t few n x → LetsState t few s → LetsState t few (sw.switched n x s)
+  switched_rests : (n : Exec) (x : Ex) (s : State) → LetsFrom t few n x.run x.callers → LetsState t few s → LetsState t few (sw.switched n x s)
   switched_rests n x s r h = record {
     stack = r;
-    env = like (parked.slot_rests (LetsEx t few) s.env.exec (Some (sw.stopped s)) (sw.set_slot n None s.env) h.stack (parked.slot_rests (LetsEx t few) n None s.env tt h.env)) refl refl refl;
+    env = like (parked.slot_rests (LetsEx t few) s.env.exec (Some (sw.stopped s)) (sw.set_slot n None s.env) (of_stage s.env.links.stage s.env.exec s.run s.callers h.stack) (parked.slot_rests (LetsEx t few) n None s.env tt h.env)) refl refl refl;
   }
 
-  able_stage : (g : Stage) (n : Exec) (x : Ex) → LetsEx t few n x → LetsNext (sw.able_at g n x)
+  able_stage : (g : Stage) (n : Exec) (x : Ex) → LetsBy t few g n x.run x.callers → LetsNext (sw.able_at g n x)
   able_stage Fresh n x r = tt
   able_stage Started n x r = r
   able_stage Ended n x r = tt
@@ -126,7 +136,7 @@ module _ (t : Table) (few : Few) where
   go_on_rests None s r h = tt
   go_on_rests (Some p) s r h = switched_rests p.0 p.1 s r h
 
-  wake_stage : (g : Stage) (n : Exec) (x : Ex) (s : State) → LetsEx t few n x → LetsState t few s → LetsMoved (sw.wake_at g n x s)
+  wake_stage : (g : Stage) (n : Exec) (x : Ex) (s : State) → LetsBy t few g n x.run x.callers → LetsState t few s → LetsMoved (sw.wake_at g n x s)
   wake_stage Fresh n x s r h = switched_rests n _ s (r) h
   wake_stage Started n x s r h = switched_rests n _ s (r) h
   wake_stage Ended n x s r h = tt
@@ -167,9 +177,9 @@ module _ (t : Table) (few : Few) where
   with_env {e} s h k = record { stack = subst (λ n. LetsFrom t few n s.run s.callers) (sym k.exec) h.stack; env = k.env }
 
   over_rests : (n : Exec) (s : State) → LetsState t few s → LetsState t few (sw.over n s)
-  over_rests n s h = with_env s h (links_keeps (λ l. record l { live = false; stage = Ended }) n s.env h.env)
+  over_rests n s h = with_env s h (links_keeps (λ l. record l { live = false; stage = Ended }) (λ l n a older h. tt) n s.env h.env)
 
-  take_down_stage : (g : Stage) (n : Exec) (x : Ex) (s : State) → LetsEx t few n x → LetsState t few s → LetsMoved (sw.take_down_at g n x s)
+  take_down_stage : (g : Stage) (n : Exec) (x : Ex) (s : State) → LetsBy t few g n x.run x.callers → LetsState t few s → LetsMoved (sw.take_down_at g n x s)
   take_down_stage Fresh n x s r h = over_rests n s h
   take_down_stage Started n x s r h = switched_rests n _ s (r) h
   take_down_stage Ended n x s r h = over_rests n s h

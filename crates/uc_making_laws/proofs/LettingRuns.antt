@@ -44,11 +44,11 @@ module _ (t : Table) (few : Few) where
   home_rests o None hand h k = k
   home_rests o (Some m) hand h k = (h, k)
 
-  hand_rests : (os : List ℕ) (homes : ℕ → Option Members) → ((o : ℕ) → LetsMembers t few (home.Object o) (homes o)) → HandBy (LetsEx t few) (hand_of os homes)
+  pub hand_rests : (os : List ℕ) (homes : ℕ → Option Members) → ((o : ℕ) → LetsMembers t few (home.Object o) (homes o)) → HandBy (LetsEx t few) (hand_of os homes)
   hand_rests [] homes h = tt
   hand_rests (o ∷ os) homes h = home_rests o (homes o) (hand_of os homes) (h o) (hand_rests os homes h)
 
-  or_rests : (o : ℕ) (x y : Option Members) → LetsMembers t few (home.Object o) x → LetsMembers t few (home.Object o) y → LetsMembers t few (home.Object o) (or_else x y)
+  pub or_rests : (o : ℕ) (x y : Option Members) → LetsMembers t few (home.Object o) x → LetsMembers t few (home.Object o) y → LetsMembers t few (home.Object o) (or_else x y)
   or_rests o None y h k = k
   or_rests o (Some m) y h k = h
 
@@ -57,7 +57,7 @@ module _ (t : Table) (few : Few) where
       let s = x.tasks n in
       record { stack = s.stack; env = record { house = s.env.house; hand = hand_rests (held n j) w.homes x.homes } }
 
-  bare_rests : (s : State) → LetsState t few s → LetsState t few (bare s)
+  pub bare_rests : (s : State) → LetsState t few s → LetsState t few (bare s)
   bare_rests s h = record { stack = h.stack; env = record { house = h.env.house; hand = tt } }
 
   module _ (source : Source) where

@@ -26,7 +26,7 @@ use Rattle.uc_machine.specs.Pieces.{Value, Number, Place, Running, Object, Nothi
 use Rattle.uc_typing.specs.Typing.{Ty, Cell, Obj, Table}
 use Rattle.uc_life_laws.specs.Things.{Few, Things}
 use Rattle.uc_depth_laws.specs.Owing.{marks, owed_by, owed_waiting}
-use Rattle.uc_making_laws.specs.LettingGo.{is_letting, WaitsBy, RunsBy, IsClosed, AllClosed, FoundClosed, IsTold, Told, LetsStack, LetsFrom, LetsState, LetsStep, OpensStmt, OpensStmts, LeavesAt}
+use Rattle.uc_making_laws.specs.LettingGo.{is_letting, WaitsBy, RunsBy, AllClosed, FoundClosed, IsTold, Told, LetsStack, LetsState, LetsStep, OpensStmt, OpensStmts, LeavesAt}
 use Rattle.uc_making_laws.proofs.LettingLists as lists
 use Rattle.uc_life_laws.proofs.Cells.{either}
 use Rattle.uc_life_laws.proofs.Rooted.{stands_more}
@@ -314,7 +314,7 @@ module _ (t : Table) (few : Few) where
 
     pend : (n : Exec) (e : Event) (todo : List Todo) (vs : List Value) → Holding todo → LetsStep t few (polls.pend_step n e todo vs s)
     pend n e todo vs h =
-        either (LetsStep t few) (nat_lt (length (inside.pending_at n s.env)) PENDING_EVENTS) _ _ (go_in _ _ _ (kept.links_keeps t few (λ l. record l { pending = l.pending ++ (record { event = e.number; x = e.x; y = e.y }) ∷ [] }) n s.env st.env) h) (go todo vs h, tt)
+        either (LetsStep t few) (nat_lt (length (inside.pending_at n s.env)) PENDING_EVENTS) _ _ (go_in _ _ _ (kept.links_keeps t few (λ l. record l { pending = l.pending ++ (record { event = e.number; x = e.x; y = e.y }) ∷ [] }) (λ l n a older h. h) n s.env st.env) h) (go todo vs h, tt)
 
     pend_at : (x : Option Exec) (e : Event) (todo : List Todo) (vs : List Value) → Holding todo → LetsStep t few (polls.pend_at x e todo vs s)
     pend_at None e todo vs h = (go todo vs h, tt)

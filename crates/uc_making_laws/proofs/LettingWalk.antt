@@ -17,7 +17,7 @@ use Rattle.uc_machine.specs.Answering.{answered, entered, new_members, with_oper
 use Rattle.uc_typing.specs.Typing.{Table}
 use Rattle.uc_life_laws.specs.Things.{Few}
 use Rattle.uc_life_laws.specs.Knowing.{main_of}
-use Rattle.uc_depth_laws.specs.Owing.{owed_by, owed_waiting}
+use Rattle.uc_depth_laws.specs.Owing.{owed_waiting}
 use Rattle.uc_apart_laws.specs.Clear.{IsNoHome}
 use Rattle.uc_life_laws.specs.Things.{Things}
 use Rattle.uc_typing.specs.Typing.{Cell, Obj}

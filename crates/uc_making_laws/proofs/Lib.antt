@@ -9,6 +9,7 @@ pub mod LettingSteps
 pub mod LettingWalk
 pub mod LettingRuns
 pub mod ForgetsThis
+pub mod Nobodys
 pub mod Upheld
 pub mod BeforeWorlds
 pub mod BeforeRides

@@ -1,5 +1,5 @@
 -- Nobody else builds or destroys an object that is at home in what is one's own, and at hand of nobody.
-use Rattle.std.proofs.Common.{◌≡◌, ℕ, inl, inr, Bool, List, [], ◌∷◌, Option, Some, None, refl, sym, subst}
+use Rattle.std.proofs.Common.{◌≡◌, ℕ, inl, inr, List, [], ◌∷◌, Option, Some, None, refl, sym, subst}
 use Rattle.uc_acts.specs.Journal.{Journal}
 use Rattle.uc_machine.specs.declared.exec.Exec.{Exec}
 use Rattle.uc_machine.specs.declared.exec.Home.{Home}
@@ -10,7 +10,7 @@ use Rattle.uc_machine.specs.Executions.{Execution, others}
 use Rattle.uc_machine.specs.Pieces as piece
 use Rattle.uc_machine.specs.Pieces.{Value, Object, Todo, Sort, sort, Active, Members}
 use Rattle.uc_meaning.specs.Runs.{World}
-use Rattle.uc_typing.specs.Typing.{Ty, Cell, Obj, Sig, Table}
+use Rattle.uc_typing.specs.Typing.{Cell, Obj, Sig, Table}
 use Rattle.uc_life_laws.specs.Things.{Few, Things}
 use Rattle.uc_life_laws.specs.LifeStates.{SlotBy, ParkedBy, HandBy, MembersBy, EnvBy}
 use Rattle.uc_life_laws.specs.Rooted.{InSlot, InParked, InHand, InMembers, Lives}
@@ -34,24 +34,24 @@ module _ (P : Exec → List Active → Type 0) where
   abbrev PEx : Exec → Execution (List Todo) Value → Type 0
   PEx n x = P n (x.run ∷ x.callers)
 
-  told : (n m : Exec) (cs ds : List Active) → n ≡ m → cs ≡ ds → P m ds → P n cs
+  pub told : (n m : Exec) (cs ds : List Active) → n ≡ m → cs ≡ ds → P m ds → P n cs
   told n m cs ds e f h = subst (λ k. P k cs) (sym e) (subst (P m) (sym f) h)
 
   in_slot : (n : Exec) (cs : List Active) (m : Exec) (z : Option (Execution (List Todo) Value)) → InSlot n cs m z → SlotBy PEx m z → P n cs
   in_slot n cs m None i h = absurd i
   in_slot n cs m (Some y) i h = told n m cs (y.run ∷ y.callers) i.0 i.1 h
 
-  in_parked : (n : Exec) (cs : List Active) (h : Home) (ps : List (ℕ × Option (Execution (List Todo) Value))) → InParked n cs h ps → ParkedBy PEx h ps → P n cs
+  pub in_parked : (n : Exec) (cs : List Active) (h : Home) (ps : List (ℕ × Option (Execution (List Todo) Value))) → InParked n cs h ps → ParkedBy PEx h ps → P n cs
   in_parked n cs h [] i k = absurd i
   in_parked n cs h (p ∷ ps) (inl i) k = in_slot n cs (record { home = h; serial = p.0 }) p.1 i k.0
   in_parked n cs h (p ∷ ps) (inr i) k = in_parked n cs h ps i k.1
 
-  in_hand : (n : Exec) (cs : List Active) (ps : List (ℕ × Members)) → InHand n cs ps → HandBy PEx ps → P n cs
+  pub in_hand : (n : Exec) (cs : List Active) (ps : List (ℕ × Members)) → InHand n cs ps → HandBy PEx ps → P n cs
   in_hand n cs [] i k = absurd i
   in_hand n cs (p ∷ ps) (inl i) k = in_parked n cs (home.Object p.0) p.1.parked i k.0
   in_hand n cs (p ∷ ps) (inr i) k = in_hand n cs ps i k.1
 
-  in_members : (n : Exec) (cs : List Active) (h : Home) (m : Option Members) → InMembers n cs h m → MembersBy PEx h m → P n cs
+  pub in_members : (n : Exec) (cs : List Active) (h : Home) (m : Option Members) → InMembers n cs h m → MembersBy PEx h m → P n cs
   in_members n cs h None i k = absurd i
   in_members n cs h (Some m) i k = in_parked n cs h m.parked i k
 
@@ -100,19 +100,19 @@ unscoped : (f : ℕ) (this : Value) (todo : List Todo) → placed f this todo []
 unscoped f this [] e = tt
 unscoped f this (p ∷ todo) e = let k = put_none p f this todo e in k.0 (unscoped f this todo k.1)
 
-fresh_unopened : (g : Stage) (n : Exec) (y : Ex) → g ≡ Fresh → FreshBy g n y → IsUnopened y
+pub fresh_unopened : (g : Stage) (n : Exec) (y : Ex) → g ≡ Fresh → FreshBy g n y → IsUnopened y
 fresh_unopened Fresh n y e h = (h.callers, unscoped y.run.frame y.run.this y.run.control h.marks)
 fresh_unopened Started n y e h = absurd (cc)
 fresh_unopened Ended n y e h = absurd (cc)
 
-module _ (t : Table) (few : Few) (j : Journal) (x : World) (own : Exec → Value → Ty → Bool) (yet : Exec → List Active → Value → Ty → Bool) (rank : Exec → ℕ) (u o : ℕ) (nowhere : IsNowhere t few j x own yet rank o) (this : ThisWorld t few x) (zero : o ≡ 0 → ⊥) (belongs : Belongs few (x.tasks u).env.exec (few.home o)) where
+module _ (t : Table) (few : Few) (j : Journal) (x : World) (rank : Exec → ℕ) (u o : ℕ) (nowhere : IsNowhere t few j x rank o) (this : ThisWorld t few x) (zero : o ≡ 0 → ⊥) (belongs : Belongs few (x.tasks u).env.exec (few.home o)) where
   stack : (n : Exec) (cs : List Active) → Lives j x n cs → ThisStack t few n cs
   stack n cs i =
       in_world (ThisStack t few) j x (λ v. (this.tasks v).stack) (λ v. (this.tasks v).env) this.homes n cs i
 
   lives : (n : Exec) (cs : List Active) → Lives j x n cs → (n ≡ (x.tasks u).env.exec → ⊥) → NoThis o cs
   lives n cs i other =
-      none t few o n zero (λ b. other (law_own few n (x.tasks u).env.exec (few.home o) b belongs)) cs (stack n cs i) (law_nowhere.lives t few j x own yet rank o nowhere n cs i)
+      none t few o n zero (λ b. other (law_own few n (x.tasks u).env.exec (few.home o) b belongs)) cs (stack n cs i) (law_nowhere.lives t few j x rank o nowhere n cs i)
 
   abbrev Apart : Exec → Ex → Type 0
   Apart n y = (n ≡ (x.tasks u).env.exec → ⊥) × FreshEx n y
@@ -130,6 +130,6 @@ pub law_no_others : LawNoOthers
 law_no_others = record {
   none = λ t few o n cs h z b f. none t few o n z b cs h f;
   making = λ t few o gs cs h. making t few o gs cs h;
-  lives = λ t few j x own yet rank u o h k z b n cs i f. lives t few j x own yet rank u o h k z b n cs i f;
-  spares = λ t few j x own yet rank u o h k z b v names fresh. spares t few j x own yet rank u o h k z b v names fresh;
+  lives = λ t few j x rank u o h k z b n cs i f. lives t few j x rank u o h k z b n cs i f;
+  spares = λ t few j x rank u o h k z b v names fresh. spares t few j x rank u o h k z b v names fresh;
 }

@@ -8,6 +8,8 @@ use Rattle.uc_entry.specs.declared.request.Request.{Request}
 use Rattle.uc_entry.specs.declared.request.Request.TheVariants as ask
 use Rattle.uc_machine.specs.declared.exec.Exec.{Exec}
 use Rattle.uc_machine.specs.declared.exec.Home.{Home}
+use Rattle.uc_machine.specs.declared.exec.Stage.{Stage}
+use Rattle.uc_machine.specs.declared.exec.Stage.TheVariants.{Fresh, Started, Ended}
 use Rattle.uc_machine.specs.Executions.{Execution, members_at}
 use Rattle.uc_machine.specs.Switches.{new_exec}
 use Rattle.uc_machine.specs.Monitors.{this_object}
@@ -121,9 +123,14 @@ module _ (t : Table) (few : Few) where
   abbrev pub LetsFrom : Exec → Active → List Active → Type 0
   LetsFrom n a older = RunsBy (Told n older a.this) a.control × LetsStack n older
 
-  -- an execution of this name that does not run
+  -- an execution of this name that does not run; one that has ended never goes on
+  abbrev pub LetsBy : Stage → Exec → Active → List Active → Type 0
+  LetsBy Fresh n a older = LetsFrom n a older
+  LetsBy Started n a older = LetsFrom n a older
+  LetsBy Ended n a older = Unit {0}
+
   abbrev pub LetsEx : Exec → Execution (List Todo) Value → Type 0
-  LetsEx n x = LetsFrom n x.run x.callers
+  LetsEx n x = LetsBy x.links.stage n x.run x.callers
 
   abbrev pub LetsMembers : Home → Option Members → Type 0
   LetsMembers h m = MembersBy LetsEx h m

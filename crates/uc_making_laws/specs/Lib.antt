@@ -7,3 +7,4 @@ pub mod LettingRuns
 pub mod RideWhile
 pub mod Upheld
 pub mod BeforeRides
+pub mod Nobodys

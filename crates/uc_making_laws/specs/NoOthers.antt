@@ -1,10 +1,10 @@
 -- Nobody else builds or destroys an object that is at home in what is one's own, and at hand of nobody: no activation of another is of it.
-use Rattle.std.specs.Prelude.{◌≡◌, ℕ, Bool, List, [], ◌∷◌}
+use Rattle.std.specs.Prelude.{◌≡◌, ℕ, List, [], ◌∷◌}
 use Rattle.uc_acts.specs.Journal.{Journal}
 use Rattle.uc_machine.specs.declared.exec.Exec.{Exec}
-use Rattle.uc_machine.specs.Pieces.{Value, Object, Active}
+use Rattle.uc_machine.specs.Pieces.{Object, Active}
 use Rattle.uc_meaning.specs.Runs.{World}
-use Rattle.uc_typing.specs.Typing.{Ty, Sig, Table}
+use Rattle.uc_typing.specs.Typing.{Sig, Table}
 use Rattle.uc_life_laws.specs.Things.{Few, Things}
 use Rattle.uc_life_laws.specs.LifeStates.{EnvBy}
 use Rattle.uc_life_laws.specs.Rooted.{Lives}
@@ -28,14 +28,12 @@ pub record LawNoOthers : Type 0 where
   pub none : (t : Table) (few : Few) (o : ℕ) (n : Exec) (cs : List Active) → ThisStack t few n cs → (o ≡ 0 → ⊥) →
       (Belongs few n (few.home o) → ⊥) → IsNoHome t few o (Things t few n cs) → NoThis o cs
   pub making : (t : Table) (few : Few) (o : ℕ) (gs : List Sig) (cs : List Active) → NoThis o cs → NotMaking t few o gs cs
-  pub lives : (t : Table) (few : Few) (j : Journal) (x : World) (own : Exec → Value → Ty → Bool)
-      (yet : Exec → List Active → Value → Ty → Bool) (rank : Exec → ℕ) (u o : ℕ) →
-      IsNowhere t few j x own yet rank o → ThisWorld t few x → (o ≡ 0 → ⊥) →
+  pub lives : (t : Table) (few : Few) (j : Journal) (x : World) (rank : Exec → ℕ) (u o : ℕ) →
+      IsNowhere t few j x rank o → ThisWorld t few x → (o ≡ 0 → ⊥) →
       Belongs few (x.tasks u).env.exec (few.home o) →
       (n : Exec) (cs : List Active) → Lives j x n cs → (n ≡ (x.tasks u).env.exec → ⊥) → NoThis o cs
-  pub spares : (t : Table) (few : Few) (j : Journal) (x : World) (own : Exec → Value → Ty → Bool)
-      (yet : Exec → List Active → Value → Ty → Bool) (rank : Exec → ℕ) (u o : ℕ) →
-      IsNowhere t few j x own yet rank o → ThisWorld t few x → (o ≡ 0 → ⊥) →
+  pub spares : (t : Table) (few : Few) (j : Journal) (x : World) (rank : Exec → ℕ) (u o : ℕ) →
+      IsNowhere t few j x rank o → ThisWorld t few x → (o ≡ 0 → ⊥) →
       Belongs few (x.tasks u).env.exec (few.home o) →
       (v : ℕ) → EnvBy (λ n y. n ≡ (x.tasks u).env.exec → ⊥) (x.tasks v).env → EnvBy FreshEx (x.tasks v).env →
       EnvBy (SparesEx t few o) (x.tasks v).env

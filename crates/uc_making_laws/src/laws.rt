@@ -5,6 +5,7 @@ ghost use Rattle.uc_making_laws.specs.ForgetsThis.{LawForgetsThis};
 ghost use Rattle.uc_making_laws.specs.LettingGo.{LawLetting};
 ghost use Rattle.uc_making_laws.specs.LettingRuns.{LawLettingRuns};
 ghost use Rattle.uc_making_laws.specs.NoOthers.{LawNoOthers};
+ghost use Rattle.uc_making_laws.specs.Nobodys.{LawNobodys};
 ghost use Rattle.uc_making_laws.specs.OwnThis.{LawThis};
 ghost use Rattle.uc_making_laws.specs.ThisRuns.{LawThisRuns};
 ghost use Rattle.uc_making_laws.specs.Upheld.{LawUpheld};
@@ -39,6 +40,11 @@ pub fn law_letting_runs()
 /// hand that in which it was at home, who acted has no operands, and those that wait there are not to let go of it.
 pub fn law_forgets_this()
     ensures { LawForgetsThis }
+{}
+
+/// So no activation is of what has gone, in such runs, but the one that let go of it, which only comes to its end.
+pub fn law_nobodys()
+    ensures { LawNobodys }
 {}
 
 /// On the way to what a task asks next, what executions were to clean up as they made others stays with them.

@@ -27,8 +27,8 @@ module _ (old new : List (Bor Stmt)) (s : Bor Stmt) (pushed : new ≡ old ++ s �
 
 -- one turn more of a loop over a list, and its end
 
-module _ {X : Type 0} (F : List X → List Stmt) (xs : List X) (i : ℕ) where
-  pub turned : (x : X) (piece was now whole : List Stmt) → i < length xs → x ≡ get_or xs i x → F (x ∷ drop (i + 1) xs) ≡ piece ++ F (drop (i + 1) xs) → now ≡ was ++ piece → was ++ F (drop i xs) ≡ whole → now ++ F (drop (i + 1) xs) ≡ whole
+module _ {X A : Type 0} (F : List X → List A) (xs : List X) (i : ℕ) where
+  pub turned : (x : X) (piece was now whole : List A) → i < length xs → x ≡ get_or xs i x → F (x ∷ drop (i + 1) xs) ≡ piece ++ F (drop (i + 1) xs) → now ≡ was ++ piece → was ++ F (drop i xs) ≡ whole → now ++ F (drop (i + 1) xs) ≡ whole
   turned x piece was now whole within is step put before =
       let rest = F (drop (i + 1) xs) in
       ap (λ l. l ++ rest) put
@@ -36,7 +36,7 @@ module _ {X : Type 0} (F : List X → List Stmt) (xs : List X) (i : ℕ) where
       ∙ ap (λ l. was ++ l) (sym (at_drop_more F xs i x within ∙ ap (λ y. F (y ∷ drop (i + 1) xs)) (sym is) ∙ step))
       ∙ before
 
-  pub ended : (was whole : List Stmt) → F [] ≡ [] → length xs ≤ i → was ++ F (drop i xs) ≡ whole → was ≡ whole
+  pub ended : (was whole : List A) → F [] ≡ [] → length xs ≤ i → was ++ F (drop i xs) ≡ whole → was ≡ whole
   ended was whole none past before = sym (append-nil was) ∙ ap (λ l. was ++ l) (sym (at_drop_all F xs i past ∙ none)) ∙ before
 
 -- the size of what is left falls
@@ -44,3 +44,7 @@ pub falls : {X : Type 0} (size : List X → ℕ) (xs : List X) (i : ℕ) (x : X)
 falls size xs i x n within is less before =
     let left : size (drop i xs) ≡ size (x ∷ drop (i + 1) xs) = at_drop_more size xs i x within ∙ ap (λ y. size (y ∷ drop (i + 1) xs)) (sym is) in
     omega (arith, left, less, before)
+
+-- one more behind a list, as each is seen
+pub pushed : {A B : Type 0} (f : A → B) (old new : List A) (x : A) → new ≡ old ++ x ∷ [] → map f new ≡ map f old ++ f x ∷ []
+pushed f old new x e = ap (λ l. map f l) e ∙ map-append f old (x ∷ [])

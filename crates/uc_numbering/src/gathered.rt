@@ -44,22 +44,7 @@ fn push_stmt<'a>(found: &mut Vec<&'a Stmt>, s: &'a Stmt) -> Result<(), AllocErro
             push_clauses(found, clauses)?;
             push_maybe(found, other)
         }
-        StmtForm::Empty
-        | StmtForm::Evaluate { .. }
-        | StmtForm::Declare { .. }
-        | StmtForm::Break
-        | StmtForm::Continue
-        | StmtForm::Return { .. }
-        | StmtForm::Throw { .. }
-        | StmtForm::Raise { .. }
-        | StmtForm::RaiseAt { .. }
-        | StmtForm::Print { .. }
-        | StmtForm::PrintTogether { .. }
-        | StmtForm::Read { .. }
-        | StmtForm::Resume
-        | StmtForm::Suspend
-        | StmtForm::Yield
-        | StmtForm::Migrate { .. } => Ok(()),
+        _ => Ok(()),
     }
 }
 

@@ -101,30 +101,7 @@ fn push_site(
             found.push(site)?;
             Ok(())
         }
-        StmtForm::Block { .. }
-        | StmtForm::Empty
-        | StmtForm::Evaluate { .. }
-        | StmtForm::Declare { .. }
-        | StmtForm::If { .. }
-        | StmtForm::While { .. }
-        | StmtForm::Do { .. }
-        | StmtForm::For { .. }
-        | StmtForm::Break
-        | StmtForm::Continue
-        | StmtForm::Return { .. }
-        | StmtForm::Try { .. }
-        | StmtForm::Throw { .. }
-        | StmtForm::Raise { .. }
-        | StmtForm::RaiseAt { .. }
-        | StmtForm::Enable { .. }
-        | StmtForm::Disable { .. }
-        | StmtForm::Print { .. }
-        | StmtForm::PrintTogether { .. }
-        | StmtForm::Read { .. }
-        | StmtForm::Resume
-        | StmtForm::Suspend
-        | StmtForm::Yield
-        | StmtForm::Migrate { .. } => Ok(()),
+        _ => Ok(()),
     }
 }
 

@@ -44,12 +44,12 @@ lives_here j w u s h =
     inl (u, h, ap (λ (x : State). x.env.exec) same, ap (λ (x : State). x.run ∷ x.callers) same)
 
 pub law_owner_runs : LawOwnerRuns
-law_owner_runs p formed accepted few places input opts range j w r fits on puts n s c put own yet rank up k todo control o at out =
+law_owner_runs p formed accepted few places input opts range j w r fits on puts n s c put rank k todo control o at up out =
     let keeps = law_runs (table_of p) few (source_of p) input opts j w r puts in
     let alive = law_alive opts (source_of p).sites input j (run_rests (source_of p) input opts range r fits on).kernel on c.processor n c.runs in
     let here = lives_here j w n s alive in
-    let nowhere = law_owners.nowhere (table_of p) few j (world_at w n s) own yet rank o (lone_at (table_of p) few w n s keeps.world (keeps.comes n s c put)) out up in
+    let nowhere = law_owners.nowhere (table_of p) few j (world_at w n s) rank o (lone_at (table_of p) few w n s keeps.world (keeps.comes n s c put)) out up in
     let a = law_aimed (table_of p) few s k todo control o at in (
-      law_nowhere.lives (table_of p) few j (world_at w n s) own yet rank o nowhere s.env.exec (s.run ∷ s.callers) here,
-      (a.0, law_owners.aimed (table_of p) few j (world_at w n s) own yet rank o nowhere places s.env.exec k.sigs (s.run ∷ s.callers) here a.0 a.2),
+      law_nowhere.lives (table_of p) few j (world_at w n s) rank o nowhere s.env.exec (s.run ∷ s.callers) here,
+      (a.0, law_owners.aimed (table_of p) few j (world_at w n s) rank o nowhere places s.env.exec k.sigs (s.run ∷ s.callers) here a.0 a.2),
     )

@@ -1,5 +1,5 @@
 -- What is out of scope is nowhere in a world, since marks are for what is their execution's own.
-use Rattle.std.proofs.Common.{◌≡◌, ℕ, inl, inr, Bool, true, List, [], ◌∷◌, Option, Some, None, refl, sym, subst, ⊎_elim}
+use Rattle.std.proofs.Common.{◌≡◌, ℕ, inl, inr, List, [], ◌∷◌, Option, Some, None, refl, sym, subst}
 use Rattle.uc_tree.specs.Source as src
 use Rattle.uc_tree.specs.Source.{CleanUp}
 use Rattle.uc_acts.specs.Journal.{Journal}
@@ -16,12 +16,12 @@ use Rattle.uc_life_laws.specs.Things.{Few, Within, itself, field, element, AtFie
 use Rattle.uc_life_laws.specs.LifeStates.{SlotBy, ParkedBy, HandBy, MembersBy}
 use Rattle.uc_life_laws.specs.Belonging.{Belongs, frame, object}
 use Rattle.uc_life_laws.specs.Knowing.{InMaking}
-use Rattle.uc_life_laws.specs.Marks.{Marked, OfClean, OfSort, AllLone, LoneStack, LoneEx}
-use Rattle.uc_life_laws.specs.Rooted.{IsPlace, InSlot, InParked, InHand, InMembers, Lives, Yet, StandsUpwards}
+use Rattle.uc_life_laws.specs.Marks.{Marked, Free, OfClean, OfSort, AllLone, LoneStack, LoneEx}
+use Rattle.uc_life_laws.specs.Rooted.{IsPlace, InSlot, InParked, InHand, InMembers, Lives}
 use Rattle.uc_life_laws.specs.Unmarked.{LoneWorld}
 use Rattle.uc_life_laws.proofs.Own.{further_own}
-use Rattle.uc_life_laws.proofs.Rooted.{stands_split, stands_things}
-use Rattle.uc_apart_laws.specs.Nowhere.{IsNowhere}
+use Rattle.uc_life_laws.proofs.Rooted.{stands_things}
+use Rattle.uc_apart_laws.specs.Nowhere.{AroundUpwards, IsNowhere}
 use Rattle.uc_apart_laws.proofs.Nowhere.{law_nowhere}
 use Rattle.uc_tasked_laws.specs.Aims.{IsAimed}
 use Rattle.uc_owner_laws.specs.Owners.{OutOfScope, LawOwners}
@@ -112,35 +112,28 @@ module _ (t : Table) (few : Few) where
   lone j x h n cs (inr (inl (v, inr i))) = in_hand n cs (x.tasks v).env.hand i (h.tasks v).env.hand
   lone j x h n cs (inr (inr (q, i))) = in_members n cs (home.Object q) (x.homes q) i (h.homes q)
 
-module _ (t : Table) (few : Few) (j : Journal) (x : World) (own : Exec → Value → Ty → Bool) (yet : Exec → List Active → Value → Ty → Bool) (rank : Exec → ℕ) (o : ℕ) where
-  module _ (world : LoneWorld t few x) (out : OutOfScope t few j x own yet o) where
+module _ (t : Table) (few : Few) (j : Journal) (x : World) (rank : Exec → ℕ) (o : ℕ) where
+  module _ (world : LoneWorld t few x) (out : OutOfScope t few j x o) where
     -- a mark around it would be that of one which has it at home in what is its own
-    none_yet : (n : Exec) (cs : List Active) → Lives j x n cs → (c : ℕ) → Stands t few (Yet t yet n cs) (Cell (Obj c)) (few.home o) → ⊥
-    none_yet n cs l c h =
-        ⊎_elim
-        (λ m. out.unmarked n cs l (stands_own t few n (Marked t n cs) (stack_own t few n cs (lone t few j x world n cs l)) (Cell (Obj c)) (few.home o) m) c m)
-        (λ m. out.told n cs l c m)
-        (stands_split t few (Yet t yet n cs) (Marked t n cs) (λ w b. yet n cs w b ≡ true) (λ w b y. y) (Cell (Obj c)) (few.home o) h)
+    unmarked : (n : Exec) (cs : List Active) → Lives j x n cs → Free t few o (Marked t n cs)
+    unmarked n cs l c h =
+        out n cs l (stands_own t few n (Marked t n cs) (stack_own t few n cs (lone t few j x world n cs l)) (Cell (Obj c)) (few.home o) h) c h
 
-    nowhere : StandsUpwards t few j x own yet rank → IsNowhere t few j x own yet rank o
-    nowhere up = record {
-      up = up;
-      outside = λ n cs l c h. let k = out.covered n cs l c h in none_yet k.0 k.1 k.2 k.3 k.4;
-      unmarked = none_yet;
-    }
+    nowhere : AroundUpwards t few j x rank o → IsNowhere t few j x rank o
+    nowhere up = record { up = up; unmarked = unmarked }
 
   no_place : IsPlace (Object o) → ⊥
   no_place h = h
 
-  aimed : IsNowhere t few j x own yet rank o → ((n : Exec) (w : Value) (b : Ty) → Base few n w b → IsPlace w) → (n : Exec) (gs : List Sig) (cs : List Active) → Lives j x n cs → (i : ℕ) → IsAimed t few n gs cs i o → InMaking gs cs (Object o) (Raw i)
+  aimed : IsNowhere t few j x rank o → ((n : Exec) (w : Value) (b : Ty) → Base few n w b → IsPlace w) → (n : Exec) (gs : List Sig) (cs : List Active) → Lives j x n cs → (i : ℕ) → IsAimed t few n gs cs i o → InMaking gs cs (Object o) (Raw i)
   aimed k places n gs cs l i (inl h) =
-      absurd (law_nowhere.lives t few j x own yet rank o k n cs l i (stands_things t few n gs cs (Obj i) (few.home o) h))
+      absurd (law_nowhere.lives t few j x rank o k n cs l i (stands_things t few n gs cs (Obj i) (few.home o) h))
   aimed k places n gs cs l i (inr (inl (inl h))) = absurd (no_place (places n (Object o) (Obj i) h))
   aimed k places n gs cs l i (inr (inl (inr h))) = absurd (no_place (places n (Object o) (Raw i) h))
   aimed k places n gs cs l i (inr (inr h)) = h
 
 pub law_owners : LawOwners
 law_owners = record {
-  nowhere = λ t few j x own yet rank o world out up. nowhere t few j x own yet rank o world out up;
-  aimed = λ t few j x own yet rank o h places n gs cs l i a. aimed t few j x own yet rank o h places n gs cs l i a;
+  nowhere = λ t few j x rank o world out up. nowhere t few j x rank o world out up;
+  aimed = λ t few j x rank o h places n gs cs l i a. aimed t few j x rank o h places n gs cs l i a;
 }

@@ -30,7 +30,7 @@ use Rattle.uc_rooted_runs.specs.OutlastRuns.{with_homes, now}
 use Rattle.uc_rooted_runs.specs.KeptRuns.{KeepsAt}
 use Rattle.uc_parts_laws.specs.Parts.{CleansPart, Counts, CountsPlace, OpensAll, FillEnds, CountsNext, FreeBy, IsFree, IsClear, SetsUp, Parted, IsOrderly}
 use Rattle.uc_parts_laws.specs.PartStates.{Setting, Spot, seat_at, InParts, OverIn, Over, IsTaken, PartsState}
-use Rattle.uc_parts_laws.specs.Leaving.{GoesAt, LawLeaving}
+use Rattle.uc_parts_laws.specs.Leaving.{NamesNew, GoesAt, LawLeaving}
 
 -- an element that is destroyed is one of so many
 
@@ -172,6 +172,11 @@ module _ (source : Source) (special : ℕ → Bool) (makers : Makers) (homes : �
   exits p todo l = tt
 
   leaves : PartsState (G source special homes) s → (l : List Todo) → s.run.control ≡ l → IsOrderly special Q s.run.elements l → GoesAt source Seats Up l s → KeepsAt (with_homes homes makers) asked source Up l s
+  leaves st [] e k g = g
+  leaves st (piece.ClearNow i m ∷ todo) e k g = g
+  leaves st (piece.Finish ∷ todo) e k g = g
+  leaves st (piece.Exit way ∷ []) e k g = g
+  leaves st (piece.Unwind ∷ []) e k g = g
   leaves st (piece.Clean c ∷ todo) e k g = g
   leaves st (piece.Part c ∷ todo) e k g = part c todo st e k.0.1 k.0.0 k.1
   leaves st (piece.FillNow m b d ∷ todo) e k g = λ f. fill m b d todo e k.0 f
@@ -208,4 +213,7 @@ pub law_leaving : LawLeaving
 law_leaving source special makers homes asked made s st later k = record {
   leaves = leaves source special makers homes asked made s st s.run.control refl st.run k;
   held = λ n b a u g. made_soon source special makers homes asked made s st later n b u g;
+  named = λ n b a u g.
+      let new : NamesNew source (seating (with_homes homes makers)) (now (with_homes homes makers) asked made) s = subst (λ l. GoesAt source (seating (with_homes homes makers)) (now (with_homes homes makers) asked made) l s) b.next k in
+      new n b u g;
 }

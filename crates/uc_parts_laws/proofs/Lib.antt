@@ -14,4 +14,10 @@ pub mod Undoings
 pub mod UndoingSources
 pub mod UndoingWorlds
 pub mod TakenRuns
+pub mod FramesStay
+pub mod NewNames
+pub mod FieldKeeping
+pub mod FieldSteps
+pub mod FieldWalk
+pub mod FieldNames
 pub mod Naming

@@ -1,33 +1,50 @@
 -- An execution whose coroutine is forgotten is there no more at the end of a way, where the first cell of that names it.
 use Rattle.std.proofs.Common.{◌≡◌, ℕ, suc, Bool, true, false, List, [], ◌∷◌, Option, Some, None, refl, sym, ap, ◌∙◌, subst}
-use Rattle.std.specs.Prelude.{if◌then◌else◌}
+use Rattle.std.specs.Prelude.{if◌then◌else◌, slice_index_or}
 use Rattle.uc_tree.specs.Source as src
+use Rattle.uc_tree.specs.Programs.{Program}
 use Rattle.uc_tree.specs.Source.{Source, CleanUp}
-use Rattle.uc_entry.specs.declared.entry.Entry.{Entry}
 use Rattle.uc_entry.specs.declared.entry.Options.{Options}
 use Rattle.uc_entry.specs.declared.request.Asked.{Asked}
 use Rattle.uc_entry.specs.declared.request.Request.{Request}
 use Rattle.uc_entry.specs.declared.request.Request.TheVariants as ask
+use Rattle.uc_entry.specs.Keyed.{find}
 use Rattle.uc_acts.specs.Journal.{Journal}
+use Rattle.uc_acts.specs.KernelRuns.{InRange}
 use Rattle.uc_machine.specs.declared.exec.Exec.{Exec}
 use Rattle.uc_machine.specs.declared.exec.Home.TheVariants.{Object}
-use Rattle.uc_machine.specs.Executions.{home_eq, exec_eq, members_at}
+use Rattle.uc_machine.specs.declared.exec.Owner.TheVariants.{Frame, Fields}
+use Rattle.uc_machine.specs.Executions.{home_eq, exec_eq, members_at, values_in}
 use Rattle.uc_machine.specs.Raising as raising
 use Rattle.uc_machine.specs.Quiet as quiet
 use Rattle.uc_machine.specs.Pieces as piece
-use Rattle.uc_machine.specs.Pieces.{Value, Todo, ForgetNow, Sort, State, Members, Goes, Ticks, Asks, at, own_exec}
+use Rattle.uc_machine.specs.Pieces.{Value, Running, Todo, ForgetNow, Sort, State, Members, Goes, Ticks, Asks, at, exec_in, nought, own_exec}
 use Rattle.uc_machine.specs.Rides.{Rides, slices, goes_on, ticks, asks}
-use Rattle.uc_meaning.specs.Runs.{World, May, Runs, gives, no_room, acts, begun, more}
+use Rattle.uc_meaning.specs.Runs.{World, Runs, gives, no_room, acts, begun, more, or_else}
 use Rattle.uc_name_laws.specs.Below.{Ex, slot_at}
 use Rattle.uc_name_laws.proofs.Homes.{no_both, exec_self}
-use Rattle.uc_life_laws.specs.Held.{Seating}
-use Rattle.uc_life_laws.specs.Ways.{ForgetsBy, UnwindsBy}
+use Rattle.uc_state_laws.specs.Fitting.{RunFits}
+use Rattle.uc_state_laws.specs.Opens.{RideMeets, RunMeets}
+use Rattle.uc_life_laws.specs.Held.{Seating, AreLines, LetsGo}
+use Rattle.uc_life_laws.specs.Ways.{NamesHere, IsForgotten, ForgetsBy, UnwindsBy}
+use Rattle.uc_putting_laws.specs.Putting.{Setting}
+use Rattle.uc_rooted_runs.specs.Births.{MakesLater, RunSpawnsLater}
 use Rattle.uc_rooted_runs.specs.Makers.{Makers, seating}
 use Rattle.uc_rooted_runs.specs.OutlastRuns.{with_homes, made_behind, run_made, now}
-use Rattle.uc_rooted_runs.specs.Still.{unless_there, without_one, without_own, still_by, still_behind, ride_still, still_asked, may_still, run_still, way_still}
-use Rattle.uc_parts_laws.specs.Leaving.{GoesAt}
-use Rattle.uc_parts_laws.specs.Naming.{IsNamed, NamesBy, NamesPast, NamesAt, RideNamesOwn, MayNameOwn, RunNamesOwn, LawNaming}
-use Rattle.uc_parts_laws.specs.PartsRuns.{RideKeepsBeside, MayKeepBeside, RunKeepsBeside}
+use Rattle.uc_rooted_runs.specs.Still.{unless_there, without_one, without_own, still_by, still_behind, ride_still, still_asked, run_still, way_still}
+use Rattle.uc_parts_laws.specs.Leaving.{NamesNew, GoesAt}
+use Rattle.uc_parts_laws.specs.FramesStay.{IsEnd}
+use Rattle.uc_parts_laws.specs.Naming.{StandsAt, NamesFirst, FindsHome, NamesBy, NamesPast, NamesAt, RideNamesOwn, RunNamesOwn, LawNaming}
+use Rattle.uc_parts_laws.specs.PartsRuns.{RideKeepsBeside, RunKeepsBeside}
+use Rattle.uc_parts_laws.proofs.FieldNames.{InCell, NamedBy, seen, AllIn, goes_behind, ticks_behind, start_in, run_in}
+use Rattle.uc_parts_laws.proofs.FramesStay.{law_frames_stay}
+use Rattle.uc_parts_laws.proofs.NewNames.{new_named}
+
+-- the first cell of the object at hand names this execution, which is in hand
+record IsNamed (x : Exec) (s : State) : Type 0 where
+  own : own_exec s ≡ Some x
+  members : Members
+  in_hand : members_at x.home s.env ≡ Some members
 
 -- who is there was there before
 
@@ -82,10 +99,46 @@ ride_forgets source still (goes_on {s} i r) todo x c n e = no_both (still_behind
 ride_forgets source still (ticks {s} i r) todo x c n e = no_both (still_behind s still x) (ride_before source (still_behind s still) r x e) (forgotten_next s todo still x c n)
 ride_forgets source still (asks {s} i) todo x c n e = no_both (still_behind s still x) e (forgotten_next s todo still x c n)
 
-module _ (source : Source) (seats : Seating) (up : Exec → Bool) (s : State) (never : (todo : List Todo) (vs : List Value) → quiet.quiet source s ≡ Goes (at (ForgetNow ∷ todo) vs s) → (x : Exec) → up x ≡ true → IsNamed x s → ⊥) where
+abbrev is_framed : Value → Bool
+is_framed (piece.Place (Frame n d) p) = true
+is_framed v = false
+
+-- what lies in a mutex object in hand names its execution
+cell_here : (o k : ℕ) (x : Exec) (s : State) (homes : ℕ → Option Members) (m : Members) → find o s.env.hand ≡ Some m → InCell (seen homes s o) k x → exec_in (slice_index_or (values_in (find o s.env.hand)) k nought) ≡ Some x
+cell_here o k x s homes m e i =
+    let cell : slice_index_or m.values k nought ≡ Running x = subst (λ z. InCell (or_else z (homes o)) k x) e i in
+    ap (λ z. exec_in (slice_index_or (values_in z) k nought)) e ∙ ap exec_in cell
+
+named_here : (x : Exec) (s : State) (homes : ℕ → Option Members) (m : Members) → members_at x.home s.env ≡ Some m → (v : Value) → s.run.this ≡ v → is_framed v ≡ false → NamedBy (seen homes s) x v → IsNamed x s
+named_here x s homes m e (piece.Place (Frame n d) p) i f h = let no : true ≡ false = f in absurd (cc)
+named_here x s homes m e (piece.Place (Fields o) p) i f h =
+    let hand : find o s.env.hand ≡ Some m = ap (λ k. members_at k s.env) (sym h.0) ∙ e in
+    record { own = ap (λ v. exec_in (piece.loaded v s.env)) i ∙ cell_here o (piece.address p) x s homes m hand h.1; members = m; in_hand = e }
+named_here x s homes m e (piece.Object o) i f h =
+    let hand : find o s.env.hand ≡ Some m = ap (λ k. members_at k s.env) (sym h.0) ∙ e in
+    record { own = ap (λ v. exec_in (piece.loaded v s.env)) i ∙ cell_here o 0 x s homes m hand h.1; members = m; in_hand = e }
+named_here x s homes m e (piece.Number z) i f h = absurd h
+named_here x s homes m e (piece.Running y) i f h = absurd h
+named_here x s homes m e piece.Nothing i f h = absurd h
+
+module _ (source : Source) (seats : Seating) (up : Exec → Bool) (s : State) (members : Members) (homed : members_at s.env.exec.home s.env ≡ Some members) (homes : ℕ → Option Members) (inside : (x : Exec) → up x ≡ true → (seats.seat x).task ≡ false → NamedBy (seen homes s) x (seats.seat x).place) (never : (todo : List Todo) (vs : List Value) → quiet.quiet source s ≡ Goes (at (ForgetNow ∷ todo) vs s) → (x : Exec) → up x ≡ true → IsNamed x s → ⊥) where
   -- so nobody is named where a coroutine is forgotten next
   by_clean : (c : CleanUp) (todo : List Todo) (vs : List Value) → quiet.quiet source s ≡ Goes (at (piece.clean_todo c todo) vs s) → NamesBy source seats up c s → ForgetsBy source seats up c s
-  by_clean src.Forgets todo vs e h = λ x own t i. never todo vs e x own.0 (h x own t i)
+  by_clean src.Forgets todo vs e h = by s.run.this refl h
+    where
+      unframed : (v : Value) → s.run.this ≡ v → is_framed v ≡ false → (x : Exec) → up x ≡ true → (seats.seat x).task ≡ false → s.run.this ≡ (seats.seat x).place → (m : Members) × (members_at x.home s.env ≡ Some m) → ⊥
+      unframed v i f x u t same z =
+          never todo vs e x u (named_here x s homes z.0 z.1 v i f (subst (NamedBy (seen homes s) x) (sym same ∙ i) (inside x u t)))
+
+      by : (v : Value) → s.run.this ≡ v → FindsHome source seats up s v → IsForgotten source seats up s
+      by (piece.Place (Frame n d) p) i k x own t same n_is =
+          let names : NamesHere x s (piece.Place (Frame n d) p) = subst (NamesHere x s) i n_is in
+          never todo vs e x own.0 (record { own = names.0; members = members; in_hand = ap (λ z. members_at z s.env) names.1 ∙ homed })
+      by (piece.Place (Fields o) p) i k x own t same n_is = unframed (piece.Place (Fields o) p) i refl x own.0 t same (k x own t same)
+      by (piece.Number z) i k x own t same n_is = unframed (piece.Number z) i refl x own.0 t same (k x own t same)
+      by (piece.Running y) i k x own t same n_is = unframed (piece.Running y) i refl x own.0 t same (k x own t same)
+      by (piece.Object o) i k x own t same n_is = unframed (piece.Object o) i refl x own.0 t same (k x own t same)
+      by piece.Nothing i k x own t same n_is = unframed piece.Nothing i refl x own.0 t same (k x own t same)
   by_clean (src.Destroys a) todo vs e h = h
   by_clean c todo vs e h = tt
 
@@ -99,11 +152,17 @@ module _ (source : Source) (seats : Seating) (up : Exec → Bool) (s : State) (n
   past (piece.IsPart c) todo e h = by_clean c (piece.Unwind ∷ todo) [] e h
   past k todo e h = tt
 
-  named_at : (l : List Todo) → s.run.control ≡ l → NamesAt source seats up l s → GoesAt source seats up l s
-  named_at (piece.Clean c ∷ todo) i h = by_clean c todo s.run.operands (ap (λ l. quiet.act_todo source l s) i) h
-  named_at (piece.Sweep d ∷ todo) i h = h
-  named_at (piece.Unwind ∷ (p ∷ todo)) i h = past (piece.sort p) todo (ap (λ l. quiet.act_todo source l s) i) h
-  named_at l i h = tt
+  named_at : (l : List Todo) → s.run.control ≡ l → (IsEnd l → LetsGo source seats up s) → (NamesFirst source s → NamesNew source seats up s) → ((todo : List Todo) → l ≡ piece.Finish ∷ todo → AreLines todo) → NamesAt source seats up l s → GoesAt source seats up l s
+  named_at [] i f n y h = f tt
+  named_at (piece.ClearNow k m ∷ todo) i f n y h = h
+  named_at (piece.SetUpNow r ∷ todo) i f n y h = n h
+  named_at (piece.Finish ∷ todo) i f n y h = f (y todo refl)
+  named_at (piece.Exit way ∷ []) i f n y h = f tt
+  named_at (piece.Unwind ∷ []) i f n y h = f tt
+  named_at (piece.Clean c ∷ todo) i f n y h = by_clean c todo s.run.operands (ap (λ l. quiet.act_todo source l s) i) h
+  named_at (piece.Sweep d ∷ todo) i f n y h = h
+  named_at (piece.Unwind ∷ (p ∷ todo)) i f n y h = past (piece.sort p) todo (ap (λ l. quiet.act_todo source l s) i) h
+  named_at l i f n y h = tt
 
 module _ (makers : Makers) (asked : Exec → Bool) where
   pub now_asked : (made : Exec → Bool) (x : Exec) → now makers asked made x ≡ true → asked x ≡ true
@@ -113,50 +172,62 @@ module _ (makers : Makers) (asked : Exec → Bool) where
       by true e h = e
       by false e h = absurd (cc)
 
+  now_made : (made : Exec → Bool) (x : Exec) → now makers asked made x ≡ true → made x ≡ true
+  now_made made x h = by (asked x) h
+    where
+      by : (b : Bool) → (if b then made x else false) ≡ true → made x ≡ true
+      by true h = h
+      by false h = absurd (cc)
+
+  -- a state, behind which none that is up is forgotten next
+  module _ (program : Program) (g : Setting) (whole : Makers) (homes : ℕ → Value) (same : makers ≡ with_homes homes whole) (made : Exec → Bool) (s : State) (st : StandsAt program g s) (later : MakesLater g.source whole s) (at_homes : ℕ → Option Members) (inside : AllIn g.source whole (seen at_homes s) made) (never : (todo : List Todo) (vs : List Value) → quiet.quiet g.source s ≡ Goes (at (ForgetNow ∷ todo) vs s) → (x : Exec) → now makers asked made x ≡ true → IsNamed x s → ⊥) where
+    up_inside : (x : Exec) → now makers asked made x ≡ true → (makers.seat x).task ≡ false → NamedBy (seen at_homes s) x (makers.seat x).place
+    up_inside x u t =
+        subst (NamedBy (seen at_homes s) x) (ap (λ (z : Makers). (z.seat x).place) (sym same)) (inside x (now_made made x u) (ap (λ (z : Makers). (z.seat x).task) (sym same) ∙ t))
+
+    beside_at : NamesAt g.source (seating makers) (now makers asked made) s.run.control s → GoesAt g.source (seating makers) (now makers asked made) s.run.control s
+    beside_at h =
+        named_at g.source (seating makers) (now makers asked made) s st.members st.homed at_homes up_inside never s.run.control refl (λ e. law_frames_stay program g (seating makers) (now makers asked made) s st.put st.stack e) (λ k. new_named program g (seating makers) (now makers asked made) s st.put st.stack (λ n b. ap (λ (z : Makers). (z.seat n).place) same ∙ (later n b).seat) k) st.ends.finish h
+
   -- a ride, at the end of which all of whom it is asked are there
+  module _ (program : Program) (g : Setting) (whole : Makers) (homes : ℕ → Value) (same : makers ≡ with_homes homes whole) where
+    ride_beside : (at_homes : ℕ → Option Members) (made still : Exec → Bool) {s u : State} {q k : ℕ} {a : Asked} (r : Rides g.source s q u k a) → RideMeets (StandsAt program g) g.source s q u k a r → RideMeets (MakesLater g.source whole) g.source s q u k a r → AllIn g.source whole (seen at_homes s) made → ((x : Exec) → asked x ≡ true → ride_still g.source still r x ≡ true) → RideNamesOwn makers asked g.source made r → RideKeepsBeside makers asked g.source made r
+    ride_beside z made still slices st m i f h = tt
+    ride_beside z made still (goes_on {s} {t} e r) st m c f h =
+        (beside_at program g whole homes same made s st.0 m.0 z c never h.0, ride_beside z (made_behind g.source s made) (still_behind s still) r st.1 m.1 (goes_behind g.source whole z makers asked made s t e m.0 h.0 c) f h.1)
+      where
+        never : (todo : List Todo) (vs : List Value) → quiet.quiet g.source s ≡ Goes (at (ForgetNow ∷ todo) vs s) → (x : Exec) → now makers asked made x ≡ true → IsNamed x s → ⊥
+        never todo vs i x u n =
+            let both : Goes (at (ForgetNow ∷ todo) vs s) ≡ Goes t = sym i ∙ e in
+            let same : at (ForgetNow ∷ todo) vs s ≡ t = cc both in
+            let there : IsNamed x (at (ForgetNow ∷ todo) vs s) = record { own = n.own; members = n.members; in_hand = n.in_hand } in
+            ride_forgets g.source (still_behind s still) r todo x (ap (λ (v : State). v.run.control) (sym same)) (subst (IsNamed x) same there) (f x (now_asked made x u))
+    ride_beside z made still (ticks {s} {t} e r) st m c f h =
+        (beside_at program g whole homes same made s st.0 m.0 z c never h.0, ride_beside z (made_behind g.source s made) (still_behind s still) r st.1 m.1 (ticks_behind g.source whole z makers asked made s t e m.0 c) f h.1)
+      where
+        never : (todo : List Todo) (vs : List Value) → quiet.quiet g.source s ≡ Goes (at (ForgetNow ∷ todo) vs s) → (x : Exec) → now makers asked made x ≡ true → IsNamed x s → ⊥
+        never todo vs i x u n = let both : Goes (at (ForgetNow ∷ todo) vs s) ≡ Ticks t = sym i ∙ e in absurd (cc)
+    ride_beside z made still (asks {s} {t} {q} {r} e) st m c f h = beside_at program g whole homes same made s st m z c never h
+      where
+        never : (todo : List Todo) (vs : List Value) → quiet.quiet g.source s ≡ Goes (at (ForgetNow ∷ todo) vs s) → (x : Exec) → now makers asked made x ≡ true → IsNamed x s → ⊥
+        never todo vs i x u n = let both : Goes (at (ForgetNow ∷ todo) vs s) ≡ Asks r t = sym i ∙ e in absurd (cc)
 
-  ride_beside : (source : Source) (made still : Exec → Bool) {s u : State} {q k : ℕ} {a : Asked} (r : Rides source s q u k a) → ((x : Exec) → asked x ≡ true → ride_still source still r x ≡ true) → RideNamesOwn makers asked source made r → RideKeepsBeside makers asked source made r
-  ride_beside source made still slices f h = tt
-  ride_beside source made still (goes_on {s} {t} e r) f h =
-      (named_at source (seating makers) (now makers asked made) s never s.run.control refl h.0, ride_beside source (made_behind source s made) (still_behind s still) r f h.1)
-    where
-      never : (todo : List Todo) (vs : List Value) → quiet.quiet source s ≡ Goes (at (ForgetNow ∷ todo) vs s) → (x : Exec) → now makers asked made x ≡ true → IsNamed x s → ⊥
-      never todo vs i x u n =
-          let both : Goes (at (ForgetNow ∷ todo) vs s) ≡ Goes t = sym i ∙ e in
-          let same : at (ForgetNow ∷ todo) vs s ≡ t = cc both in
-          let there : IsNamed x (at (ForgetNow ∷ todo) vs s) = record { own = n.own; members = n.members; in_hand = n.in_hand } in
-          ride_forgets source (still_behind s still) r todo x (ap (λ (v : State). v.run.control) (sym same)) (subst (IsNamed x) same there) (f x (now_asked made x u))
-  ride_beside source made still (ticks {s} {t} e r) f h =
-      (named_at source (seating makers) (now makers asked made) s never s.run.control refl h.0, ride_beside source (made_behind source s made) (still_behind s still) r f h.1)
-    where
-      never : (todo : List Todo) (vs : List Value) → quiet.quiet source s ≡ Goes (at (ForgetNow ∷ todo) vs s) → (x : Exec) → now makers asked made x ≡ true → IsNamed x s → ⊥
-      never todo vs i x u n = let both : Goes (at (ForgetNow ∷ todo) vs s) ≡ Ticks t = sym i ∙ e in absurd (cc)
-  ride_beside source made still (asks {s} {t} {q} {r} e) f h = named_at source (seating makers) (now makers asked made) s never s.run.control refl h
-    where
-      never : (todo : List Todo) (vs : List Value) → quiet.quiet source s ≡ Goes (at (ForgetNow ∷ todo) vs s) → (x : Exec) → now makers asked made x ≡ true → IsNamed x s → ⊥
-      never todo vs i x u n = let both : Goes (at (ForgetNow ∷ todo) vs s) ≡ Asks r t = sym i ∙ e in absurd (cc)
-
-  module _ (source : Source) (input : List ℕ) (opts : Options) where
-    may_before : (still : Exec → Bool) {j : Journal} {w : World} {a : List Entry} {y : World} (m : May source opts input j w a y) (x : Exec) → may_still source input opts still m x ≡ true → still x ≡ true
-    may_before still (gives p t s h) x e = e
-    may_before still (no_room p t s h) x e = e
-    may_before still (acts p t n s q d) x e = ride_before source still d.rides x (asked_before q.request s (ride_still source still d.rides) x e)
-
-    may_beside : (made still : Exec → Bool) {j : Journal} {w : World} {a : List Entry} {y : World} (m : May source opts input j w a y) → ((x : Exec) → asked x ≡ true → may_still source input opts still m x ≡ true) → MayNameOwn makers asked source input opts made m → MayKeepBeside makers asked source input opts made m
-    may_beside made still (gives p t s h) f k = tt
-    may_beside made still (no_room p t s h) f k = tt
-    may_beside made still (acts p t n s q d) f k =
-        ride_beside source made still d.rides (λ x e. asked_before q.request s (ride_still source still d.rides) x (f x e)) k
-
-    run_beside : {j : Journal} {w : World} (r : Runs source input opts j w) → ((x : Exec) → asked x ≡ true → run_still source input opts r x ≡ true) → RunNamesOwn makers asked source input opts r → RunKeepsBeside makers asked source input opts r
-    run_beside begun f h = tt
-    run_beside (more r o m) f h =
-        (run_beside r (λ x e. may_before (run_still source input opts r) m x (f x e)) h.0, may_beside (run_made source input opts r) (run_still source input opts r) m f h.1)
+  module _ (program : Program) (g : Setting) (whole : Makers) (homes : ℕ → Value) (same : makers ≡ with_homes homes whole) (input : List ℕ) (opts : Options) (range : InRange opts) where
+    run_beside : {j : Journal} {w : World} (r : Runs g.source input opts j w) → RunFits g.source input opts j w r → RunMeets (StandsAt program g) g.source input opts j w r → RunMeets (MakesLater g.source whole) g.source input opts j w r → RunSpawnsLater whole g.source input opts j w r → ((x : Exec) → asked x ≡ true → run_still g.source input opts r x ≡ true) → RunNamesOwn makers asked g.source input opts r → RunKeepsBeside makers asked g.source input opts r
+    run_beside begun fits st l sp f h = tt
+    run_beside (more r o (gives p t v le)) fits st l sp f h = (run_beside r fits.0 st.0 l.0 sp.0 f h.0, tt)
+    run_beside (more r o (no_room p t v le)) fits st l sp f h = (run_beside r fits.0 st.0 l.0 sp.0 f h.0, tt)
+    run_beside (more {j} {w} r o (acts p t n s q d)) fits st l sp f h =
+        let still : (x : Exec) → asked x ≡ true → ride_still g.source (run_still g.source input opts r) d.rides x ≡ true = λ x e. asked_before q.request s (ride_still g.source (run_still g.source input opts r) d.rides) x (f x e) in
+        let begins = start_in g.source whole input opts range j w r fits.0 o sp.0 p t n s q d (run_in g.source whole input opts range makers asked r fits.0 l.0 sp.0 h.0) in (
+          run_beside r fits.0 st.0 l.0 sp.0 (λ x e. ride_before g.source (run_still g.source input opts r) d.rides x (still x e)) h.0,
+          ride_beside program g whole homes same w.homes (run_made g.source input opts r) (run_still g.source input opts r) d.rides st.1 l.1 begins still h.1,
+        )
 
 pub law_naming : LawNaming
 law_naming = record {
-  runs = λ source makers homes input opts j w r p u n s q d h.
-      run_beside (with_homes homes makers) (way_still source input opts r d) source input opts r (λ x e. ride_before source (run_still source input opts r) d.rides x e) h;
-  ride = λ source makers homes input opts j w r p u n s q d h.
-      ride_beside (with_homes homes makers) (way_still source input opts r d) source (run_made source input opts r) (run_still source input opts r) d.rides (λ x e. e) h;
+  runs = λ program g makers homes input opts j w r p u n s q d range fits st l sp h.
+      run_beside (with_homes homes makers) (way_still g.source input opts r d) program g makers homes refl input opts range r fits st l sp (λ x e. ride_before g.source (run_still g.source input opts r) d.rides x e) h;
+  ride = λ program g makers homes input opts j w r p u n s q d range fits on st l sp m k h.
+      ride_beside (with_homes homes makers) (way_still g.source input opts r d) program g makers homes refl w.homes (run_made g.source input opts r) (run_still g.source input opts r) d.rides st m (start_in g.source makers input opts range j w r fits on sp p u n s q d (run_in g.source makers input opts range (with_homes homes makers) (way_still g.source input opts r d) r fits l sp k)) (λ x e. e) h;
 }

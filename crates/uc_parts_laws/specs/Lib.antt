@@ -3,6 +3,7 @@ pub mod PartStates
 pub mod PartsLaws
 pub mod Leaving
 pub mod PartsRuns
+pub mod FramesStay
 pub mod Naming
 pub mod Undoing
 pub mod UndoingTodos

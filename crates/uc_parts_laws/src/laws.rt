@@ -1,5 +1,6 @@
 // The laws: each is a function whose contract is the law.
 
+ghost use Rattle.uc_parts_laws.specs.FramesStay.{LawFramesStay};
 ghost use Rattle.uc_parts_laws.specs.Leaving.{LawLeaving};
 ghost use Rattle.uc_parts_laws.specs.Naming.{LawNaming};
 ghost use Rattle.uc_parts_laws.specs.PartsLaws.{LawParts, LawPartsSources};
@@ -49,7 +50,13 @@ pub fn law_taking()
 {}
 
 /// Of those that are still there at the end of a way no coroutine was forgotten on it, where the first cell of each
-/// that is forgotten names its execution.
+/// names its execution as that is made.
 pub fn law_naming()
     ensures { LawNaming }
+{}
+
+/// Where an activation ends, its frame holds no coroutine of which the execution is held by others, or that is to be
+/// cleaned up by who waits.
+pub fn law_frames_stay()
+    ensures { LawFramesStay }
 {}

@@ -10,6 +10,7 @@ pub mod Searches
 pub mod Seats
 pub mod PuttingTodos
 pub mod Steps
+pub mod MonitorSteps
 pub mod Lone
 pub mod Walk
 pub mod LawSteps
@@ -22,3 +23,4 @@ pub mod Routines
 pub mod Worlds
 pub mod PuttingRuns
 pub mod OwnPlaces
+pub mod LoneObjects

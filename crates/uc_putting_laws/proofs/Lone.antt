@@ -250,7 +250,7 @@ module _ (Z : ℕ → ℕ → Type 0) (g : Setting) (laid : IsLaidOut Z g.table)
       )) n
 
   -- its scope is left next
-  pub scope_lone : (unwinds : Bool) (c : CleanUp) (todo : List Todo) → s.run.control ≡ leaving unwinds c todo → CodeScope g made c todo → Left g (here s) made todo → LoneFor g (here s) made c todo
+  pub scope_lone : (unwinds : Bool) (c : CleanUp) (todo : List Todo) → s.run.control ≡ leaving unwinds c todo → CodeScope g (here s) made c todo → Left g (here s) made todo → LoneFor g (here s) made c todo
   scope_lone unwinds (src.Destroys e) todo q n code = left_lone unwinds (src.Destroys e) todo q n.1 n.2 n.3 code
   scope_lone unwinds (src.DestroysAll m e) todo q n code = left_lone unwinds (src.DestroysAll m e) todo q n.1 n.2 n.3 code
   scope_lone unwinds c todo q n code = tt

@@ -70,7 +70,7 @@ module _ (g : Setting) (A : Around) (made : Reach) where
     holds = λ v e h. n m.0 m.1 a A.this v e m.2 (subst (λ x. Within g.table x a v (Cell (Obj e))) m.3 h);
   }
 
-  by_scope : (c : CleanUp) (todo : List Todo) (w : Value) (a : Ty) → CodeScope g made c todo → Cleaned c w a → IsField w a
+  by_scope : (c : CleanUp) (todo : List Todo) (w : Value) (a : Ty) → CodeScope g A made c todo → Cleaned c w a → IsField w a
   by_scope (src.Destroys e) todo w a n m = by_clean (src.Destroys e) w a n.1 n.3 m
   by_scope (src.DestroysAll j e) todo w a n m = by_clean (src.DestroysAll j e) w a n.1 n.3 m
   by_scope c todo w a n m = absurd m.2

@@ -20,7 +20,7 @@ use Rattle.uc_place_laws.proofs.AsideKeeping.{either}
 use Rattle.uc_life_laws.specs.Ending.{Spot, OfVariable, OfField}
 use Rattle.uc_putting_laws.specs.CleanedSpots.{Site, NoSite, AnySite, spot_of, Reach, apart, IsOutermost}
 use Rattle.uc_putting_laws.specs.Calling.{CallsAt, EndsAt, EndsNumber, Evaluates, SweepsBy, CleansBy, Begins}
-use Rattle.uc_putting_laws.specs.Putting.{Setting, Around, around, Mark, Any, rest, rests, anys, OpensRest, SeatAt, Counts, CodeMaybe, CodeItems, CodeStmt, CodeStmts, CodeHandlers, CodeClauses, CodeLoop, CodeSweep, CodeFill, CodeScope, CodePart, made_marks, CallFits, LeftBy, Ok, Left, Runs, Waits}
+use Rattle.uc_putting_laws.specs.Putting.{Setting, Around, around, Mark, Any, rest, rests, anys, OpensRest, SeatAt, Counts, CodeMaybe, CodeItems, CodeStmt, CodeStmts, CodeHandlers, CodeClauses, CodeLoop, CodeSweep, CodeFill, IsLone, CodeScope, CodePart, made_marks, CallFits, LeftBy, Ok, Left, Runs, Waits}
 use Rattle.uc_putting_laws.proofs.CleanedSpots.{apart_outermost, apart_class}
 use Rattle.uc_putting_laws.proofs.Marks as marks
 use Rattle.uc_putting_laws.proofs.Marks.{rests_anys, apart_wide, number_more, cleans_more, stmt_more, AllLeft}
@@ -181,7 +181,7 @@ module _ (g : Setting) where
     outermost_past (Some (OfVariable k)) w todo h = tt
     outermost_past (Some (OfField s i)) w todo h = (tt, h)
 
-    scope_past : (c : CleanUp) (w : Way) (todo : List Todo) → CodeScope g made c todo → CodeScope g made c (piece.Exit w ∷ todo)
+    scope_past : (c : CleanUp) (w : Way) (todo : List Todo) → CodeScope g A made c todo → CodeScope g A made c (piece.Exit w ∷ todo)
     scope_past src.Ends w todo n = tt
     scope_past (src.Frees r) w todo n = n
     scope_past c w todo n = (n.0, n.1, outermost_past (spot_of c) w todo n.2, n.3)
@@ -255,38 +255,38 @@ module _ (g : Setting) where
     LoneFor (src.DestroysAll n e) todo = SweepsBy g.table g.source g.special made (Lones todo) e
     LoneFor c todo = Unit {0}
 
-    abbrev CodeClean : CleanUp → Type 0
-    CodeClean src.Ends = Unit {0}
-    CodeClean src.Forgets = made.builds ≡ true
-    CodeClean (src.Frees r) = Begins g.table g.source g.special r
-    CodeClean c = CountedClean g.source c
+    abbrev CodeClean : CleanUp → List Todo → Type 0
+    CodeClean src.Ends todo = Unit {0}
+    CodeClean src.Forgets todo = made.builds ≡ true
+    CodeClean (src.Frees r) todo = Begins g.table g.source g.special r × IsLone g A todo
+    CodeClean c todo = CountedClean g.source c
 
-    code_clean : (c : CleanUp) (todo : List Todo) → CodeScope g made c todo → CodeClean c
-    code_clean (src.Destroys e) todo n = n.0
-    code_clean (src.DestroysAll m e) todo n = n.0
-    code_clean src.Unwinds todo n = n.0
-    code_clean src.Forgets todo n = n.1
-    code_clean src.Leaves todo n = n.0
-    code_clean src.Ends todo n = tt
-    code_clean (src.Frees r) todo n = n
-    code_clean (src.Restores k) todo n = n.0
+    code_clean : (c : CleanUp) (before todo : List Todo) → (IsLone g A before → IsLone g A todo) → CodeScope g A made c before → CodeClean c todo
+    code_clean (src.Destroys e) before todo f n = n.0
+    code_clean (src.DestroysAll m e) before todo f n = n.0
+    code_clean src.Unwinds before todo f n = n.0
+    code_clean src.Forgets before todo f n = n.1
+    code_clean src.Leaves before todo f n = n.0
+    code_clean src.Ends before todo f n = tt
+    code_clean (src.Frees r) before todo f n = (n.0, f n.1)
+    code_clean (src.Restores k) before todo f n = n.0
 
-    cleaned : (c : CleanUp) (todo : List Todo) → CodeClean c → LoneFor c todo → Fits [] todo → Fits [] (piece.clean_todo c todo)
+    cleaned : (c : CleanUp) (todo : List Todo) → CodeClean c todo → LoneFor c todo → Fits [] todo → Fits [] (piece.clean_todo c todo)
     cleaned (src.Destroys e) todo n l h = destroys e todo n l h
     cleaned (src.DestroysAll m e) todo n l h = (tt, ((n, l), h))
     cleaned src.Unwinds todo n l h = (tt, h)
     cleaned src.Forgets todo n l h = (n, h)
     cleaned src.Leaves todo n l h = (tt, h)
     cleaned src.Ends todo n l h = (tt, h)
-    cleaned (src.Frees None) todo n l h = (tt, h)
+    cleaned (src.Frees None) todo n l h = (n.1, h)
     cleaned (src.Frees (Some r)) todo n l h = (n, h)
     cleaned (src.Restores k) todo n l h = (tt, h)
 
     -- a clean-up, before which something else may be to do now
-    pub cleans : (c : CleanUp) (before todo : List Todo) → CodeScope g made c before → LoneFor c todo → Fits [] todo → Fits [] (piece.clean_todo c todo)
-    cleans c before todo n l h = cleaned c todo (code_clean c before n) l h
+    pub cleans : (c : CleanUp) (before todo : List Todo) → (IsLone g A before → IsLone g A todo) → CodeScope g A made c before → LoneFor c todo → Fits [] todo → Fits [] (piece.clean_todo c todo)
+    cleans c before todo f n l h = cleaned c todo (code_clean c before todo f n) l h
 
-    pub part_scope : (c : CleanUp) (todo : List Todo) → CodePart g made c todo → CodeScope g made c todo
+    pub part_scope : (c : CleanUp) (todo : List Todo) → CodePart g made c todo → CodeScope g A made c todo
     part_scope (src.Destroys e) todo n = n
     part_scope (src.DestroysAll m e) todo n = n
     part_scope src.Unwinds todo n = n
@@ -296,12 +296,12 @@ module _ (g : Setting) where
     part_scope (src.Frees r) todo n = absurd n.1
     part_scope (src.Restores k) todo n = n
 
-    pub left_cleans : (c : CleanUp) (before todo : List Todo) → CodeScope g made c before → LoneFor c todo → Fits [] todo → Fits [] (raising.left_todo c todo)
-    left_cleans (src.Frees r) before todo n l h = (tt, h)
-    left_cleans c before todo n l h = cleans c before todo n l h
+    pub left_cleans : (c : CleanUp) (before todo : List Todo) → (IsLone g A before → IsLone g A todo) → CodeScope g A made c before → LoneFor c todo → Fits [] todo → Fits [] (raising.left_todo c todo)
+    left_cleans (src.Frees r) before todo f n l h = (tt, h)
+    left_cleans c before todo f n l h = cleans c before todo f n l h
 
     -- the scope of a statement within others
-    pub scope_more : (c : CleanUp) (todo : List Todo) → CountedClean g.source c → CleansBy g.table g.source g.special (apart made) c → CodeScope g made c todo
+    pub scope_more : (c : CleanUp) (todo : List Todo) → CountedClean g.source c → CleansBy g.table g.source g.special (apart made) c → CodeScope g A made c todo
     scope_more src.Ends todo n k = tt
     scope_more (src.Frees r) todo n k = absurd k
     scope_more c todo n k = (n, cleans_more g.table g.source g.special (apart made) made (apart_wide made) c k, apart_outermost g.table g.source g.special made c todo k, apart_class g.table g.source g.special made made.class c k)

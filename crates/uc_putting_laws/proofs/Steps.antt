@@ -1,27 +1,22 @@
 -- A quiet step of a state in which what is called is the execution's own leads to one.
-use Rattle.std.proofs.Common.{◌≡◌, ℕ, zero, suc, ◌<◌, ◌≤◌, ◌⊎◌, inl, inr, ◌++◌, Bool, true, false, List, [], ◌∷◌, length, drop, Option, Some, None, refl, sym, ap, ◌∙◌, subst, arith}
-use Rattle.std.specs.Prelude.{nat_eq, nat_lt, slice_set}
+use Rattle.std.proofs.Common.{◌≡◌, ℕ, zero, suc, ◌<◌, ◌≤◌, ◌⊎◌, inl, inr, Bool, true, false, List, [], ◌∷◌, length, drop, Option, Some, None, refl, sym, ap, subst, arith}
+use Rattle.std.specs.Prelude.{nat_eq, nat_lt}
 use Rattle.std.proofs.lemmas.Bool.{eqb-true, eq-eqb}
-use Rattle.uc_tree.specs.declared.limits.TheConstants.{CALLS, PENDING_EVENTS}
+use Rattle.uc_tree.specs.declared.limits.TheConstants.{CALLS}
 use Rattle.uc_tree.specs.Source as src
 use Rattle.uc_tree.specs.Source.{Shape, Expr, ObjectExpr, Stmt, Stmts, EventStmt, TaskStmt, Routine, Way, CleanUp, Handlers, Purpose}
 use Rattle.uc_entry.specs.declared.fault.RunFault.{RunFault}
-use Rattle.uc_entry.specs.declared.fault.RunFault.TheVariants.{Index, Depth, BlockedInside, TooManyPending, NotLive, Unhandled}
+use Rattle.uc_entry.specs.declared.fault.RunFault.TheVariants.{Index, Depth, NotLive, Unhandled}
 use Rattle.uc_entry.specs.declared.request.Piece.{Piece}
 use Rattle.uc_entry.specs.declared.request.Request.TheVariants as ask
-use Rattle.uc_entry.specs.Keyed.{find, signed_64}
-use Rattle.uc_machine.specs.declared.exec.Exec.{Exec}
-use Rattle.uc_machine.specs.declared.exec.Pending.{Pending}
 use Rattle.uc_machine.specs.declared.exec.UnwindReason.{UnwindReason}
 use Rattle.uc_machine.specs.declared.exec.UnwindReason.TheVariants as reason
 use Rattle.uc_machine.specs.declared.exec.Visited.{Visited}
 use Rattle.uc_machine.specs.Switches as sw
 use Rattle.uc_machine.specs.Switches.{Moved, To, Stops}
-use Rattle.uc_machine.specs.Insides as inside
 use Rattle.uc_machine.specs.Raising as raising
 use Rattle.uc_machine.specs.Raising.{Handler, Found}
 use Rattle.uc_machine.specs.Monitors as monitors
-use Rattle.uc_machine.specs.Polls as polls
 use Rattle.uc_machine.specs.Quiet as quiet
 use Rattle.uc_machine.specs.Pieces as piece
 use Rattle.uc_machine.specs.Pieces.{Link, Value, Number, Object, Nothing, Todo, Sort, Active, State, Env, Step, Asks, Outcome, Gives, Faults, at, in_env, goes, fault, top, below, number, loaded, written}
@@ -95,7 +90,7 @@ module _ (g : Setting) where
     pub stop : (f : RunFault) (todo : List Todo) (vs : List Value) → PutStep g (fault f todo vs s)
     stop f todo vs = record { run = tt; callers = callers; env = env }
 
-    ends : (todo : List Todo) (vs : List Value) → PutStep g (Asks ask.End (at todo vs s))
+    pub ends : (todo : List Todo) (vs : List Value) → PutStep g (Asks ask.End (at todo vs s))
     ends todo vs = record { run = tt; callers = callers; env = env }
 
     pub moved : (m : Moved (List Todo) Value) (todo : List Todo) (vs : List Value) → todos.M g m → PutStep g (piece.moves m (at todo vs s))
@@ -221,7 +216,7 @@ module _ (g : Setting) where
         anew _ _ (inl (n.0.1, n.1.1), ((n.0.0, marks.cleans_more g.table g.source g.special (apart made) made (marks.apart_wide made) c n.1.0, apart_outermost g.table g.source g.special made c todo n.1.0, apart_class g.table g.source g.special made made.class c n.1.0), h))
 
     -- those of a constructor or a destructor, which puts marks for fields in order
-    own_scope : (c : CleanUp) (todo : List Todo) → CountedClean g.source c → CleansBy g.table g.source g.special made c → IsOutermost (spot_of c) todo → LiesInClass g.table made.class c → CodeScope g made c todo
+    own_scope : (c : CleanUp) (todo : List Todo) → CountedClean g.source c → CleansBy g.table g.source g.special made c → IsOutermost (spot_of c) todo → LiesInClass g.table made.class c → CodeScope g (here s) made c todo
     own_scope src.Ends todo n k o l = tt
     own_scope (src.Frees r) todo n k o l = absurd k
     own_scope c todo n k o l = (n, k, o, l)
@@ -246,7 +241,7 @@ module _ (g : Setting) where
     rest_of (src.Scoped c ss) todo (inr (inl n)) h = own_scoped c ss todo n h
     rest_of (src.Built c ss) todo (inr (inl n)) h = own_built c ss todo n h
     rest_of (src.Scoped src.Ends ss) todo (inr (inr n)) h = anew _ _ (inr (inl ((n.1.1, n.2.0), (0, (tt, n.3), n.2.1), n.5.1)), (tt, h))
-    rest_of (src.Scoped (src.Frees r) ss) todo (inr (inr n)) h = anew _ _ (inr (inl ((n.1.1, n.2.1), (0, (tt, n.3), n.2.2), n.5.1)), (n.2.0, h))
+    rest_of (src.Scoped (src.Frees r) ss) todo (inr (inr n)) h = anew _ _ (inr (inl ((n.1.1, n.2.1), (0, (tt, n.3), n.2.2), n.5.1)), ((n.2.0, n.4), h))
     rest_of ss todo (inr (inr n)) h = absurd n.2
 
     pub land : (o : Option UnwindReason) (ms : List Mark) (todo : List Todo) → H ms s.run.operands → O ms todo → PutStep g (quiet.land_step o todo s)
@@ -327,9 +322,9 @@ module _ (g : Setting) where
     whole true todo h = record { run = record { made = made; this = this; marks = []; holds = tt; ok = h }; callers = callers; env = env }
     whole false todo h = unwound _ _ (gone [] todo h)
 
-    scope : (x : CleanUp) (b : Bool) (todo : List Todo) → CodeScope g made x todo → todos.LoneFor g (here s) made x (piece.Unwind ∷ todo) → O [] todo → PutStep g (raising.scope_left x b todo s)
+    scope : (x : CleanUp) (b : Bool) (todo : List Todo) → CodeScope g (here s) made x todo → todos.LoneFor g (here s) made x (piece.Unwind ∷ todo) → O [] todo → PutStep g (raising.scope_left x b todo s)
     scope src.Leaves true todo n l h = record { run = record { made = made; this = this; marks = []; holds = tt; ok = (tt, gone [] todo h) }; callers = callers; env = env }
-    scope x b todo n l h = anew (raising.left_todo x (piece.Unwind ∷ todo)) [] (todos.left_cleans g (here s) made x todo (piece.Unwind ∷ todo) n l (gone [] todo h))
+    scope x b todo n l h = anew (raising.left_todo x (piece.Unwind ∷ todo)) [] (todos.left_cleans g (here s) made x todo (piece.Unwind ∷ todo) (λ k. k) n l (gone [] todo h))
 
     main_left : (o : Option UnwindReason) (todo : List Todo) → O [] todo → PutStep g (raising.main_left o todo s)
     main_left (Some (reason.ReturnTo n)) todo h = record { run = record { made = made; this = this; marks = []; holds = tt; ok = (tt, h) }; callers = callers; env = env }
@@ -353,7 +348,7 @@ module _ (g : Setting) where
     unwind_past (piece.IsClean c) todo h l = scope c _ todo h.0 l h.1
     unwind_past (piece.IsFill m b d) todo h l = anew _ _ (h.0.1, gone [] todo h.1)
     unwind_past (piece.IsSweep e) todo h l = anew _ _ (h.0, gone [] todo h.1)
-    unwind_past (piece.IsPart c) todo h l = anew _ _ (todos.cleans g (here s) made c todo _ (todos.part_scope g (here s) made c todo h.0) l (gone [] todo h.1))
+    unwind_past (piece.IsPart c) todo h l = anew _ _ (todos.cleans g (here s) made c todo (piece.Unwind ∷ todo) (λ k. k) (todos.part_scope g (here s) made c todo h.0) l (gone [] todo h.1))
     unwind_past (piece.IsGuard hs) todo h l = guarded hs s.run.raised todo h.0 h.1
     unwind_past piece.IsFinish todo h l = main_left s.run.raised todo h
     unwind_past piece.IsFinishCoroutine todo h l = coroutine_left s.run.raised todo h
@@ -408,7 +403,7 @@ module _ (g : Setting) where
       object (src.CallOn r a args) todo n q h = go ms _ _ holds (n.0, inl (q.1.0, ((n.1, q.1.1), (tt, (inl q.0, on (count args) r Any todo n.2 h)))))
       object (src.CallLive r a args) todo n q h = go ms _ _ holds (n.0, inl (q.1.0, ((n.1, q.1.1), (tt, (tt, (inl q.0, on (count args) r Any todo n.2 h))))))
       object (src.CallUnwritten r a) todo n q h = go ms _ _ holds (n.0, inl (q.1, (inl q.0, on 0 r Any todo n.1 h)))
-      object (src.EnterOn m r a args) todo n q h = go ms _ _ holds (n.0, inl (q.1.0, ((n.1, q.1.1), (tt, (tt, (inl q.0, on (count args) r Any todo n.2 h))))))
+      object (src.EnterOn m r a args) todo n q h = go ms _ _ holds (n.0, inl (q.1.0, ((n.1, q.1.1), (tt, (refl, (inl q.0, on (count args) r Any todo n.2 h))))))
       object (src.ConditionAt k m a) todo n q h = go ms _ _ holds (n, inl (q.1, (tt, h)))
       object (src.Wait a b) todo n q h = go ms _ _ holds (n.0, inl (q.1.0, (n.1, inl (q.1.1, (tt, (tt, h))))))
       object (src.Signal a) todo n q h = go ms _ _ holds (n, inl (q.1, (tt, h)))
@@ -526,17 +521,17 @@ module _ (g : Setting) where
 
       -- what ends one there
       ends_at_spot : (a : Expr) (todo : List Todo) → Counts g a → EndsAt g.table g.source g.special made (todos.Lones g (here s) made todo) a → O (Any ∷ ms) todo → PutStep g (quiet.eval_step a todo s)
-      ends_at_spot (src.OfObject (src.EndOn r true (src.Load (src.Variable k)))) todo n b h = go ms _ _ holds (n.0, inr (inr (inr (inr (inr (inr (inl (refl, (tt, (tt, (ends_site (One (OfVariable k)) tt b.1 r todo n.1 b.0, on 0 r (Homed (One (OfVariable k))) todo n.1 h)))))))))))
-      ends_at_spot (src.OfObject (src.EndOn r true (src.Load (src.OfObject (src.OwnField k i))))) todo n b h = go ms _ _ holds (n.0, inr (inr (inr (inr (inr (inr (inl (refl, (tt, (tt, (ends_site (One (OfField k i)) tt b.1 r todo n.1 b.0, on 0 r (Homed (One (OfField k i))) todo n.1 h)))))))))))
-      ends_at_spot (src.OfObject (src.EndOn r false (src.Load (src.Variable k)))) todo n b h = go ms _ _ holds (n.0, inr (inr (inr (inr (inr (inr (inl (refl, (tt, (ends_site (One (OfVariable k)) tt b.1 r todo n.1 b.0, on 0 r (Homed (One (OfVariable k))) todo n.1 h))))))))))
-      ends_at_spot (src.OfObject (src.EndOn r false (src.Load (src.OfObject (src.OwnField k i))))) todo n b h = go ms _ _ holds (n.0, inr (inr (inr (inr (inr (inr (inl (refl, (tt, (ends_site (One (OfField k i)) tt b.1 r todo n.1 b.0, on 0 r (Homed (One (OfField k i))) todo n.1 h))))))))))
+      ends_at_spot (src.OfObject (src.EndOn r true (src.Load (src.Variable k)))) todo n b h = go ms _ _ holds (n.0, inr (inr (inr (inr (inr (inr (inl (refl, (tt, (refl, (ends_site (One (OfVariable k)) tt b.1 r todo n.1 b.0, on 0 r (Homed (One (OfVariable k))) todo n.1 h)))))))))))
+      ends_at_spot (src.OfObject (src.EndOn r true (src.Load (src.OfObject (src.OwnField k i))))) todo n b h = go ms _ _ holds (n.0, inr (inr (inr (inr (inr (inr (inl (refl, (tt, (refl, (ends_site (One (OfField k i)) tt b.1 r todo n.1 b.0, on 0 r (Homed (One (OfField k i))) todo n.1 h)))))))))))
+      ends_at_spot (src.OfObject (src.EndOn r false (src.Load (src.Variable k)))) todo n b h = go ms _ _ holds (n.0, inr (inr (inr (inr (inr (inr (inl (refl, (refl, (ends_site (One (OfVariable k)) tt b.1 r todo n.1 b.0, on 0 r (Homed (One (OfVariable k))) todo n.1 h))))))))))
+      ends_at_spot (src.OfObject (src.EndOn r false (src.Load (src.OfObject (src.OwnField k i))))) todo n b h = go ms _ _ holds (n.0, inr (inr (inr (inr (inr (inr (inl (refl, (refl, (ends_site (One (OfField k i)) tt b.1 r todo n.1 b.0, on 0 r (Homed (One (OfField k i))) todo n.1 h))))))))))
       ends_at_spot a todo n b h = absurd b
 
       ends_each : (a : Expr) (todo : List Todo) → Counts g a → EndsEach g.table g.source g.special made (todos.Lones g (here s) made todo) a → O (Any ∷ ms) todo → PutStep g (quiet.eval_step a todo s)
-      ends_each (src.OfObject (src.EndOn r true (src.Load (src.Element m src.Binding (src.Variable k) (src.OfObject src.Counted))))) todo n b h = go ms _ _ holds (n.0, inr (inr (inr (inr (inr (inr (inl (refl, (tt, (tt, (ends_site (Each m (OfVariable k)) tt b.1 r todo n.1 b.0, on 0 r (Homed (Each m (OfVariable k))) todo n.1 h)))))))))))
-      ends_each (src.OfObject (src.EndOn r true (src.Load (src.Element m src.Binding (src.OfObject (src.OwnField k i)) (src.OfObject src.Counted))))) todo n b h = go ms _ _ holds (n.0, inr (inr (inr (inr (inr (inr (inl (refl, (tt, (tt, (ends_site (Each m (OfField k i)) tt b.1 r todo n.1 b.0, on 0 r (Homed (Each m (OfField k i))) todo n.1 h)))))))))))
-      ends_each (src.OfObject (src.EndOn r false (src.Load (src.Element m src.Binding (src.Variable k) (src.OfObject src.Counted))))) todo n b h = go ms _ _ holds (n.0, inr (inr (inr (inr (inr (inr (inl (refl, (tt, (ends_site (Each m (OfVariable k)) tt b.1 r todo n.1 b.0, on 0 r (Homed (Each m (OfVariable k))) todo n.1 h))))))))))
-      ends_each (src.OfObject (src.EndOn r false (src.Load (src.Element m src.Binding (src.OfObject (src.OwnField k i)) (src.OfObject src.Counted))))) todo n b h = go ms _ _ holds (n.0, inr (inr (inr (inr (inr (inr (inl (refl, (tt, (ends_site (Each m (OfField k i)) tt b.1 r todo n.1 b.0, on 0 r (Homed (Each m (OfField k i))) todo n.1 h))))))))))
+      ends_each (src.OfObject (src.EndOn r true (src.Load (src.Element m src.Binding (src.Variable k) (src.OfObject src.Counted))))) todo n b h = go ms _ _ holds (n.0, inr (inr (inr (inr (inr (inr (inl (refl, (tt, (refl, (ends_site (Each m (OfVariable k)) tt b.1 r todo n.1 b.0, on 0 r (Homed (Each m (OfVariable k))) todo n.1 h)))))))))))
+      ends_each (src.OfObject (src.EndOn r true (src.Load (src.Element m src.Binding (src.OfObject (src.OwnField k i)) (src.OfObject src.Counted))))) todo n b h = go ms _ _ holds (n.0, inr (inr (inr (inr (inr (inr (inl (refl, (tt, (refl, (ends_site (Each m (OfField k i)) tt b.1 r todo n.1 b.0, on 0 r (Homed (Each m (OfField k i))) todo n.1 h)))))))))))
+      ends_each (src.OfObject (src.EndOn r false (src.Load (src.Element m src.Binding (src.Variable k) (src.OfObject src.Counted))))) todo n b h = go ms _ _ holds (n.0, inr (inr (inr (inr (inr (inr (inl (refl, (refl, (ends_site (Each m (OfVariable k)) tt b.1 r todo n.1 b.0, on 0 r (Homed (Each m (OfVariable k))) todo n.1 h))))))))))
+      ends_each (src.OfObject (src.EndOn r false (src.Load (src.Element m src.Binding (src.OfObject (src.OwnField k i)) (src.OfObject src.Counted))))) todo n b h = go ms _ _ holds (n.0, inr (inr (inr (inr (inr (inr (inl (refl, (refl, (ends_site (Each m (OfField k i)) tt b.1 r todo n.1 b.0, on 0 r (Homed (Each m (OfField k i))) todo n.1 h))))))))))
       ends_each a todo n b h = absurd b
 
       ends_number : (a : Expr) (todo : List Todo) → Counts g a → EndsNumber g.table g.source g.special made AnySite a → O (Any ∷ ms) todo → PutStep g (quiet.eval_step a todo s)
@@ -567,7 +562,7 @@ module _ (g : Setting) where
 
       -- calls
 
-      dropped : (n : ℕ) → H (rests n ms) (drop n s.run.operands)
+      pub dropped : (n : ℕ) → H (rests n ms) (drop n s.run.operands)
       dropped n = holds_drop g.few (here s) n ms s.run.operands holds
 
       dropped_one : (n : ℕ) → H (rests (suc n) ms) (below (drop n s.run.operands))
@@ -764,89 +759,3 @@ module _ (g : Setting) where
           let at_home = quiet.home_at s.run.this s.env in
           let b : todos.K g s.env (sw.born at_home (quiet.fresh r s.run.this) s.env) = kept.born_keeps (Runs g) (Waits g) (todos.calm g) at_home (quiet.fresh r s.run.this) s.env (λ k. record { run = record { made = reach_of false o; this = first_seat g (record { home = at_home; serial = k }) 0 s.run.this o; marks = []; holds = tt; ok = todos.routine g (record { exec = record { home = at_home; serial = k }; frame = 0; handles = None; this = s.run.this; older = [] }) (reach_of false o) r (n.0, n.1) }; callers = tt }) env in
           go_in [] _ _ _ tt h (kept.keeps_both (Runs g) (Waits g) (todos.calm g) b (kept.written_keeps (Runs g) (Waits g) (todos.calm g) s.run.this _ _ b.env))
-
-      -- mutex objects
-
-      pub unless : (o : ℕ) (step : Step) (todo : List Todo) → PutStep g step → PutStep g (monitors.unless_held_up o step todo s)
-      unless o step todo k = either (PutStep g) (inside.is_held_up o s.env) _ step (stop BlockedInside todo _) k
-
-      enter_at : (d : Option ℕ) (o m : ℕ) (todo : List Todo) → O ms todo → PutStep g (monitors.enter_at d o m todo s)
-      enter_at (Some d) o m todo h = go_in ms _ _ _ holds h (same refl refl refl refl)
-      enter_at None o m todo h = record { run = finds 0 ms todo _ holds h; callers = callers; env = todos.likes g env refl refl refl }
-
-      pub enter : (m : ℕ) (r : Option Routine) (todo : List Todo) → O ms todo → PutStep g (monitors.enter_step m r todo s)
-      enter m None todo h = ends _ _
-      enter m (Some r) todo h =
-          let o = piece.object_in (top (drop r.params s.run.operands)) in
-          either (PutStep g) (monitors.may_call r.written s) _ _ (enter_at (find o s.env.depths) o m todo h) (stop Depth todo _)
-
-      pub leave : (b : Bool) (o : ℕ) (todo : List Todo) → O ms todo → PutStep g (monitors.leave_at b o todo s)
-      leave false o todo h = go_in ms _ _ _ holds h (same refl refl refl refl)
-      leave true o todo h =
-          unless o _ todo (record { run = record { made = made; this = this; marks = ms; holds = holds; ok = todos.polled g (here s) made s.run.raised ms todo h }; callers = callers; env = todos.likes g env refl refl refl })
-
-      pub make : (c k : ℕ) (r : Option Routine) (todo : List Todo) → O ms (piece.MakeNow c k ∷ todo) → PutStep g (monitors.make_step c k r todo s)
-      make c k None todo h = ends _ _
-      make c k (Some r) todo h =
-          either (PutStep g) (monitors.may_call r.written s) _ _ (record { run = finds 1 ms (piece.BindMadeNow c k ∷ todo) _ holds h; callers = callers; env = todos.likes g env refl refl refl }) (stop Depth todo _)
-
-      -- the operands behind a binding
-      bound_under : (n : ℕ) (v : Value) → H (rests (suc n) (rest ms)) (below (drop n (slice_set (below s.run.operands) n v)))
-      bound_under n v =
-          let vs = below s.run.operands in
-          subst (H (rests (suc n) (rest ms))) (sym (marks.drop_one n (slice_set vs n v) ∙ drop_set n v vs)) (holds_drop g.few (here s) (suc n) (rest ms) vs one)
-
-      bound_at : (n : ℕ) (x : Site) → IsIn made x → StandsAt g.few (here s) x (top (drop n (below s.run.operands))) → IsHome g.few (top s.run.operands) (top (drop n (below s.run.operands))) → HomedAt g.few (here s) x (top (drop n (slice_set (below s.run.operands) n (top s.run.operands))))
-      bound_at n x i e f =
-          let there = set_top n (top s.run.operands) (below s.run.operands) (site_there g.few (here s) made this.own x (drop n (below s.run.operands)) i e) in
-          (top (drop n (below s.run.operands)), e, subst (λ v. IsHome g.few v (top (drop n (below s.run.operands)))) (sym there) f)
-
-      pub bind : (x : Option Routine) (todo : List Todo) → IsHome g.few (top s.run.operands) (top (drop (params_at x) (below s.run.operands))) → FirstAt (rests (params_at x) (rest ms)) (λ y. IsIn made y × O (anys (params_at x) (Homed y ∷ rests (suc (params_at x)) (rest ms))) todo) → PutStep g (monitors.bind_step x todo s)
-      bind None todo f h = ends _ _
-      bind (Some x) todo f h =
-          let n = x.params in
-          let k = marks.at_of g.few (here s) (rests n (rest ms)) (drop n (below s.run.operands)) (holds_drop g.few (here s) n (rest ms) (below s.run.operands) one) (λ y. IsIn made y × O (anys n (Homed y ∷ rests (suc n) (rest ms))) todo) h in
-          go_in (anys n (Homed k.0 ∷ rests (suc n) (rest ms))) todo _ _ (holds_anys g.few (here s) n (Homed k.0 ∷ rests (suc n) (rest ms)) (slice_set (below s.run.operands) n (top s.run.operands)) (bound_at n k.0 k.2.0 k.1 f, bound_under n (top s.run.operands))) k.2.1 (write _ _)
-
-      pub accept : (mask o site : ℕ) (todo : List Todo) (vs : List Value) → O [] todo → PutStep g (monitors.accept_by mask o site todo vs s)
-      accept zero o site todo vs h = anew _ _ h
-      accept (suc mask) o site todo vs h = unless o _ todo (record { run = record { made = made; this = this; marks = []; holds = tt; ok = (tt, (tt, h)) }; callers = callers; env = env })
-
-      pub failed : (b : Bool) (todo : List Todo) (vs : List Value) → O [] todo → PutStep g (monitors.failed_step b todo vs s)
-      failed true todo vs h = anew _ _ h
-      failed false todo vs h = anew _ _ (tt, h)
-
-      -- events elsewhere
-
-      pend : (n : Exec) (e : raising.Event) (todo : List Todo) (vs : List Value) → O [] todo → PutStep g (polls.pend_step n e todo vs s)
-      pend n e todo vs h =
-          either (PutStep g) (nat_lt (length (inside.pending_at n s.env)) PENDING_EVENTS) _ _ (go_in [] _ _ _ tt h (kept.links_keeps (Runs g) (Waits g) (todos.calm g) (λ l. record l { pending = l.pending ++ (record { event = e.number; x = e.x; y = e.y }) ∷ [] }) n s.env env)) (stop TooManyPending todo vs)
-
-      pend_at : (o : Option Exec) (e : raising.Event) (todo : List Todo) (vs : List Value) → O [] todo → PutStep g (polls.pend_at o e todo vs s)
-      pend_at None e todo vs h = stop NotLive todo vs
-      pend_at (Some n) e todo vs h = either (PutStep g) (sw.is_live (Some n) s.env) _ _ (pend n e todo vs h) (stop NotLive todo vs)
-
-      pub raise_at : (v : Value) (e : raising.Event) (todo : List Todo) (vs : List Value) → O [] todo → PutStep g (polls.raise_at_step v e todo vs s)
-      raise_at (Object o) e todo vs h = record { run = finds 0 [] todo vs tt h; callers = callers; env = env }
-      raise_at v e todo vs h = pend_at (piece.exec_at v s.env) e todo vs h
-
-      enabled_in : {e f : Env} (k : todos.K g s.env e) → f.exec ≡ e.exec → f.hand ≡ e.hand → f.house ≡ e.house → f.own ≡ e.own → todos.K g s.env f
-      enabled_in k x h i o = kept.keeps_both (Runs g) (Waits g) (todos.calm g) k (kept.keeps_like (Runs g) (Waits g) (todos.calm g) k.env x h i o)
-
-      pub enables : (events cell : ℕ) (todo : List Todo) → O [] todo → PutStep g (polls.enable_step events cell todo s)
-      enables events cell todo h = go_in [] _ _ _ tt h (enabled_in (write (piece.variable_at cell s) (Number (signed_64 s.env.links.enabled))) refl refl refl refl)
-
-      quiet_poll : (o : Option Pending) (todo : List Todo) → O ms todo → PutStep g (polls.quiet_poll o todo s)
-      quiet_poll None todo h = go ms _ _ holds h
-      quiet_poll (Some p) todo h = go_in (Any ∷ (Any ∷ (Any ∷ ms))) _ _ _ (tt, (tt, (tt, holds))) (tt, h) (same refl refl refl refl)
-
-      poll_by : (b : Bool) (todo : List Todo) → O ms todo → PutStep g (polls.poll_by b todo s)
-      poll_by true todo h = record { run = finds 3 ms (piece.DeliverNow ∷ todo) _ holds (tt, h); callers = callers; env = env }
-      poll_by false todo h = quiet_poll (inside.oldest_enabled s.env.links) todo h
-
-      pub poll : (todo : List Todo) → O ms todo → PutStep g (polls.poll_step todo s)
-      poll todo h = either (PutStep g) (nat_eq s.env.links.enabled 0) _ _ (go ms _ _ holds h) (poll_by (inside.is_own s.env) todo h)
-
-      pub deliver : (v : Value) (todo : List Todo) → O (rests 3 ms) todo → PutStep g (polls.deliver_step v todo s)
-      deliver Nothing todo h = go (rests 3 ms) _ _ (dropped 3) h
-      deliver v todo h = go ms _ _ holds (tt, (tt, h))

@@ -37,6 +37,7 @@ use Rattle.uc_putting_laws.proofs.Searches.{FoundCode, found_code}
 use Rattle.uc_putting_laws.proofs.Seats.{RoundIn, round_in}
 use Rattle.uc_putting_laws.proofs.Steps as steps
 use Rattle.uc_putting_laws.proofs.Steps.{here}
+use Rattle.uc_putting_laws.proofs.MonitorSteps as monitor_steps
 use Rattle.uc_putting_laws.proofs.Lone.{scope_lone, part_lone, lone_behind, lone_stmt}
 
 module _ (program : Program) (g : Setting) (laid : IsLaidOut (Sized program) g.table) (known : (n : ℕ) → CodeRoutine g (g.special n) (g.table.routine n).this (slice_get g.source.routines n)) where
@@ -131,7 +132,7 @@ module _ (program : Program) (g : Setting) (laid : IsLaidOut (Sized program) g.t
     acts piece.NoReturnNow todo c h = steps.stop g s callers env made this NoReturn todo _
     acts (piece.InLoop o t e b) todo c h = anew _ _ (todos.stepped g (here s) made e _ h.0.1 (todos.tested g (here s) made o t e b todo h.0 h.1))
     acts piece.InWhole todo c h = anew _ _ h.1
-    acts (piece.Clean x) todo c h = anew _ _ (todos.cleans g (here s) made x todo todo h.0 (scope_lone (Sized program) g laid s st callers env made this false x todo c h.0 (left g (here s) made [] todo h.1)) h.1)
+    acts (piece.Clean x) todo c h = anew _ _ (todos.cleans g (here s) made x todo todo (λ k. k) h.0 (scope_lone (Sized program) g laid s st callers env made this false x todo c h.0 (left g (here s) made [] todo h.1)) h.1)
     acts (piece.Sweep e) todo c h = steps.swept g s callers env made this s.run.elements e todo h.0 h.1
     acts (piece.Part x) todo c h = anew _ _ h.1
     acts (piece.Guard hs) todo c h = anew _ _ h.1
@@ -146,12 +147,12 @@ module _ (program : Program) (g : Setting) (laid : IsLaidOut (Sized program) g.t
     acts piece.ResumeNow todo c h = steps.moved g s callers env made this _ (piece.Land ∷ todo) _ (kept.wake_rests (Runs g) (Waits g) (todos.calm g) (quiet.resumed s) (at (piece.Land ∷ todo) s.run.operands s) (anew _ _ (tt, h.1)))
     acts piece.SuspendNow todo c h = steps.moved g s callers env made this _ (piece.Land ∷ todo) _ (kept.suspend_rests (Runs g) (Waits g) (todos.calm g) (at (piece.Land ∷ todo) s.run.operands s) (anew _ _ (tt, h.1)))
     acts piece.Land todo c h = steps.land g s callers env made this s.run.raised ms todo holds h.1
-    acts (piece.EnterNow m r) todo c h = steps.enter g s callers env made this ms holds m (slice_get g.source.routines r) todo h.1
-    acts piece.LeaveNow todo c h = steps.leave g s callers env made this ms holds _ (monitors.this_object s) todo h.1
-    acts (piece.MakeNow k r) todo c h = steps.make g s callers env made this ms holds k r (slice_get g.source.routines r) todo h
-    acts (piece.BindMadeNow k r) todo c h = steps.bind g s callers env made this ms holds (slice_get g.source.routines r) todo (fair_at (piece.BindMadeNow k r ∷ todo) c) h
-    acts piece.MadeNow todo c h = steps.unless g s callers env made this ms holds (monitors.this_object s) _ todo (record { run = record { made = made; this = this; marks = []; holds = tt; ok = h.1 }; callers = callers; env = todos.likes g env refl refl refl })
-    acts (piece.SpawnNow r) todo c h = steps.unless g s callers env made this ms holds (monitors.this_object s) _ (piece.ChildNow r ∷ todo) (record { run = record { made = made; this = this; marks = []; holds = tt; ok = (h.0, h.1) }; callers = callers; env = todos.likes g env refl refl refl })
+    acts (piece.EnterNow m r) todo c h = monitor_steps.enter g s callers env made this ms holds m (slice_get g.source.routines r) todo h.1
+    acts piece.LeaveNow todo c h = monitor_steps.leave g s callers env made this ms holds _ (monitors.this_object s) todo h.1
+    acts (piece.MakeNow k r) todo c h = monitor_steps.make g s callers env made this ms holds k r (slice_get g.source.routines r) todo h
+    acts (piece.BindMadeNow k r) todo c h = monitor_steps.bind g s callers env made this ms holds (slice_get g.source.routines r) todo (fair_at (piece.BindMadeNow k r ∷ todo) c) h
+    acts piece.MadeNow todo c h = monitor_steps.unless g s callers env made this ms holds (monitors.this_object s) _ todo (record { run = record { made = made; this = this; marks = []; holds = tt; ok = h.1 }; callers = callers; env = todos.likes g env refl refl refl })
+    acts (piece.SpawnNow r) todo c h = monitor_steps.unless g s callers env made this ms holds (monitors.this_object s) _ (piece.ChildNow r ∷ todo) (record { run = record { made = made; this = this; marks = []; holds = tt; ok = (h.0.0, h.1) }; callers = callers; env = todos.likes g env refl refl refl })
     acts (piece.ChildNow r) todo c h = anew _ _ h.1
     acts piece.GoneNow todo c h = record { run = record { made = made; this = this; marks = []; holds = tt; ok = h.1 }; callers = callers; env = todos.likes g env refl refl refl }
     acts piece.GiveUpNow todo c h = record { run = record { made = made; this = this; marks = []; holds = tt; ok = h.1 }; callers = callers; env = todos.likes g env refl refl refl }
@@ -160,9 +161,9 @@ module _ (program : Program) (g : Setting) (laid : IsLaidOut (Sized program) g.t
     acts piece.ClusterEndNow todo c h = record { run = record { made = made; this = this; marks = Any ∷ rest ms; holds = (tt, one); ok = h.1 }; callers = callers; env = env }
     acts piece.ProcessorEndNow todo c h = record { run = record { made = made; this = this; marks = Any ∷ rest ms; holds = (tt, one); ok = h.1 }; callers = callers; env = env }
     acts (piece.ConditionNow k m) todo c h = steps.condition g s callers env made this (rest ms) k _ todo one h.1
-    acts piece.WaitNow todo c h = steps.unless g s callers env made this ms holds (monitors.this_object s) _ todo (record { run = record { made = made; this = this; marks = Any ∷ rest (rest ms); holds = (tt, two); ok = h.1 }; callers = callers; env = env })
+    acts piece.WaitNow todo c h = monitor_steps.unless g s callers env made this ms holds (monitors.this_object s) _ todo (record { run = record { made = made; this = this; marks = Any ∷ rest (rest ms); holds = (tt, two); ok = h.1 }; callers = callers; env = env })
     acts piece.SignalNow todo c h = record { run = record { made = made; this = this; marks = Any ∷ rest ms; holds = (tt, one); ok = h.1 }; callers = callers; env = env }
-    acts piece.SignalBlockNow todo c h = steps.unless g s callers env made this ms holds (monitors.this_object s) _ todo (record { run = record { made = made; this = this; marks = Any ∷ rest ms; holds = (tt, one); ok = h.1 }; callers = callers; env = env })
+    acts piece.SignalBlockNow todo c h = monitor_steps.unless g s callers env made this ms holds (monitors.this_object s) _ todo (record { run = record { made = made; this = this; marks = Any ∷ rest ms; holds = (tt, one); ok = h.1 }; callers = callers; env = env })
     acts piece.EmptyNow todo c h = record { run = record { made = made; this = this; marks = rest ms; holds = one; ok = h.1 }; callers = callers; env = env }
     acts piece.FrontNow todo c h = record { run = record { made = made; this = this; marks = rest ms; holds = one; ok = h.1 }; callers = callers; env = env }
     acts piece.YieldNow todo c h = record { run = record { made = made; this = this; marks = []; holds = tt; ok = h.1 }; callers = callers; env = env }
@@ -170,16 +171,16 @@ module _ (program : Program) (g : Setting) (laid : IsLaidOut (Sized program) g.t
     acts (piece.Guards src.NoClauses) todo c h = anew _ _ h.1
     acts (piece.Guards (src.Otherwise b)) todo c h = anew _ _ h.1
     acts (piece.Guards (src.MoreClauses guard b cs)) todo c h = anew _ _ (h.0.0.0, inl (h.0.1.0, ((h.0.0.2, h.0.1.2), h.1)))
-    acts (piece.AcceptNow site m) todo c h = steps.accept g s callers env made this ms holds _ (monitors.this_object s) site todo _ h.1
-    acts piece.FailedNow todo c h = steps.failed g s callers env made this ms holds _ todo _ h.1
+    acts (piece.AcceptNow site m) todo c h = monitor_steps.accept g s callers env made this ms holds _ (monitors.this_object s) site todo _ h.1
+    acts piece.FailedNow todo c h = monitor_steps.failed g s callers env made this ms holds _ todo _ h.1
     acts (piece.ChooseNow cs) todo c h = anew _ _ (todos.branch g (here s) made _ cs todo h.0 h.1)
-    acts piece.RaiseAtNow todo c h = steps.raise_at g s callers env made this ms holds (top s.run.operands) (raising.event_in (below s.run.operands)) todo (drop 4 s.run.operands) h.1
-    acts (piece.EnableNow events cell) todo c h = steps.enables g s callers env made this ms holds _ cell todo h.1
-    acts (piece.DisableNow events cell) todo c h = steps.enables g s callers env made this ms holds _ cell todo h.1
+    acts piece.RaiseAtNow todo c h = monitor_steps.raise_at g s callers env made this ms holds (top s.run.operands) (raising.event_in (below s.run.operands)) todo (drop 4 s.run.operands) h.1
+    acts (piece.EnableNow events cell) todo c h = monitor_steps.enables g s callers env made this ms holds _ cell todo h.1
+    acts (piece.DisableNow events cell) todo c h = monitor_steps.enables g s callers env made this ms holds _ cell todo h.1
     acts (piece.RestoreNow cell) todo c h = steps.go_in g s callers env made this [] _ _ _ tt h.1 (steps.same g s callers env made this refl refl refl refl)
-    acts piece.PollNow todo c h = steps.poll g s callers env made this ms holds todo h.1
-    acts piece.DeliverNow todo c h = steps.deliver g s callers env made this ms holds _ todo h.1
-    acts piece.Finish todo c h = steps.unless g s callers env made this ms holds s.env.own _ todo (steps.returned g s callers env made this _ s.callers callers)
+    acts piece.PollNow todo c h = monitor_steps.poll g s callers env made this ms holds todo h.1
+    acts piece.DeliverNow todo c h = monitor_steps.deliver g s callers env made this ms holds _ todo h.1
+    acts piece.Finish todo c h = monitor_steps.unless g s callers env made this ms holds s.env.own _ todo (steps.returned g s callers env made this _ s.callers callers)
     acts piece.FinishCoroutine todo c h = steps.moved g s callers env made this _ todo _ (kept.finish_rests (Runs g) (Waits g) (todos.calm g) (at todo s.run.operands s) (anew _ _ h.1))
 
   pub walk : (s : State) → PutState g s → StackState (Sized program) s → Fair g s → PutStep g (quiet.quiet g.source s)

@@ -7,3 +7,4 @@ pub mod PuttingLaws
 pub mod PuttingRuns
 pub mod Fields
 pub mod OwnPlaces
+pub mod LoneObjects

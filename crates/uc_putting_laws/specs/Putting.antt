@@ -88,6 +88,12 @@ IsEnding (piece.EnterNow m r ∷ todo) = m ≡ DESTRUCTOR
 IsEnding (piece.TickNow ∷ (piece.EnterNow m r ∷ todo)) = m ≡ DESTRUCTOR
 IsEnding todo = ⊥
 
+-- this routine is called next, on an object
+abbrev pub IsCallOf : ℕ → List Todo → Type 0
+IsCallOf r (piece.CallOnNow k ∷ todo) = k ≡ r
+IsCallOf r (piece.CallUnwrittenNow k ∷ todo) = k ≡ r
+IsCallOf r todo = ⊥
+
 -- a site of mutex objects
 abbrev pub OfObjects : Site → Type 0
 OfObjects (One p) = Unit {0}
@@ -224,11 +230,15 @@ module _ (g : Setting) where
   abbrev pub CodeRest : Around → Reach → Stmts → List Todo → Type 0
   CodeRest A r ss todo = CodeStmts (apart r) ss ⊎ (CodeSpine r ss todo ⊎ CodeOpening A r ss todo)
 
-  -- a scope; of that of the mutex object at hand its main is told
-  abbrev pub CodeScope : Reach → CleanUp → List Todo → Type 0
-  CodeScope r Ends todo = Unit {0}
-  CodeScope r (Frees q) todo = Begins g.table g.source g.special q
-  CodeScope r c todo = CountedClean g.source c × CleansBy g.table g.source g.special r c × IsOutermost (spot_of c) todo ×
+  -- the mutex object at hand is at home in what is the execution's own, where nothing is cleaned up by what is to do
+  abbrev pub IsLone : Around → List Todo → Type 0
+  IsLone A todo = Lone g.table g.few A.exec A.frame A.this A.older todo
+
+  -- a scope; of that in which the mutex object at hand is built its main is told, and that nothing is cleaned up around the object outwards of it
+  abbrev pub CodeScope : Around → Reach → CleanUp → List Todo → Type 0
+  CodeScope A r Ends todo = Unit {0}
+  CodeScope A r (Frees q) todo = Begins g.table g.source g.special q × IsLone A todo
+  CodeScope A r c todo = CountedClean g.source c × CleansBy g.table g.source g.special r c × IsOutermost (spot_of c) todo ×
       LiesInClass g.table r.class c
 
   abbrev pub CodePart : Reach → CleanUp → List Todo → Type 0
@@ -316,7 +326,7 @@ module _ (g : Setting) where
     CodePiece (piece.Do a) ms todo = CodeStmt (OpensRest g.table todo) made a
     CodePiece (piece.Rest ss) ms todo = CodeRest A made ss todo
     CodePiece (piece.InLoop o t e b) ms todo = CodeLoop made t e b
-    CodePiece (piece.Clean c) ms todo = CodeScope made c todo
+    CodePiece (piece.Clean c) ms todo = CodeScope A made c todo
     CodePiece (piece.Sweep e) ms todo = CodeSweep made (SeatAt A made todo) e
     CodePiece (piece.Part c) ms todo = CodePart made c todo
     CodePiece (piece.Guard hs) ms todo = CodeHandlers (apart made) hs
@@ -325,7 +335,9 @@ module _ (g : Setting) where
     CodePiece piece.BindNow ms todo = FirstUnder (rest ms) (λ n p. IsOf made p)
     CodePiece piece.ForgetNow ms todo = made.builds ≡ true
     CodePiece (piece.SetUpNow r) ms todo = (made.builds ≡ true) × (g.special r ≡ false)
-    CodePiece (piece.SpawnNow r) ms todo = g.special r ≡ false
+    CodePiece (piece.EnterNow m r) ms todo = IsCallOf r todo
+    CodePiece piece.MadeNow ms todo = IsLone A todo
+    CodePiece (piece.SpawnNow r) ms todo = (g.special r ≡ false) × IsLone A todo
     CodePiece (piece.ChildNow r) ms todo = g.special r ≡ false
     CodePiece p ms todo = Unit {0}
 
@@ -334,7 +346,7 @@ module _ (g : Setting) where
     LeftBy piece.Simple todo left ok = left
     LeftBy (piece.IsLoop o t e b) todo left ok = CodeLoop made t e b × ok
     LeftBy piece.IsWhole todo left ok = ok
-    LeftBy (piece.IsClean c) todo left ok = CodeScope made c todo × ok
+    LeftBy (piece.IsClean c) todo left ok = CodeScope A made c todo × ok
     LeftBy (piece.IsFill n b d) todo left ok = (CodeFill made (SeatAt A made todo) b × CodeSweep made (SeatAt A made todo) d) × ok
     LeftBy (piece.IsSweep e) todo left ok = CodeSweep made (SeatAt A made todo) e × ok
     LeftBy (piece.IsPart c) todo left ok = CodePart made c todo × ok

@@ -4,6 +4,7 @@ ghost use Rattle.uc_putting_laws.specs.PuttingLaws.{LawCalling, LawPuts, LawStep
 ghost use Rattle.uc_putting_laws.specs.OwnPlaces.{LawOwnPlaces};
 ghost use Rattle.uc_putting_laws.specs.PuttingRuns.{LawRuns};
 ghost use Rattle.uc_putting_laws.specs.Fields.{LawSole};
+ghost use Rattle.uc_putting_laws.specs.LoneObjects.{LawLoneObjects};
 
 /// In the source of every program of the grammar that breaks no rule constructors and destructors are
 /// called at variables and at fields of the object at hand alone, by what builds the object or by a
@@ -43,4 +44,11 @@ pub fn law_sole()
 /// execution's own, in each state in which this is known of operands, and so in each such run.
 pub fn law_own_places()
     ensures { LawOwnPlaces }
+{}
+
+/// An object that has been built, and one that is entered to be destroyed, is at home in what is the execution's
+/// own, and nothing that is still to be cleaned up stands around it, in each state in which this is known of
+/// operands.
+pub fn law_lone_objects()
+    ensures { LawLoneObjects }
 {}

@@ -76,9 +76,34 @@ pub(crate) struct Caught {
     pub event: Event,
 }
 
-/// Goes on from where a step leaves what an event or a switch leads to, up to its end.
-#[inline(never)]
+/// Goes on from where a step leaves what an event or a switch leads to, up to its end. A request is asked at once.
+#[inline(always)]
 pub(crate) fn settle(
+    code: &Code,
+    work: &mut Work,
+    stop: &Stop,
+    asked: &mut Asked,
+) -> Result<OpEnd, AllocError>
+    requires paced { IsPaced (laid_of code.now) code.now.routines }
+    requires below { (w : ℕ) × FallsBelow code.now w (stopping stop.now asked.old) work.old }
+    ensures source { IfOk result (λ after. (source : Source) (s : State) → Lowered source code.now →
+        Follow (laid_of code.now) source (stopping stop.now asked.old) work.old s →
+        Follow (laid_of code.now) source (how_settled after asked.new) work.new s) }
+    ensures falls { IfOk result (λ after. (w : ℕ) → FallsBelow code.now w (stopping stop.now asked.old) work.old →
+        FallsBelow code.now w (how_settled after asked.new) work.new) }
+{
+    match *stop {
+        Stop::Ask => Ok(OpEnd::Asks),
+        _ => {
+            let end = settle_stop(code, work, stop, asked)?;
+            Ok(end)
+        }
+    }
+}
+
+// The same, whatever it is. It stands apart, so that who asks calls nothing.
+#[inline(never)]
+fn settle_stop(
     code: &Code,
     work: &mut Work,
     stop: &Stop,

@@ -41,6 +41,7 @@ pub struct Ridden {
 /// lent. Where `dispatches` is not 0 it tells the gate first. No answer depends on the last three arguments. A new task has its
 /// memory before it is asked for. Without memory the task is lost, and so it is where one is spawned whose main the code does not
 /// have.
+#[inline(always)]
 pub fn ride<G: Gate>(
     code: &Code,
     fused: &[Fused],

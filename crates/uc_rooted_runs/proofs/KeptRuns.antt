@@ -105,12 +105,12 @@ module _ (makers : Makers) (asked : Exec → Bool) where
     where
       by : (l : List Todo) → s.run.control ≡ l → KeepsAt makers asked source (now makers asked made) l s → LeavesAt source (seating makers) (now makers asked made) l s
       by (SetUpNow r ∷ todo) e h = λ m i x u p. n.new r todo e m i x u p
-      by (Finish ∷ todo) e h = f.finish todo e
+      by (Finish ∷ todo) e h = (f.finish todo e, h)
       by (GoneNow ∷ todo) e h = g todo e
       by l e h = h
 
   pub at_state : (source : Source) (made : Exec → Bool) (s : State) → EndsMains source s → Keeps makers asked source made s → GoesAlone source made s → NamesAt makers asked source made s → OutlastsAt makers asked source made s
-  at_state source made s f k g n = record { takes = law_ways source (seating makers) (now makers asked made) s (takes_at source made s f k.leaves g n); alone = n.alone; held = k.held }
+  at_state source made s f k g n = record { takes = λ st. law_ways source (seating makers) (now makers asked made) s st (takes_at source made s f k.leaves g n); alone = n.alone; held = k.held; named = k.named }
 
   -- so it is where that is asked and no such main is up
   asks_alone : (source : Source) (made : Exec → Bool) (s u : State) (r : Request) → quiet source s ≡ Asks r u → NoMainOf makers asked (now makers asked (made_behind source s made)) r → GoesAlone source made s

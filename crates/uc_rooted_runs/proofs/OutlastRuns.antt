@@ -48,7 +48,7 @@ use Rattle.uc_answer_laws.proofs.Told.{form_push}
 use Rattle.uc_answer_laws.proofs.Runs.{law_suiting}
 use Rattle.uc_answer_laws.proofs.Asking.{law_asking}
 use Rattle.uc_life_laws.specs.Placed.{stacked, Ends}
-use Rattle.uc_life_laws.specs.Held.{Seating, Held, Soon, SoonHere, SoonAsked, AllHeld, HeldEx, HeldState, HeldAsked, HeldAsk, HeldStep, TakesAt, TakesNow}
+use Rattle.uc_life_laws.specs.Held.{Seating, NamedAt, Held, Soon, SoonHere, SoonAsked, AllHeld, AllNamed, HeldEx, HeldState, HeldAsked, HeldAsk, HeldStep, TakesAt, TakesNow}
 use Rattle.uc_life_laws.proofs.HeldLaws.{law_held, held_ends, soon_ends, next_ends}
 use Rattle.uc_life_laws.proofs.HeldKeeping as kept
 use Rattle.uc_rooted_runs.specs.Makers.{Makers, seating}
@@ -68,31 +68,46 @@ module _ (source : Source) (seats : Seating) (up other : Exec → Bool) where
       by true e = h x e p
       by false e = absurd (f x u e p)
 
+  names_more : (n : Exec) (cs : List Active) (fs : List (List Value)) → ((x : Exec) → other x ≡ true → up x ≡ false → seats.parent x ≡ n → ⊥) → AllNamed source seats up n cs fs → AllNamed source seats other n cs fs
+  names_more n cs fs f h x u p t = by (up x) refl
+    where
+      by : (b : Bool) → up x ≡ b → NamedAt n cs fs x (seats.seat x).place
+      by true e = h x e p t
+      by false e = absurd (f x u e p)
+
   env_fewer : (e : Env) → ((x : Exec) → other x ≡ true → up x ≡ true) → EnvBy (HeldEx source seats up) e → EnvBy (HeldEx source seats other) e
-  env_fewer e f h = both_env (HeldEx source seats up) (HeldEx source seats up) (HeldEx source seats other) (λ n y k l x u p. k x (f x u) p) e h h
+  env_fewer e f h = both_env (HeldEx source seats up) (HeldEx source seats up) (HeldEx source seats other) (λ n y k l. (λ x u p. k.0 x (f x u) p, λ x u p t. k.1 x (f x u) p t)) e h h
 
   env_more : (e : Env) → IsAlone e → ((x : Exec) → other x ≡ true → up x ≡ false → seats.parent x ≡ e.exec) → EnvBy (HeldEx source seats up) e → EnvBy (HeldEx source seats other) e
-  env_more e alone f h = both_env (λ n y. n ≡ e.exec → ⊥) (HeldEx source seats up) (HeldEx source seats other) (λ n y k l. all_more n (y.run ∷ y.callers) (λ x u d p. k (sym p ∙ f x u d)) l) e alone h
+  env_more e alone f h = both_env (λ n y. n ≡ e.exec → ⊥) (HeldEx source seats up) (HeldEx source seats other) (λ n y k l. (all_more n (y.run ∷ y.callers) (λ x u d p. k (sym p ∙ f x u d)) l.0, names_more n y.callers y.frames (λ x u d p. k (sym p ∙ f x u d)) l.1)) e alone h
 
   state_fewer : (s : State) → HeldState source seats up s → ((x : Exec) → other x ≡ true → up x ≡ true) → HeldState source seats other s
-  state_fewer s h f = record { soon = λ x u p. h.soon x (f x u) p; env = env_fewer s.env f h.env }
+  state_fewer s h f = record { soon = λ x u p. h.soon x (f x u) p; named = λ x u p t. h.named x (f x u) p t; env = env_fewer s.env f h.env }
 
   pub asked_fewer : (form : Form) (s : State) → HeldAsked source seats up form s → ((x : Exec) → other x ≡ true → up x ≡ true) → HeldAsked source seats other form s
-  asked_fewer form s h f = record { soon = λ x u p. h.soon x (f x u) p; env = env_fewer s.env f h.env }
+  asked_fewer form s h f = record { soon = λ x u p. h.soon x (f x u) p; named = λ x u p t. h.named x (f x u) p t; env = env_fewer s.env f h.env }
 
   pub ask_fewer : (r : Request) (s : State) → HeldAsk source seats up r s → ((x : Exec) → other x ≡ true → up x ≡ true) → HeldAsk source seats other r s
   ask_fewer (ask.Fault m) s h f = tt
   ask_fewer r s h f = asked_fewer (form_of_request r) s h f
 
-  state_more : (s : State) → HeldState source seats up s → IsAlone s.env → ((x : Exec) → other x ≡ true → up x ≡ false → (seats.parent x ≡ s.env.exec) × Soon source (seats.seat x) (seats.before x) s.env.exec s.run s.callers) → HeldState source seats other s
-  state_more s h alone f = record { soon = λ x u p. by x u p (up x) refl; env = env_more s.env alone (λ x u d. (f x u d).0) h.env }
+  -- and of those that have been made
+  names_made : (n : Exec) (cs : List Active) (fs : List (List Value)) → AllNamed source seats up n cs fs → ((x : Exec) → other x ≡ true → up x ≡ false → (seats.seat x).task ≡ false → NamedAt n cs fs x (seats.seat x).place) → AllNamed source seats other n cs fs
+  names_made n cs fs h f x u p t = by (up x) refl
+    where
+      by : (b : Bool) → up x ≡ b → NamedAt n cs fs x (seats.seat x).place
+      by true e = h x e p t
+      by false e = f x u e t
+
+  state_more : (s : State) → HeldState source seats up s → IsAlone s.env → ((x : Exec) → other x ≡ true → up x ≡ false → (seats.parent x ≡ s.env.exec) × Soon source (seats.seat x) (seats.before x) s.env.exec s.run s.callers × ((seats.seat x).task ≡ false → NamedAt s.env.exec s.callers s.env.frames x (seats.seat x).place)) → HeldState source seats other s
+  state_more s h alone f = record { soon = λ x u p. by x u p (up x) refl; named = names_made s.env.exec s.callers s.env.frames h.named (λ x u d. (f x u d).2); env = env_more s.env alone (λ x u d. (f x u d).0) h.env }
     where
       by : (x : Exec) → other x ≡ true → seats.parent x ≡ s.env.exec → (b : Bool) → up x ≡ b → SoonHere source (seats.seat x) (seats.before x) s.env.exec s
       by x u p true e = h.soon x e p
       by x u p false e = inl (zero, (f x u e).1)
 
-  asked_more : (s : State) → HeldAsked source seats up JustGo s → IsAlone s.env → ((x : Exec) → other x ≡ true → up x ≡ false → (seats.parent x ≡ s.env.exec) × Soon source (seats.seat x) (seats.before x) s.env.exec s.run s.callers) → HeldAsked source seats other JustGo s
-  asked_more s h alone f = record { soon = λ x u p. by x u p (up x) refl; env = env_more s.env alone (λ x u d. (f x u d).0) h.env }
+  asked_more : (s : State) → HeldAsked source seats up JustGo s → IsAlone s.env → ((x : Exec) → other x ≡ true → up x ≡ false → (seats.parent x ≡ s.env.exec) × Soon source (seats.seat x) (seats.before x) s.env.exec s.run s.callers × ((seats.seat x).task ≡ false → NamedAt s.env.exec s.callers s.env.frames x (seats.seat x).place)) → HeldAsked source seats other JustGo s
+  asked_more s h alone f = record { soon = λ x u p. by x u p (up x) refl; named = names_made s.env.exec s.callers s.env.frames h.named (λ x u d. (f x u d).2); env = env_more s.env alone (λ x u d. (f x u d).0) h.env }
     where
       by : (x : Exec) → other x ≡ true → seats.parent x ≡ s.env.exec → (b : Bool) → up x ≡ b → SoonAsked source (seats.seat x) (seats.before x) s.env.exec JustGo s.run s.callers
       by x u p true e = h.soon x e p
@@ -173,7 +188,7 @@ module _ (whole : Makers) (homed : ℕ → Value) (asked : Exec → Bool) where
       let new : TakesAt source (seating makers) up (SetUpNow b.main ∷ b.todo) s = subst (λ l. TakesAt source (seating makers) up l s) b.next o in
       let q = home_at s.run.this s.env in
       let y = quiet.fresh b.routine s.run.this in
-      let k : kept.Keeps source (seating makers) up s.env (sw.born q y s.env) = kept.born_keeps source (seating makers) up q y s.env (λ m e z u p. absurd (new m e z u p)) st.env in
+      let k : kept.Keeps source (seating makers) up s.env (sw.born q y s.env) = kept.born_keeps source (seating makers) up q y s.env (λ m e. (λ z u p. absurd (new m e z u p), λ z u p t. absurd (new m e z u p))) st.env in
       let l : kept.Keeps source (seating makers) up s.env (written s.run.this (Running (new_exec q s.env)) (sw.born q y s.env)) = kept.keeps_both source (seating makers) up k (kept.written_keeps source (seating makers) up s.run.this (Running (new_exec q s.env)) (sw.born q y s.env) k.env) in
       let first : quiet.act_todo source (SetUpNow b.main ∷ b.todo) s ≡ Goes u = subst (λ l. quiet.act_todo source l s ≡ Goes u) b.next e in
       let goes : Goes (at b.todo s.run.operands (in_env (written s.run.this (Running (new_exec q s.env)) (sw.born q y s.env)) s)) ≡ Goes u = subst (λ o. quiet.set_up_step o b.todo s ≡ Goes u) b.known first in
@@ -195,7 +210,7 @@ module _ (whole : Makers) (homed : ℕ → Value) (asked : Exec → Bool) where
   -- behind a step, of those too that it has made
   module _ (source : Source) (made : Exec → Bool) (s : State) (st : HeldState source (seating makers) (now makers asked made) s) (a : OutlastsAt makers asked source made s) (l : MakesLater source whole s) where
     stepped : HeldStep source (seating makers) (now makers asked made) (quiet.quiet source s)
-    stepped = law_held.steps source (seating makers) (now makers asked made) s st a.takes
+    stepped = law_held.steps source (seating makers) (now makers asked made) s st (a.takes st)
 
     born : (x : Exec) → now makers asked (made_behind source s made) x ≡ true → now makers asked made x ≡ false → IsBorn source s x
     born x h f = born_now source s made x (now_made (made_behind source s made) x h) (not_now made x (now_asked (made_behind source s made) x h) f)
@@ -214,11 +229,11 @@ module _ (whole : Makers) (homed : ℕ → Value) (asked : Exec → Bool) where
         y : HeldState source (seating makers) (now makers asked made) u
         y = subst (HeldStep source (seating makers) (now makers asked made)) e stepped
 
-        told : (x : Exec) → now makers asked (made_behind source s made) x ≡ true → now makers asked made x ≡ false → (makers.parent x ≡ u.env.exec) × Soon source (makers.seat x) (makers.before x) u.env.exec u.run u.callers
+        told : (x : Exec) → now makers asked (made_behind source s made) x ≡ true → now makers asked made x ≡ false → (makers.parent x ≡ u.env.exec) × Soon source (makers.seat x) (makers.before x) u.env.exec u.run u.callers × ((makers.seat x).task ≡ false → NamedAt u.env.exec u.callers u.env.frames x (makers.seat x).place)
         told x k f =
             let b = born x k f in
             let m = l x b in
-            (m.parent ∙ sym (birth_same source (now makers asked made) s u x b st a.takes e), a.held x b (now_asked (made_behind source s made) x k) u e)
+            (m.parent ∙ sym (birth_same source (now makers asked made) s u x b st (a.takes st) e), a.held x b (now_asked (made_behind source s made) x k) u e, λ t. a.named x b (now_asked (made_behind source s made) x k) u e)
 
         by : (c : Bool) → now makers asked (made_behind source s made) (new_exec (home_at s.run.this s.env) s.env) ≡ c → (d : Bool) → now makers asked made (new_exec (home_at s.run.this s.env) s.env) ≡ d → HeldState source (seating makers) (now makers asked (made_behind source s made)) u
         by true g false i =
@@ -256,17 +271,17 @@ module _ (whole : Makers) (homed : ℕ → Value) (asked : Exec → Bool) where
     asked_spawned : (source : Source) (q : Request) → SpawnsAlone makers asked source made q s → SpawnsLater whole q s → HeldAsked source (seating makers) (now makers asked made) (form_of_request q) s → HeldAsked source (seating makers) (now makers asked (made_asked q made)) (form_of_request q) s
     asked_spawned source (ask.Spawn o) f l st = asked_more source (seating makers) (now makers asked made) (now makers asked (made_asked (ask.Spawn o) made)) s st f.0 told
       where
-        told : (x : Exec) → now makers asked (made_asked (ask.Spawn o) made) x ≡ true → now makers asked made x ≡ false → (makers.parent x ≡ s.env.exec) × Soon source (makers.seat x) (makers.before x) s.env.exec s.run s.callers
+        told : (x : Exec) → now makers asked (made_asked (ask.Spawn o) made) x ≡ true → now makers asked made x ≡ false → (makers.parent x ≡ s.env.exec) × Soon source (makers.seat x) (makers.before x) s.env.exec s.run s.callers × ((makers.seat x).task ≡ false → NamedAt s.env.exec s.callers s.env.frames x (makers.seat x).place)
         told x h g = by (exec_eq x (main_of o)) refl
           where
             old : made x ≡ false
             old = not_now made x (now_asked (made_asked (ask.Spawn o) made) x h) g
 
-            by : (b : Bool) → exec_eq x (main_of o) ≡ b → (makers.parent x ≡ s.env.exec) × Soon source (makers.seat x) (makers.before x) s.env.exec s.run s.callers
+            by : (b : Bool) → exec_eq x (main_of o) ≡ b → (makers.parent x ≡ s.env.exec) × Soon source (makers.seat x) (makers.before x) s.env.exec s.run s.callers × ((makers.seat x).task ≡ false → NamedAt s.env.exec s.callers s.env.frames x (makers.seat x).place)
             by true e =
                 let same = same_exec x (main_of o) e in
                 let it : asked (main_of o) ≡ true = ap asked (sym same) ∙ now_asked (made_asked (ask.Spawn o) made) x h in
-                (ap whole.parent same ∙ l.parent, subst (λ n. Soon source (makers.seat n) (makers.before n) s.env.exec s.run s.callers) (sym same) (f.2 it))
+                (ap whole.parent same ∙ l.parent, subst (λ n. Soon source (makers.seat n) (makers.before n) s.env.exec s.run s.callers) (sym same) (f.2 it), λ t. no_both (whole.seat x).task (ap (λ n. (whole.seat n).task) same ∙ l.task) t)
             by false e =
                 let now_it : (if exec_eq x (main_of o) then true else made x) ≡ true = now_made (made_asked (ask.Spawn o) made) x h in
                 no_both (made x) (ap (λ b. if b then true else made x) (sym e) ∙ now_it) old
@@ -279,11 +294,14 @@ module _ (whole : Makers) (homed : ℕ → Value) (asked : Exec → Bool) where
     abbrev pub Rests : (Exec → Bool) → Form → State → Type 0
     Rests up form s = (y : Exec) → up y ≡ true → makers.parent y ≡ s.env.exec → SoonAsked source (makers.seat y) (makers.before y) s.env.exec form s.run s.callers
 
+    abbrev pub Names : (Exec → Bool) → State → Type 0
+    Names up s = AllNamed source (seating makers) up s.env.exec s.callers s.env.frames
+
     abbrev pub Slot : (Exec → Bool) → Exec → parked.Ex → Type 0
     Slot up n y = HeldEx source (seating makers) up n y
 
     pub record HeldWorld (up : Exec → Bool) (j : Journal) (x : World) : Type 0 where
-      pub stacks : (u : ℕ) → u < task_count j → has_ended u j ≡ false → Rests up (asked_form u j) (x.tasks u)
+      pub stacks : (u : ℕ) → u < task_count j → has_ended u j ≡ false → Rests up (asked_form u j) (x.tasks u) × Names up (x.tasks u)
       pub tasks : (u : ℕ) → EnvBy (Slot up) (x.tasks u).env
       pub homes : (o : ℕ) → MembersBy (Slot up) (home.Object o) (x.homes o)
 
@@ -297,7 +315,8 @@ module _ (whole : Makers) (homed : ℕ → Value) (asked : Exec → Bool) where
 
     pub drawn_told : (up : Exec → Bool) (j : Journal) (w : World) (t : ℕ) → t < task_count j → has_ended t j ≡ false → HeldWorld up j w → HeldAsked source (seating makers) up (asked_form t j) (drawn j w t)
     drawn_told up j w t l e h = record {
-      soon = h.stacks t l e;
+      soon = (h.stacks t l e).0;
+      named = (h.stacks t l e).1;
       env = record { house = (h.tasks t).house; hand = hand_told up (held t j) w.homes h.homes };
     }
 
@@ -337,12 +356,16 @@ module _ (whole : Makers) (homed : ℕ → Value) (asked : Exec → Bool) where
         where
           by : (b : Bool) → now makers asked made x ≡ b → SoonAsked source (makers.seat x) (makers.before x) (w.tasks v).env.exec (asked_form v (j ++ act opts source.sites input j p t n q)) (w.tasks v).run (w.tasks v).callers
           by true g =
-              subst (λ form. SoonAsked source (makers.seat x) (makers.before x) (w.tasks v).env.exec form (w.tasks v).run (w.tasks v).callers) (sym (forms v e)) (h.stacks v l (ended_before j (act opts source.sites input j p t n q) v i) x g r)
+              subst (λ form. SoonAsked source (makers.seat x) (makers.before x) (w.tasks v).env.exec form (w.tasks v).run (w.tasks v).callers) (sym (forms v e)) ((h.stacks v l (ended_before j (act opts source.sites input j p t n q) v i)).0 x g r)
           by false g = absurd (k.2.tasks v l e x u g r)
+
+      old_names : (v : ℕ) → v < task_count j → (v == t) ≡ false → has_ended v (j ++ act opts source.sites input j p t n q) ≡ false → Names source (now makers asked (made_asked q.request (ride_made source made d.rides))) (w.tasks v)
+      old_names v l e i =
+          names_more source (seating makers) (now makers asked made) (now makers asked (made_asked q.request (ride_made source made d.rides))) (w.tasks v).env.exec (w.tasks v).callers (w.tasks v).env.frames (k.2.tasks v l e) (h.stacks v l (ended_before j (act opts source.sites input j p t n q) v i)).1
 
       -- of one that has made none meanwhile
       grown : (m : Exec) (y : _) → ((x : Exec) → now makers asked (made_asked q.request (ride_made source made d.rides)) x ≡ true → now makers asked made x ≡ false → makers.parent x ≡ m → ⊥) → Slot source (now makers asked made) m y → Slot source (now makers asked (made_asked q.request (ride_made source made d.rides))) m y
-      grown m y g e = all_more source (seating makers) (now makers asked made) (now makers asked (made_asked q.request (ride_made source made d.rides))) m (y.run ∷ y.callers) g e
+      grown m y g e = (all_more source (seating makers) (now makers asked made) (now makers asked (made_asked q.request (ride_made source made d.rides))) m (y.run ∷ y.callers) g e.0, names_more source (seating makers) (now makers asked made) (now makers asked (made_asked q.request (ride_made source made d.rides))) m y.callers y.frames g e.1)
 
       old_env : (v : ℕ) → (v == t) ≡ false → EnvBy (Slot source (now makers asked (made_asked q.request (ride_made source made d.rides)))) (w.tasks v).env
       old_env v e =
@@ -365,16 +388,16 @@ module _ (whole : Makers) (homed : ℕ → Value) (asked : Exec → Bool) where
           by g e y u = absurd (cc)
 
       abbrev Told : ℕ → State → Type 0
-      Told u v = Rests source (now makers asked (made_asked q.request (ride_made source made d.rides))) (asked_form u (j ++ act opts source.sites input j p t n q)) v
+      Told u v = Rests source (now makers asked (made_asked q.request (ride_made source made d.rides))) (asked_form u (j ++ act opts source.sites input j p t n q)) v × Names source (now makers asked (made_asked q.request (ride_made source made d.rides))) v
 
-      stacks_after : (u : ℕ) → u < task_count (j ++ act opts source.sites input j p t n q) → has_ended u (j ++ act opts source.sites input j p t n q) ≡ false → Rests source (now makers asked (made_asked q.request (ride_made source made d.rides))) (asked_form u (j ++ act opts source.sites input j p t n q)) ((world_after source (act opts source.sites input j p t n q) w t s).tasks u)
+      stacks_after : (u : ℕ) → u < task_count (j ++ act opts source.sites input j p t n q) → has_ended u (j ++ act opts source.sites input j p t n q) ≡ false → Told u ((world_after source (act opts source.sites input j p t n q) w t s).tasks u)
       stacks_after u l i = by (u == t) refl
         where
           old : (u == t) ≡ false → u < task_count j → Told u ((world_after source (act opts source.sites input j p t n q) w t s).tasks u)
           old e b =
               let none : spawns a u ≡ false = spawns_none j a u (lawful_act opts source.sites input j p t n q (good_whole opts source.sites input rests.kernel).sound (may_ask source input opts range d f)) b in
               let state : (world_after source a w t s).tasks u ≡ w.tasks u = ap (λ b. if b then bare s else if spawns a u then child_of source (own_object u a) s else w.tasks u) e ∙ ap (λ b. if b then child_of source (own_object u a) s else w.tasks u) none in
-              subst (Told u) (sym state) (old_rests u b e i)
+              subst (Told u) (sym state) (old_rests u b e i, old_names u b e i)
 
           new : (u == t) ≡ false → task_count j ≤ u → Told u ((world_after source (act opts source.sites input j p t n q) w t s).tasks u)
           new e le =
@@ -382,7 +405,7 @@ module _ (whole : Makers) (homed : ℕ → Value) (asked : Exec → Bool) where
               let spawns_it : spawns a u ≡ true = ap (λ l. spawns l u) b.entries ∙ ap (λ c. c || false) b.test in
               let own : own_object u a ≡ b.object = ap (own_object u) b.entries ∙ own_spawn p t (cost n q.line) b.object (task_count j) u b.test in
               let state : (world_after source a w t s).tasks u ≡ child_of source b.object s = ap (λ b. if b then bare s else if spawns a u then child_of source (own_object u a) s else w.tasks u) e ∙ (ap (λ b. if b then child_of source (own_object u a) s else w.tasks u) spawns_it ∙ ap (λ o. child_of source o s) own) in
-              subst (Told u) (sym state) (λ x v r. absurd (main_none b.object b.request x v r))
+              subst (Told u) (sym state) (λ x v r. absurd (main_none b.object b.request x v r), λ x v r y. absurd (main_none b.object b.request x v r))
 
           own_form : (u == t) ≡ true → asked_form u (j ++ act opts source.sites input j p t n q) ≡ form_of_request q.request
           own_form e = ap (λ v. asked_form v (j ++ act opts source.sites input j p t n q)) (eqb-true u t e) ∙ (law_asking opts source.sites input j p t n q rests.kernel (may_ask source input opts range d f) on).own
@@ -390,7 +413,7 @@ module _ (whole : Makers) (homed : ℕ → Value) (asked : Exec → Bool) where
           by : (b : Bool) → (u == t) ≡ b → Told u ((world_after source (act opts source.sites input j p t n q) w t s).tasks u)
           by true e =
               let state : (world_after source a w t s).tasks u ≡ bare s = ap (λ b. if b then bare s else if spawns a u then child_of source (own_object u a) s else w.tasks u) e in
-              subst (Told u) (sym state) (λ x v r. subst (λ form. SoonAsked source (makers.seat x) (makers.before x) s.env.exec form s.run s.callers) (sym (own_form e)) (behind.soon x v r))
+              subst (Told u) (sym state) (λ x v r. subst (λ form. SoonAsked source (makers.seat x) (makers.before x) s.env.exec form s.run s.callers) (sym (own_form e)) (behind.soon x v r), behind.named)
           by false e = ⊎_elim (λ b. old e b) (λ le. new e le) (cases_lt u (task_count j))
 
       tasks_after : (u : ℕ) → EnvBy (Slot source (now makers asked (made_asked q.request (ride_made source made d.rides)))) ((world_after source (act opts source.sites input j p t n q) w t s).tasks u).env
@@ -408,14 +431,16 @@ module _ (whole : Makers) (homed : ℕ → Value) (asked : Exec → Bool) where
     outlast_given up j w p t h =
         let same = tasks_push j (dispatch p t) in
         record {
-          stacks = λ u l i x v r. subst (λ form. SoonAsked source (makers.seat x) (makers.before x) (w.tasks u).env.exec form (w.tasks u).run (w.tasks u).callers) (sym (form_push u j (dispatch p t))) (h.stacks u (omega (arith, l, same)) (ended_before j (dispatch p t ∷ []) u i) x v r);
+          stacks = λ u l i.
+              let k = h.stacks u (omega (arith, l, same)) (ended_before j (dispatch p t ∷ []) u i) in
+              (λ x v r. subst (λ form. SoonAsked source (makers.seat x) (makers.before x) (w.tasks u).env.exec form (w.tasks u).run (w.tasks u).callers) (sym (form_push u j (dispatch p t))) (k.0 x v r), k.1);
           tasks = h.tasks;
           homes = h.homes;
         }
 
     outlast_begin : HeldWorld source (now makers asked (λ x. false)) (begin opts ∷ []) (first_world source)
     outlast_begin = record {
-      stacks = λ u l i x h r. absurd (no_one x h);
+      stacks = λ u l i. (λ x h r. absurd (no_one x h), λ x h r t. absurd (no_one x h));
       tasks = λ u. first_env source (routine_of source source.main) 0 (now makers asked (λ x. false));
       homes = λ o. either (MembersBy (Slot source (now makers asked (λ x. false))) (home.Object o)) (o == 0) (Some _) None tt tt;
     }
@@ -436,7 +461,7 @@ module _ (whole : Makers) (homed : ℕ → Value) (asked : Exec → Bool) where
 
     -- who is held has the marks outwards that were there before
     slot_ends : (up : Exec → Bool) (n : Exec) (y : parked.Ex) → Slot source up n y → OutlastEx makers up n y
-    slot_ends up n y h x u p = held_ends source (makers.seat x) (makers.before x) n (y.run ∷ y.callers) (h x u p)
+    slot_ends up n y h x u p = held_ends source (makers.seat x) (makers.before x) n (y.run ∷ y.callers) (h.0 x u p)
 
     asked_ends : (x n : Exec) (form : Form) (b : Active) (cs : List Active) → SoonAsked source (makers.seat x) (makers.before x) n form b cs → Ends (makers.before x) (stacked (b ∷ cs))
     asked_ends x n form b cs (inl h) = held_ends source (makers.seat x) (makers.before x) n (b ∷ cs) h
@@ -444,7 +469,7 @@ module _ (whole : Makers) (homed : ℕ → Value) (asked : Exec → Bool) where
 
     world_ends : (up : Exec → Bool) (j : Journal) (w : World) → HeldWorld source up j w → OutlastWorld makers up j w
     world_ends up j w h = record {
-      stacks = λ u l i x v r. asked_ends x (w.tasks u).env.exec (asked_form u j) (w.tasks u).run (w.tasks u).callers (h.stacks u l i x v r);
+      stacks = λ u l i x v r. asked_ends x (w.tasks u).env.exec (asked_form u j) (w.tasks u).run (w.tasks u).callers ((h.stacks u l i).0 x v r);
       tasks = λ u. both_env (Slot source up) (Slot source up) (OutlastEx makers up) (λ n y k l. slot_ends up n y k) (w.tasks u).env (h.tasks u) (h.tasks u);
       homes = λ o. both_members (Slot source up) (Slot source up) (OutlastEx makers up) (λ n y k l. slot_ends up n y k) (home.Object o) (w.homes o) (h.homes o) (h.homes o);
     }
@@ -460,7 +485,7 @@ module _ (makers : Makers) (up : Exec → Bool) where
       by (inr g) = next_ends source (makers.seat x) (makers.before x) s.env.exec s.run.control s.run s.callers g
 
   pub env_ends : (source : Source) (e : Env) → EnvBy (HeldEx source (seating makers) up) e → EnvBy (OutlastEx makers up) e
-  env_ends source e h = both_env (HeldEx source (seating makers) up) (HeldEx source (seating makers) up) (OutlastEx makers up) (λ n y k l x u p. held_ends source (makers.seat x) (makers.before x) n (y.run ∷ y.callers) (k x u p)) e h h
+  env_ends source e h = both_env (HeldEx source (seating makers) up) (HeldEx source (seating makers) up) (OutlastEx makers up) (λ n y k l x u p. held_ends source (makers.seat x) (makers.before x) n (y.run ∷ y.callers) (k.0 x u p)) e h h
 
   pub ends_more : (other : Exec → Bool) (n : Exec) (cs : List Active) → ((x : Exec) → other x ≡ true → up x ≡ false → makers.parent x ≡ n → ⊥) → Outlasts makers up n cs → Outlasts makers other n cs
   ends_more other n cs f h x u p = by (up x) refl

@@ -115,6 +115,8 @@ module _ (source : Source) (up : Exec → Bool) (s : State) (x : Exec) where
 
 module _ (source : Source) (up : Exec → Bool) (s : State) where
   takes_none : (l : List Todo) → ((todo : List Todo) → l ≡ piece.Finish ∷ todo → AreLines todo) → ((r : ℕ) (todo : List Todo) → l ≡ piece.SetUpNow r ∷ todo → (m : Members) → members_at (home_at s.run.this s.env) s.env ≡ Some m → (x : Exec) → up x ≡ true → x ≡ new_exec (home_at s.run.this s.env) s.env → ⊥) → TakesAt source absent up l s
+  takes_none [] f g = λ x o t h d p e. absurd (cc)
+  takes_none (piece.ClearNow k m ∷ todo) f g = λ x o t h d p e. absurd (cc)
   takes_none (piece.Clean c ∷ todo) f g = λ x o h. absurd (none_holds source up s x (piece.IsClean c) todo h)
   takes_none (piece.Part c ∷ todo) f g = λ x o h. absurd (none_holds source up s x (piece.IsPart c) todo h)
   takes_none (piece.FillNow m b d ∷ todo) f g = λ x o h. absurd (none_holds source up s x (piece.IsFill m b d) todo h)
@@ -122,10 +124,12 @@ module _ (source : Source) (up : Exec → Bool) (s : State) where
   takes_none (piece.CountNow m ∷ (piece.FillNow k b d ∷ todo)) f g = λ x o h. absurd (none_counted source up s x todo h)
   takes_none (piece.CountNow m ∷ todo) f g = λ x o h. absurd (none_counted source up s x todo h)
   takes_none (piece.MoreNow ∷ todo) f g = λ x o h. absurd (none_counted source up s x todo h)
+  takes_none (piece.Unwind ∷ []) f g = λ x o t h d p e. absurd (cc)
   takes_none (piece.Unwind ∷ (p ∷ todo)) f g = λ x o h. absurd (none_holds source up s x (piece.sort p) todo h)
+  takes_none (piece.Exit way ∷ []) f g = λ x o t h d p e. absurd (cc)
   takes_none (piece.Exit way ∷ (p ∷ todo)) f g = λ x o h. absurd (none_holds source up s x (piece.sort p) todo h)
   takes_none (piece.GoneNow ∷ todo) f g = λ x o h e. no_both false h refl
-  takes_none (piece.Finish ∷ todo) f g = f todo refl
+  takes_none (piece.Finish ∷ todo) f g = (f todo refl, λ x o t h d p e. absurd (cc))
   takes_none (piece.SetUpNow r ∷ todo) f g = g r todo refl
   takes_none l f g = tt
 
@@ -144,10 +148,10 @@ module _ (source : Source) (still : Exec → Bool) where
     where
       by : (b : Bool) → still n ≡ b → still n ≡ true
       by true e = e
-      by false e = absurd (none_held source (absent.seat n) n (y.run ∷ y.callers) (h n (ap not e) refl))
+      by false e = absurd (none_held source (absent.seat n) n (y.run ∷ y.callers) (h.0 n (ap not e) refl))
 
   pub still_ex : (n : Exec) (y : Execution (List Todo) Value) → still n ≡ true → HeldEx source absent (Gone still) n y
-  still_ex n y e x u p = no_both (still x) (ap still p ∙ e) (is_gone (still x) u)
+  still_ex n y e = (λ x u p. no_both (still x) (ap still p ∙ e) (is_gone (still x) u), λ x u p t. tt)
 
   pub runs_still : (form : Form) (s : State) → HeldAsked source absent (Gone still) form s → still s.env.exec ≡ true
   runs_still form s h = by (still s.env.exec) refl
@@ -166,6 +170,7 @@ module _ (source : Source) (still : Exec → Bool) where
   pub asked_still : (form : Form) (s : State) → still s.env.exec ≡ true → EnvBy (λ n y. still n ≡ true) s.env → HeldAsked source absent (Gone still) form s
   asked_still form s e h = record {
     soon = λ x u p. no_both (still x) (ap still p ∙ e) (is_gone (still x) u);
+    named = λ x u p t. tt;
     env = both_env (λ n y. still n ≡ true) (λ n y. still n ≡ true) (HeldEx source absent (Gone still)) (λ n y k l. still_ex n y k) s.env h h;
   }
 
@@ -360,7 +365,7 @@ module _ (source : Source) (here : Home → Bool) (ks : List ℕ) (once : Once k
           by (Some x) i = one x i (still x) refl (still_behind s still x) refl
 
       pub step_goes : HeldState source absent (Gone (still_behind s still)) u
-      step_goes = record { soon = λ x v p. by x v p (still x) refl; env = env_behind }
+      step_goes = record { soon = λ x v p. by x v p (still x) refl; named = λ x v p t. tt; env = env_behind }
         where
           by : (x : Exec) → Gone (still_behind s still) x ≡ true → x ≡ u.env.exec → (b : Bool) → still x ≡ b → SoonHere source (absent.seat x) no_mark u.env.exec u
           by x v p true g = absurd (other_runs x (taken source still s x (is_gone (still_behind s still x) v) g) u e p)

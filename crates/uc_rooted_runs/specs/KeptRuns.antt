@@ -22,7 +22,7 @@ use Rattle.uc_typing.specs.Typing.{Ty, Table}
 use Rattle.uc_life_laws.specs.Things.{Few, Stands}
 use Rattle.uc_life_laws.specs.Knowing.{main_of}
 use Rattle.uc_life_laws.specs.Rooted.{Had}
-use Rattle.uc_life_laws.specs.Held.{Soon}
+use Rattle.uc_life_laws.specs.Held.{NamedAt, Soon, LetsGo}
 use Rattle.uc_life_laws.specs.Ways.{LeavesAt}
 use Rattle.uc_rooted_runs.specs.Makers.{Makers, seating}
 use Rattle.uc_rooted_runs.specs.Births.{AllMadeLater}
@@ -32,18 +32,21 @@ use Rattle.uc_rooted_runs.specs.OutlastRuns.{with_homes, made_behind, ride_made,
 use Rattle.uc_rooted_runs.specs.Upwards.{IsThere, OutlastWorld}
 
 module _ (makers : Makers) (asked : Exec → Bool) where
-  -- what is left to find of a state that makes no execution, at which no main ends and no object goes
+  -- what is left to find of a state that makes no execution, and at which no object goes; where a main ends, that no first cell goes with its frame which
+  -- names one
   abbrev pub KeepsAt : Source → (Exec → Bool) → List Todo → State → Type 0
   KeepsAt source up (SetUpNow r ∷ todo) s = Unit {0}
-  KeepsAt source up (Finish ∷ todo) s = Unit {0}
+  KeepsAt source up (Finish ∷ todo) s = LetsGo source (seating makers) up s
   KeepsAt source up (GoneNow ∷ todo) s = Unit {0}
   KeepsAt source up todo s = LeavesAt source (seating makers) up todo s
 
-  -- where marks are taken away, what is left to find of those that these held; and one that is made is held soon
+  -- where marks are taken away, what is left to find of those that these held; and one that is made is held soon, and named
   pub record Keeps (source : Source) (made : Exec → Bool) (s : State) : Type 0 where
     pub leaves : KeepsAt source (now makers asked made) s.run.control s
     pub held : (n : Exec) → IsBorn source s n → asked n ≡ true → (u : State) → quiet source s ≡ Goes u →
         Soon source (makers.seat n) (makers.before n) u.env.exec u.run u.callers
+    pub named : (n : Exec) → IsBorn source s n → asked n ≡ true → (u : State) → quiet source s ≡ Goes u →
+        NamedAt u.env.exec u.callers u.env.frames n (makers.seat n).place
 
   abbrev pub RideKeeps : (source : Source) → (Exec → Bool) → {s u : State} {q k : ℕ} {a : Asked} → Rides source s q u k a → Type 0
   RideKeeps source made slices = Unit {0}

@@ -22,7 +22,7 @@ use Rattle.uc_state_laws.specs.Fitting.{RunFits}
 use Rattle.uc_name_laws.specs.NameSteps.{IsBorn}
 use Rattle.uc_life_laws.specs.Knowing.{main_of}
 use Rattle.uc_life_laws.specs.LifeStates.{EnvBy, MembersBy}
-use Rattle.uc_life_laws.specs.Held.{Soon, TakesNow}
+use Rattle.uc_life_laws.specs.Held.{NamedAt, Soon, HeldState, TakesNow}
 use Rattle.uc_rooted_runs.specs.Makers.{Makers, seating}
 use Rattle.uc_rooted_runs.specs.Births.{AllMadeLater}
 use Rattle.uc_rooted_runs.specs.Outlasting.{IsAlone}
@@ -77,13 +77,15 @@ module _ (makers : Makers) (asked : Exec → Bool) where
   abbrev pub now : (Exec → Bool) → Exec → Bool
   now made x = if asked x then made x else false
 
-  -- at a state: where marks are taken away, those that these held are held soon, of those that were made by now; and behind one that makes one, no other has the
-  -- name of the running one, and that one is held soon
+  -- at a state in which those that were made by now are held: where marks are taken away, those that these held are held soon, and no first cell that names
+  -- one goes or starts anew; and behind one that makes one, no other has the name of the running one, and that one is held soon, and named
   pub record OutlastsAt (source : Source) (made : Exec → Bool) (s : State) : Type 0 where
-    pub takes : TakesNow source (seating makers) (now made) s
+    pub takes : HeldState source (seating makers) (now made) s → TakesNow source (seating makers) (now made) s
     pub alone : (n : Exec) → IsBorn source s n → (u : State) → quiet source s ≡ Goes u → IsAlone u.env
     pub held : (n : Exec) → IsBorn source s n → asked n ≡ true → (u : State) → quiet source s ≡ Goes u →
         Soon source (makers.seat n) (makers.before n) u.env.exec u.run u.callers
+    pub named : (n : Exec) → IsBorn source s n → asked n ≡ true → (u : State) → quiet source s ≡ Goes u →
+        NamedAt u.env.exec u.callers u.env.frames n (makers.seat n).place
 
   abbrev pub RideOutlasts : (source : Source) → (Exec → Bool) → {s u : State} {q k : ℕ} {a : Asked} → Rides source s q u k a → Type 0
   RideOutlasts source made slices = Unit {0}

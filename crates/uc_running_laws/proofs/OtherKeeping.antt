@@ -22,7 +22,7 @@ use Rattle.uc_life_laws.proofs.Reading.{exec_is}
 use Rattle.uc_life_laws.proofs.Cells.{either, tested}
 use Rattle.uc_life_laws.proofs.Parked as parked
 use Rattle.uc_life_laws.proofs.Parked.{Ex, at_home}
-use Rattle.uc_running_laws.specs.OtherNames.{Names, AllName, FramesName, StackNames, Other, ExNames, Away, HomeNames, HandNames, EnvNames, NamesOthers}
+use Rattle.uc_running_laws.specs.OtherNames.{Names, AllName, FramesName, StackNames, Other, OfCoroutine, MayName, ExNames, Away, HomeNames, HandNames, EnvNames, NamesOthers}
 use Rattle.uc_running_laws.proofs.OtherValues.{named_get, named_changed, named_cleared, frame_named, frames_named}
 
 module _ (few : Few) where
@@ -74,18 +74,18 @@ module _ (few : Few) where
   pub keeps_both : {e f g : Env} → Keeps e f → Keeps f g → Keeps e g
   keeps_both {e} {f} {g} h k = record { exec = k.exec ∙ h.exec; env = k.env }
 
-  like : {e f : Env} → EnvNames few e → FramesName (Other f.exec) f.frames → f.hand ≡ e.hand → f.house ≡ e.house → f.own ≡ e.own → EnvNames few f
+  like : {e f : Env} → EnvNames few e → FramesName (MayName f.exec) f.frames → f.hand ≡ e.hand → f.house ≡ e.house → f.own ≡ e.own → EnvNames few f
   like s r h g o = record { parked = parked.like ExNames s.parked h g o; frames = r; hand = subst (HandNames few) (sym h) s.hand }
 
-  same_frames : (e f : Env) → EnvNames few e → f.frames ≡ e.frames → f.exec ≡ e.exec → FramesName (Other f.exec) f.frames
-  same_frames e f s r x = subst (FramesName (Other f.exec)) (sym r) (subst (λ n. FramesName (Other n) e.frames) (sym x) s.frames)
+  same_frames : (e f : Env) → EnvNames few e → f.frames ≡ e.frames → f.exec ≡ e.exec → FramesName (MayName f.exec) f.frames
+  same_frames e f s r x = subst (FramesName (MayName f.exec)) (sym r) (subst (λ n. FramesName (MayName n) e.frames) (sym x) s.frames)
 
   pub keeps_like : {e f : Env} → EnvNames few e → f.frames ≡ e.frames → f.exec ≡ e.exec → f.hand ≡ e.hand → f.house ≡ e.house → f.own ≡ e.own → Keeps e f
   keeps_like {e} {f} s r x h g o = record { exec = x; env = like s (same_frames e f s r x) h g o }
 
   -- with other frames
-  pub keeps_frames : {e f : Env} → EnvNames few e → FramesName (Other e.exec) f.frames → f.exec ≡ e.exec → f.hand ≡ e.hand → f.house ≡ e.house → f.own ≡ e.own → Keeps e f
-  keeps_frames {e} {f} s r x h g o = record { exec = x; env = like s (subst (λ n. FramesName (Other n) f.frames) (sym x) r) h g o }
+  pub keeps_frames : {e f : Env} → EnvNames few e → FramesName (MayName e.exec) f.frames → f.exec ≡ e.exec → f.hand ≡ e.hand → f.house ≡ e.house → f.own ≡ e.own → Keeps e f
+  keeps_frames {e} {f} s r x h g o = record { exec = x; env = like s (subst (λ n. FramesName (MayName n) f.frames) (sym x) r) h g o }
 
   keeps_change : (h : Home) (f : Members → Members) (e : Env) → parked.KeepsParked ExNames h f → KeepsValues h f → EnvNames few e → Keeps e (change h f e)
   keeps_change h f e k v s = record {
@@ -99,47 +99,71 @@ module _ (few : Few) where
 
   -- reads
 
-  frames_in_hand : (x : Exec) (o : Option Ex) → SlotBy ExNames x o → FramesName (Other x) (frames_in o)
+  frames_in_hand : (x : Exec) (o : Option Ex) → SlotBy ExNames x o → FramesName (MayName x) (frames_in o)
   frames_in_hand x None h = tt
   frames_in_hand x (Some y) h = h.1
 
-  frames_there : (x : Exec) (e : Env) → EnvNames few e → FramesName (Other x) (frames_of x e)
+  frames_there : (x : Exec) (e : Env) → EnvNames few e → FramesName (MayName x) (frames_of x e)
   frames_there x e s =
-      tested (FramesName (Other x)) (exec_eq x e.exec) e.frames (frames_in (parked_at x e)) (λ q. subst (λ n. FramesName (Other n) e.frames) (sym (exec_is x e.exec q)) s.frames) (λ q. frames_in_hand x (parked_at x e) (parked.parked_rests ExNames x e s.parked))
+      tested (FramesName (MayName x)) (exec_eq x e.exec) e.frames (frames_in (parked_at x e)) (λ q. subst (λ n. FramesName (MayName n) e.frames) (sym (exec_is x e.exec q)) s.frames) (λ q. frames_in_hand x (parked_at x e) (parked.parked_rests ExNames x e s.parked))
 
   -- an execution that owns an object is not another one
-  not_other : (n : Exec) (o : ℕ) (v : Value) → Belongs few n (few.home o) → Names (Away few o) v → Names (Other n) v
+  not_other : (n : Exec) (o : ℕ) (v : Value) → Belongs few n (few.home o) → Names (Away few o) v → Names (MayName n) v
   not_other n o (Number z) b h = tt
   not_other n o (Place q p) b h = tt
-  not_other n o (Running m) b h = λ e. h (subst (λ k. Belongs few k (few.home o)) (sym e) b)
+  not_other n o (Running m) b h = (λ e. h.0 (subst (λ k. Belongs few k (few.home o)) (sym e) b), h.1)
   not_other n o (Object q) b h = tt
   not_other n o Nothing b h = tt
 
-  not_away : (n : Exec) (o : ℕ) (v : Value) → Belongs few n (few.home o) → Names (Other n) v → Names (Away few o) v
+  not_away : (n : Exec) (o : ℕ) (v : Value) → Belongs few n (few.home o) → Names (MayName n) v → Names (Away few o) v
   not_away n o (Number z) b h = tt
   not_away n o (Place q p) b h = tt
-  not_away n o (Running m) b h = λ c. h (law_own few m n (few.home o) c b)
+  not_away n o (Running m) b h = (λ c. h.0 (law_own few m n (few.home o) c b), h.1)
   not_away n o (Object q) b h = tt
   not_away n o Nothing b h = tt
 
   -- what is read at a place that is the own of one does not name that
-  pub loaded_own : (n : Exec) (v : Value) (e : Env) → Belongs few n v → EnvNames few e → Names (Other n) (loaded v e)
+  pub loaded_own : (n : Exec) (v : Value) (e : Env) → Belongs few n v → EnvNames few e → Names (MayName n) (loaded v e)
   loaded_own n (Place (Frame x d) p) e (frame q) s =
-      subst (λ m. Names (Other m) (loaded (Place (Frame x d) p) e)) q (named_get (Other x) _ (address p) (frame_named (Other x) (frames_of x e) d (frames_there x e s)))
+      subst (λ m. Names (MayName m) (loaded (Place (Frame x d) p) e)) q (named_get (MayName x) _ (address p) (frame_named (MayName x) (frames_of x e) d (frames_there x e s)))
   loaded_own n (Place (Fields o) p) e (fields b) s = not_other n o _ b (named_get (Away few o) (values_in (find o e.hand)) (address p) (found_names o e.hand s.hand))
   loaded_own n (Object o) e (object b) s = not_other n o _ b (named_get (Away few o) (values_in (find o e.hand)) 0 (found_names o e.hand s.hand))
   loaded_own n (Number z) e b s = tt
   loaded_own n (Running x) e b s = tt
   loaded_own n Nothing e b s = tt
 
-  -- what is read names none that is no other where that is so of places that are not its own
-  pub loaded_other : (n : Exec) (v : Value) (e : Env) → ((Belongs few n v → ⊥) → Names (Other n) (loaded v e)) → EnvNames few e → Names (Other n) (loaded v e)
+  -- what is read anywhere names executions of coroutines alone
+
+  of_coroutine : (A : Exec → Type 0) → ((m : Exec) → A m → OfCoroutine m) → (v : Value) → Names A v → Names OfCoroutine v
+  of_coroutine A f (Number z) h = tt
+  of_coroutine A f (Place o p) h = tt
+  of_coroutine A f (Running m) h = f m h
+  of_coroutine A f (Object o) h = tt
+  of_coroutine A f Nothing h = tt
+
+  loaded_any : (v : Value) (e : Env) → EnvNames few e → Names OfCoroutine (loaded v e)
+  loaded_any (Place (Frame x d) p) e s =
+      of_coroutine (MayName x) (λ m h. h.1) (loaded (Place (Frame x d) p) e) (named_get (MayName x) _ (address p) (frame_named (MayName x) (frames_of x e) d (frames_there x e s)))
+  loaded_any (Place (Fields o) p) e s =
+      of_coroutine (Away few o) (λ m h. h.1) (loaded (Place (Fields o) p) e) (named_get (Away few o) (values_in (find o e.hand)) (address p) (found_names o e.hand s.hand))
+  loaded_any (Object o) e s =
+      of_coroutine (Away few o) (λ m h. h.1) (loaded (Object o) e) (named_get (Away few o) (values_in (find o e.hand)) 0 (found_names o e.hand s.hand))
+  loaded_any (Number z) e s = tt
+  loaded_any (Running x) e s = tt
+  loaded_any Nothing e s = tt
+
+  -- what is read names none but such as may be named where that is so of what a coroutine's execution reads at places that are not its own
+  pub loaded_other : (n : Exec) (v : Value) (e : Env) → ((Belongs few n v → ⊥) → OfCoroutine n → Names (Other n) (loaded v e)) → EnvNames few e → Names (MayName n) (loaded v e)
   loaded_other n v e f s = by (loaded v e) refl
     where
-      by : (w : Value) → loaded v e ≡ w → Names (Other n) w
+      by : (w : Value) → loaded v e ≡ w → Names (MayName n) w
       by (Number z) q = tt
       by (Place o p) q = tt
-      by (Running m) q = λ k. subst (Names (Other n)) q (f (λ b. subst (Names (Other n)) q (loaded_own n v e b s) k)) k
+      by (Running m) q =
+          let c : OfCoroutine m = subst (Names OfCoroutine) q (loaded_any v e s) in (
+            (λ k. subst (Names (Other n)) q (f (λ b. (subst (Names (MayName n)) q (loaded_own n v e b s)).0 k) (subst OfCoroutine k c)) k),
+            c,
+          )
       by (Object o) q = tt
       by Nothing q = tt
 
@@ -148,7 +172,7 @@ module _ (few : Few) where
   -- what is written to a place may stand there
   abbrev pub Writes : Value → Value → Type 0
   Writes (Number z) w = Unit {0}
-  Writes (Place (Frame x d) p) w = Names (Other x) w
+  Writes (Place (Frame x d) p) w = Names (MayName x) w
   Writes (Place (Fields o) p) w = Names (Away few o) w
   Writes (Running x) w = Unit {0}
   Writes (Object o) w = Names (Away few o) w
@@ -162,15 +186,15 @@ module _ (few : Few) where
   writes_number (Object o) z = tt
   writes_number Nothing z = tt
 
-  pub writes_own : (n : Exec) (v w : Value) → Belongs few n v → Names (Other n) w → Writes v w
-  writes_own n (Place (Frame x d) p) w (frame q) h = subst (λ m. Names (Other m) w) (sym q) h
+  pub writes_own : (n : Exec) (v w : Value) → Belongs few n v → Names (MayName n) w → Writes v w
+  writes_own n (Place (Frame x d) p) w (frame q) h = subst (λ m. Names (MayName m) w) (sym q) h
   writes_own n (Place (Fields o) p) w (fields b) h = not_away n o w b h
   writes_own n (Object o) w (object b) h = not_away n o w b h
   writes_own n (Number z) w b h = tt
   writes_own n (Running x) w b h = tt
   writes_own n Nothing w b h = tt
 
-  frames_kept : (x : Exec) (f : List (List Value) → List (List Value)) (o : Option Ex) (m : Members) → ((fs : List (List Value)) → FramesName (Other x) fs → FramesName (Other x) (f fs)) → SlotBy ExNames x o → ParkedBy ExNames x.home m.parked → ParkedBy ExNames x.home (frames_by x.serial f o m).parked
+  frames_kept : (x : Exec) (f : List (List Value) → List (List Value)) (o : Option Ex) (m : Members) → ((fs : List (List Value)) → FramesName (MayName x) fs → FramesName (MayName x) (f fs)) → SlotBy ExNames x o → ParkedBy ExNames x.home m.parked → ParkedBy ExNames x.home (frames_by x.serial f o m).parked
   frames_kept x f None m k r s = s
   frames_kept x f (Some y) m k r s = parked.update_parked ExNames x.home x.serial (Some (record y { frames = f y.frames })) m.parked (r.0, k y.frames r.1) s
 
@@ -178,13 +202,13 @@ module _ (few : Few) where
   frames_values k f None m = refl
   frames_values k f (Some y) m = refl
 
-  with_frames_keeps : (x : Exec) (f : List (List Value) → List (List Value)) (e : Env) → ((fs : List (List Value)) → FramesName (Other x) fs → FramesName (Other x) (f fs)) → EnvNames few e → Keeps e (with_frames x f e)
+  with_frames_keeps : (x : Exec) (f : List (List Value) → List (List Value)) (e : Env) → ((fs : List (List Value)) → FramesName (MayName x) fs → FramesName (MayName x) (f fs)) → EnvNames few e → Keeps e (with_frames x f e)
   with_frames_keeps x f e k s =
-      tested (Keeps e) (exec_eq x e.exec) (record e { frames = f e.frames }) (change x.home (frames_changed x.serial f) e) (λ q. keeps_frames s (subst (λ n. FramesName (Other n) e.frames → FramesName (Other n) (f e.frames)) (exec_is x e.exec q) (k e.frames) s.frames) refl refl refl refl) (λ q. keeps_change x.home (frames_changed x.serial f) e (λ m h. frames_kept x f (joined (find x.serial m.parked)) m k (parked.found_parked ExNames x.home x.serial m.parked h) h) (same_values x.home (frames_changed x.serial f) (λ m. frames_values x.serial f (joined (find x.serial m.parked)) m)) s)
+      tested (Keeps e) (exec_eq x e.exec) (record e { frames = f e.frames }) (change x.home (frames_changed x.serial f) e) (λ q. keeps_frames s (subst (λ n. FramesName (MayName n) e.frames → FramesName (MayName n) (f e.frames)) (exec_is x e.exec q) (k e.frames) s.frames) refl refl refl refl) (λ q. keeps_change x.home (frames_changed x.serial f) e (λ m h. frames_kept x f (joined (find x.serial m.parked)) m k (parked.found_parked ExNames x.home x.serial m.parked h) h) (same_values x.home (frames_changed x.serial f) (λ m. frames_values x.serial f (joined (find x.serial m.parked)) m)) s)
 
   pub written_keeps : (v w : Value) (e : Env) → Writes v w → EnvNames few e → Keeps e (written v w e)
   written_keeps (Number n) w e h s = keeps_like s refl refl refl refl refl
-  written_keeps (Place (Frame x d) p) w e h s = with_frames_keeps x (frame_changed d (value_changed (address p) (stored w) nought)) e (λ fs. frames_named (Other x) d (value_changed (address p) (stored w) nought) fs (λ vs. named_changed (Other x) (address p) w vs h)) s
+  written_keeps (Place (Frame x d) p) w e h s = with_frames_keeps x (frame_changed d (value_changed (address p) (stored w) nought)) e (λ fs. frames_named (MayName x) d (value_changed (address p) (stored w) nought) fs (λ vs. named_changed (MayName x) (address p) w vs h)) s
   written_keeps (Place (Fields o) p) w e h s = keeps_change (home.Object o) (λ m. record m { values = value_changed (address p) (stored w) nought m.values }) e (λ m k. k) (λ m k. named_changed (Away few o) (address p) w m.values h k) s
   written_keeps (Running x) w e h s = keeps_like s refl refl refl refl refl
   written_keeps (Object o) w e h s = keeps_change (home.Object o) (λ m. record m { values = value_changed 0 (stored w) nought m.values }) e (λ m k. k) (λ m k. named_changed (Away few o) 0 w m.values h k) s
@@ -192,7 +216,7 @@ module _ (few : Few) where
 
   -- cells of a frame start anew
   pub cleared_keeps : (x : Exec) (d k n : ℕ) (e : Env) → EnvNames few e → Keeps e (with_owned (Frame x d) (values_cleared k n nought) e)
-  cleared_keeps x d k n e s = with_frames_keeps x (frame_changed d (values_cleared k n nought)) e (λ fs. frames_named (Other x) d (values_cleared k n nought) fs (λ vs. named_cleared (Other x) k n vs)) s
+  cleared_keeps x d k n e s = with_frames_keeps x (frame_changed d (values_cleared k n nought)) e (λ fs. frames_named (MayName x) d (values_cleared k n nought) fs (λ vs. named_cleared (MayName x) k n vs)) s
 
   -- executions are made and go, and their links change
 
@@ -315,7 +339,7 @@ module _ (few : Few) where
 
   -- the same running execution, in a task that has changed
   pub with_env : {e : Env} (s : State) → NamesOthers few s → Keeps s.env e → NamesOthers few (record s { env = e })
-  with_env {e} s h k = record { stack = subst (λ n. StackNames (Other n) (s.run ∷ s.callers)) (sym k.exec) h.stack; env = k.env }
+  with_env {e} s h k = record { stack = subst (λ n. StackNames (MayName n) (s.run ∷ s.callers)) (sym k.exec) h.stack; env = k.env }
 
   over_rests : (n : Exec) (s : State) → NamesOthers few s → NamesOthers few (sw.over n s)
   over_rests n s h = with_env s h (links_keeps (λ l. record l { live = false; stage = Ended }) n s.env h.env)

@@ -30,7 +30,7 @@ use Rattle.uc_state_laws.specs.Counted.{params_at}
 use Rattle.uc_life_laws.specs.Things.{Few}
 use Rattle.uc_life_laws.specs.Belonging.{Belongs, frame}
 use Rattle.uc_life_laws.proofs.Cells.{either}
-use Rattle.uc_running_laws.specs.OtherNames.{Names, AllName, ActiveNames, StackNames, Other, NamesOthers, NamesStep, ReadsAt}
+use Rattle.uc_running_laws.specs.OtherNames.{Names, AllName, ActiveNames, StackNames, MayName, NamesOthers, NamesStep, ReadsAt}
 use Rattle.uc_running_laws.proofs.OtherValues.{named_top, named_below, named_drop, named_noughts, named_set, named_taken, named_further, frames_others}
 use Rattle.uc_running_laws.proofs.OtherKeeping as kept
 use Rattle.uc_running_laws.proofs.OtherKeeping.{Keeps}
@@ -54,7 +54,7 @@ module _ (A : Exec → Type 0) where
 module _ (few : Few) where
   module _ (s : State) (h : NamesOthers few s) where
     abbrev pub self : Exec → Type 0
-    self = Other s.env.exec
+    self = MayName s.env.exec
 
     pub ops : AllName self s.run.operands
     ops = h.stack.0.0
@@ -73,7 +73,7 @@ module _ (few : Few) where
 
     -- a task by its parts
     task : (t : State) → ActiveNames self t.run → StackNames self t.callers → Keeps few s.env t.env → NamesOthers few t
-    task t a c k = record { stack = subst (λ n. StackNames (Other n) (t.run ∷ t.callers)) (sym k.exec) (a, c); env = k.env }
+    task t a c k = record { stack = subst (λ n. StackNames (MayName n) (t.run ∷ t.callers)) (sym k.exec) (a, c); env = k.env }
 
     -- with other operands and something else to do
     pub go : (todo : List Todo) (vs : List Value) → AllName self vs → NamesOthers few (at todo vs s)
@@ -222,7 +222,7 @@ module _ (few : Few) where
         let q = quiet.home_at s.run.this s.env in
         let x = quiet.fresh r s.run.this in
         let n = sw.new_exec q s.env in
-        let k : Keeps few s.env (sw.born q x s.env) = kept.born_keeps few q x s.env (((tt, no_name (Other n) s.env.exec s.run.this b, tt), tt), (named_noughts (Other n) r.cells, tt)) h.env in
+        let k : Keeps few s.env (sw.born q x s.env) = kept.born_keeps few q x s.env (((tt, no_name (MayName n) s.env.exec s.run.this b, tt), tt), (named_noughts (MayName n) r.cells, tt)) h.env in
         go_in _ _ _ ops (kept.keeps_both few k (kept.written_keeps few s.run.this (piece.Running n) (sw.born q x s.env) (kept.writes_own few s.env.exec s.run.this (piece.Running n) b (f r refl)) k.env))
 
     pub live : (r : Option Routine) (todo : List Todo) → NamesStep few (quiet.live_step r todo s)

@@ -19,7 +19,7 @@ use Rattle.uc_name_laws.specs.NameSteps.{SparesAt, Spares}
 use Rattle.uc_life_laws.specs.Things.{Few}
 use Rattle.uc_life_laws.specs.LifeStates.{MembersBy}
 use Rattle.uc_life_laws.proofs.Parked.{more_hand}
-use Rattle.uc_running_laws.specs.OtherNames.{Names, AllName, Other, ExNames, Away, HomeNames, HandNames, NamesOthers, NamesStep, ReadsAt, ReadsOthers, BindsAt, BindsOthers, LawNames}
+use Rattle.uc_running_laws.specs.OtherNames.{Names, AllName, MayName, ExNames, Away, HomeNames, HandNames, NamesOthers, NamesStep, ReadsAt, ReadsOthers, BindsAt, BindsOthers, LawNames}
 use Rattle.uc_running_laws.proofs.OtherValues.{named_top, named_below, named_drop, named_noughts, named_further}
 use Rattle.uc_running_laws.proofs.OtherKeeping as kept
 use Rattle.uc_running_laws.proofs.OtherSteps as steps
@@ -31,7 +31,7 @@ some_one m n e = cc
 module _ (few : Few) where
   module _ (source : Source) (s : State) (h : NamesOthers few s) where
     abbrev self : Exec → Type 0
-    self = Other s.env.exec
+    self = MayName s.env.exec
 
     go : (todo : List Todo) (vs : List Value) → AllName self vs → NamesOthers few (at todo vs s)
     go = steps.go few s h
@@ -159,7 +159,7 @@ module _ (few : Few) where
     own_other : (w : Value) → Names self w → piece.exec_in w ≡ Some s.env.exec → ⊥
     own_other (piece.Number z) n e = cc
     own_other (piece.Place o p) n e = cc
-    own_other (piece.Running m) n e = n (some_one m s.env.exec e)
+    own_other (piece.Running m) n e = n.0 (some_one m s.env.exec e)
     own_other (piece.Object o) n e = cc
     own_other piece.Nothing n e = cc
 
@@ -176,7 +176,7 @@ module _ (few : Few) where
   pub begins : (source : Source) (r o : ℕ) → NamesOthers few (first_state (routine_of source r) o)
   begins source r o = record {
     stack = ((tt, tt, tt), tt);
-    env = record { parked = record { house = (tt, tt); hand = tt }; frames = (named_noughts (Other _) _, tt); hand = tt };
+    env = record { parked = record { house = (tt, tt); hand = tt }; frames = (named_noughts (MayName _) _, tt); hand = tt };
   }
 
   -- a new object
@@ -196,7 +196,7 @@ module _ (few : Few) where
   hand_more (p ∷ hand) o m h k = (k.0, hand_more hand o m h k.1)
 
   -- with an operand that names no execution
-  with_one : (v : Value) (s : State) → Names (Other s.env.exec) v → NamesOthers few s → NamesOthers few (with_operand v s)
+  with_one : (v : Value) (s : State) → Names (MayName s.env.exec) v → NamesOthers few s → NamesOthers few (with_operand v s)
   with_one v s n h = record { stack = (((n, h.stack.0.0), h.stack.0.1, h.stack.0.2), h.stack.1); env = h.env }
 
   entered_there : (m : Option Members) (o : ℕ) (s : State) → MembersBy ExNames (home.Object o) m → HomeNames few o m → NamesOthers few s → NamesOthers few (entered m o s)

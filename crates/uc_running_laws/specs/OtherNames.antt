@@ -13,6 +13,7 @@ use Rattle.uc_name_laws.specs.NameSteps.{Spares}
 use Rattle.uc_life_laws.specs.Things.{Few}
 use Rattle.uc_life_laws.specs.LifeStates.{EnvBy}
 use Rattle.uc_life_laws.specs.Belonging.{Belongs}
+use Rattle.uc_life_laws.specs.Knowing.{main_of}
 
 -- what names an execution names one of which this holds
 abbrev pub Names : (Exec → Type 0) → Value → Type 0
@@ -38,18 +39,24 @@ abbrev pub StackNames : (Exec → Type 0) → List Active → Type 0
 StackNames A [] = Unit {0}
 StackNames A (a ∷ older) = ActiveNames A a × StackNames A older
 
--- another execution
+-- another execution; one of a coroutine, and no main of a task; one that an execution may name: another one, of a coroutine
 abbrev pub Other : Exec → Exec → Type 0
 Other n m = m ≡ n → ⊥
 
--- an execution that does not run names none but others
+abbrev pub OfCoroutine : Exec → Type 0
+OfCoroutine m = (o : ℕ) → m ≡ main_of o → ⊥
+
+abbrev pub MayName : Exec → Exec → Type 0
+MayName n m = Other n m × OfCoroutine m
+
+-- an execution that does not run names none but such
 abbrev pub ExNames : Exec → Execution (List Todo) Value → Type 0
-ExNames n x = StackNames (Other n) (x.run ∷ x.callers) × FramesName (Other n) x.frames
+ExNames n x = StackNames (MayName n) (x.run ∷ x.callers) × FramesName (MayName n) x.frames
 
 module _ (few : Few) where
-  -- an execution of which the mutex object is not its own
+  -- an execution of a coroutine of which the mutex object is not its own
   abbrev pub Away : ℕ → Exec → Type 0
-  Away o m = Belongs few m (few.home o) → ⊥
+  Away o m = (Belongs few m (few.home o) → ⊥) × OfCoroutine m
 
   -- what is at home in objects names none of which they are the own
   abbrev pub HomeNames : ℕ → Option Members → Type 0
@@ -63,12 +70,12 @@ module _ (few : Few) where
   -- a task, but for the activations of its running execution
   pub record EnvNames (e : Env) : Type 0 where
     pub parked : EnvBy ExNames e
-    pub frames : FramesName (Other e.exec) e.frames
+    pub frames : FramesName (MayName e.exec) e.frames
     pub hand : HandNames e.hand
 
   -- no execution names itself in a state
   pub record NamesOthers (s : State) : Type 0 where
-    pub stack : StackNames (Other s.env.exec) (s.run ∷ s.callers)
+    pub stack : StackNames (MayName s.env.exec) (s.run ∷ s.callers)
     pub env : EnvNames s.env
 
   abbrev pub NamesStep : Step → Type 0
@@ -76,9 +83,9 @@ module _ (few : Few) where
   NamesStep (Ticks s) = NamesOthers s
   NamesStep (Asks r s) = NamesOthers s
 
-  -- what is read at a place that is not the running execution's own does not name that
+  -- what is read at a place that is not the running execution's own does not name that, where it is no main of a task
   abbrev pub ReadsOther : Value → State → Type 0
-  ReadsOther v s = (Belongs few s.env.exec v → ⊥) → Names (Other s.env.exec) (loaded v s.env)
+  ReadsOther v s = (Belongs few s.env.exec v → ⊥) → OfCoroutine s.env.exec → Names (Other s.env.exec) (loaded v s.env)
 
   -- so it is where a step loads what is at a place, and where it reads a field of the object at hand
   abbrev pub ReadsAt : List Todo → State → Type 0
@@ -91,13 +98,13 @@ module _ (few : Few) where
 
   module _ (source : Source) where
     -- what is bound, by a binding, to a new mutex object and to a new execution, is a place of the running execution's own; so is the coroutine of an
-    -- execution that a step forgets; and a new execution is another one
+    -- execution that a step forgets; and a new execution is another one, and no main of a task
     abbrev pub BindsAt : List Todo → State → Type 0
     BindsAt (BindNow ∷ todo) s = Belongs few s.env.exec (top (below s.run.operands))
     BindsAt (BindMadeNow c r ∷ todo) s =
         Belongs few s.env.exec (top (drop (params source r) (below s.run.operands)))
     BindsAt (SetUpNow r ∷ todo) s = Belongs few s.env.exec s.run.this ×
-        ((x : Routine) → slice_get source.routines r ≡ Some x → Other s.env.exec (new_exec (home_at s.run.this s.env) s.env))
+        ((x : Routine) → slice_get source.routines r ≡ Some x → MayName s.env.exec (new_exec (home_at s.run.this s.env) s.env))
     BindsAt (ForgetNow ∷ todo) s = Belongs few s.env.exec s.run.this
     BindsAt todo s = Unit {0}
 

@@ -25,9 +25,10 @@ pub fn law_away()
     ensures { LawAway }
 {}
 
-/// No execution has its own name at hand, and none stands in what is its own: a task begins so, and each
-/// quiet step keeps it, of whatever source, that reads no such name in what is another's and binds what is
-/// its own alone; so does each answer. And no such step forgets the running execution.
+/// No execution has its own name at hand, and none stands in what is its own; nor does any value name the
+/// main of a task. A task begins so, and each quiet step keeps it, of whatever source, that binds what is
+/// its own alone and, in the execution of a coroutine, reads no such name in what is another's; so does
+/// each answer. And no such step forgets the running execution.
 pub fn law_names()
     ensures { LawNames }
 {}

@@ -1,8 +1,8 @@
 // The ops of coroutines, but for those that switch.
 
-ghost use Rattle.std.specs.Prelude.{◌≡◌, ℕ, true};
+ghost use Rattle.std.specs.Prelude.{◌≡◌, ℕ, true, slice_get};
 ghost use Rattle.uc_step.specs.Effects.{ended, Quiet};
-ghost use Rattle.uc_step.specs.OpEffects.{at_op, Does, DoesAlone};
+ghost use Rattle.uc_step.specs.OpEffects.{at_op, lives_below, Does, DoesAlone};
 
 use crate::effect::{QuietResult, Stop, put_end, put_fault};
 use crate::jumps::unwind;
@@ -37,8 +37,9 @@ pub(crate) fn alive(
 
 // Whether the coroutine below the arguments of a routine is live.
 pub(crate) fn lives(code: &Code, number: u32, work: &Work) -> bool
-    ensures { result ≡ true → (line at : ℕ) →
+    ensures live { result ≡ true → (line at : ℕ) →
         Does code.now line (Op.Alive number) (at_op at work.now) Quiet (at_op at work.now) }
+    ensures tells { result ≡ lives_below (slice_get code.now.routines number) work.now }
 {
     match code.routine(number) {
         None => false,

@@ -1,7 +1,7 @@
 use Rattle.std.proofs.Common.{◌≡◌, ◌<◌, ◌^◌, [], None, Some, true, false, refl, sym, ap, subst, ◌∙◌, to_z, of_z, w64, rules}
 use Rattle.uc_code.specs.Layout.{laid_of, chain}
 use Rattle.uc_frames.specs.UnwindingOutcomes.{event_by}
-use Rattle.uc_frames.specs.Machine.{Activation}
+use Rattle.uc_frames.specs.Machine.{Machine, Activation}
 use Rattle.uc_frames.specs.Searches.{catcher_in}
 use Rattle.uc_frames.specs.UnwindingStands.{Unwinds}
 use Rattle.uc_coroutine.specs.UnwindingSteps.{IsOwn, UnwoundTo}
@@ -9,7 +9,9 @@ use Rattle.uc_coroutine.specs.Unwinding.{Made, step_of}
 use Rattle.uc_except.specs.declared.found.Found.TheVariants.{Handler}
 use Rattle.uc_except.specs.Handling.{handler_begun}
 use Rattle.uc_except.proofs.Handled.{begun_as}
-use Rattle.uc_ride.specs.UnwindingFalls.{row_of, how_unwound, left_in}
+use Rattle.uc_step.specs.Effects as effect
+use Rattle.uc_step.specs.WeightFalls.{FallsBelow}
+use Rattle.uc_ride.specs.UnwindingFalls.{row_of, how_unwound, left_in, StepFalls}
 use Rattle.uc_ride.proofs.Leading.{follow_before, reason_as, stays}
 use Rattle.uc_ride.proofs.Lowering.{entered_below, caught_falls}
 use Rattle.uc_ride.proofs.Bare.{bare_leads}
@@ -21,7 +23,7 @@ pub returns-then-not-is_covered-clause-source : goal.returns-then-not-is_covered
 returns-then-not-is_covered-clause-source c =
     let code = c.args.code.now in
     let m = c.args.work.now in
-    let bare = subst (λ n. chain code.rows n ≡ []) c.next.ensures (c.is_covered.ensures c.if-not-is_covered.true) in
+    let bare = subst (λ n. chain code.rows n ≡ []) c.next.ensures (c.is_covered.ensures.none c.if-not-is_covered.true) in
     λ source s low h. let l = bare_leads source code m s h bare in follow_before source (laid_of code) (how_unwound c.in_ok-left.left c.leave_on.new.asked) c.leave_on.new.work s l.after l.by (c.in_ok-left.ensures.source source l.after l.stands)
 
 -- rows cover it
@@ -45,6 +47,16 @@ returns-in_ok-after-in-None-clause-source c =
     let u = subst (λ b. UnwoundTo source (laid_of code) b c.row_in.result n s) c.if-unwind.false (c.unwind.ensures.source source s h own) in
     let l = subst (λ r. UnwoundTo source (laid_of code) false r n s) none u in
     follow_before source (laid_of code) (how_unwound c.in_ok-after-in-None.after c.leave_on-in-None.new.asked) c.leave_on-in-None.new.work s l.after l.by (c.in_ok-after-in-None.ensures.source source l.after l.stands)
+
+pub returns-in_ok-after-in-None-clause-falls : goal.returns-in_ok-after-in-None-clause-falls
+returns-in_ok-after-in-None-clause-falls c =
+    let code = c.args.code.now in
+    let m = c.args.work.now in
+    let n = c.unwind.new.work in
+    let same : n ≡ m = stays (step_of code.rows c.level-frame.result c.row_in.result m) m n c.unwind.result c.if-unwind.false c.unwind.ensures.step in
+    λ w u.
+    let on = c.in_ok-after-in-None.ensures.falls w (subst (λ x. FallsBelow code w effect.Unwind x) (sym same) u) in
+    subst (λ x. StepFalls code w (left_in code x) c.in_ok-after-in-None.after c.leave_on-in-None.new.asked c.leave_on-in-None.new.work) same on
 
 pub returns-in_ok-handle-in-Some-clause-source : goal.returns-in_ok-handle-in-Some-clause-source
 returns-in_ok-handle-in-Some-clause-source c =

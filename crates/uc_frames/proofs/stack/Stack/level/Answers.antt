@@ -7,6 +7,6 @@ use Rattle.uc_frames.proofs.stack.Stack.level.Goals as goal
 pub returns : goal.returns
 returns c =
     let s = c.self.inside in
-    let cs : List Row = take s.waiting s.callers.items in
-    let q : length cs ≡ s.waiting = length-take-le s.waiting s.callers.items c.self.invariant.2 in
+    let cs : List Row = take (length s.block.waiting) s.callers.items in
+    let q : length cs ≡ length s.block.waiting = length-take-le (length s.block.waiting) s.callers.items c.self.invariant.1 in
     rw (← c.self.view_is) (omega (arith, q, completed_count (reverse cs) s.block.waiting, length-reverse cs))

@@ -15,6 +15,6 @@ invariant_of-self c =
         tasks_answers = old.tasks_answers;
         short = old.short;
         narrow = old.narrow;
-        last = rw (c.push_reserved.ensures.items, c.truncate.ensures.items) (tellings.ends_so (take c.args.count c.self.inside.journal.items) c.args.e c.requires.ends);
+        ends = rw (c.push_reserved.ensures.items, c.truncate.ensures.items) (tellings.ends_so (take c.args.count c.self.inside.journal.items) c.args.e c.requires.ends);
       },
     )

@@ -17,6 +17,6 @@ invariant_of-result c =
         tasks_answers = rw told (length-set (replicate c.args.tasks None) 0 (Some answer.Go) ∙ length-replicate c.args.tasks None);
         short = c.requires.sites;
         narrow = search rules;
-        last = rw (c.push_reserved.ensures.items, c.in_ok-journal.ensures.items, c.begin_entry.ensures) (tellings.ends_begin c.args.opts.now);
+        ends = rw (c.push_reserved.ensures.items, c.in_ok-journal.ensures.items, c.begin_entry.ensures) (tellings.ends_begin c.args.opts.now);
       },
     )

@@ -52,6 +52,6 @@ invariant_of-self c =
         tasks_answers = rw c.note_answers.ensures (tellings.answers_length c.self.inside.sites.items c.args.e c.self.inside.answers ∙ old.tasks_answers);
         short = old.short;
         narrow = old.narrow;
-        last = rw c.push_reserved.ensures.items (tellings.ends_last c.self.inside.journal.items c.args.e (ap (λ (v : Told). is_over v.journal) c.self.view_is ∙ c.requires.going));
+        ends = rw c.push_reserved.ensures.items (c.is_ending-self-inside.ensures ∙ tellings.ends_push c.self.inside.journal.items c.args.e (ap (λ (v : Told). is_over v.journal) c.self.view_is ∙ c.requires.going));
       },
     )
