@@ -25,7 +25,7 @@ module _ (t : Table) (few : Few) (source : Source) (places : (n : Exec) (w : Val
   module _ (j : Journal) (w : World) (u : ℕ) where
     clear : (s : State) (o : ℕ) → NowhereBefore t few j w u s o → EnvBy (ClearEx t few o) s.env
     clear s o h =
-        subst (λ (v : State). EnvBy (ClearEx t few o) v.env) same (law_nowhere.rests t few j (world_at w u s) h.rank o h.nowhere u (subst (λ (v : State). EnvBy (SparesEx t few o) v.env) (sym same) h.spares))
+        subst (λ (v : State). EnvBy (ClearEx t few o) v.env) same (law_nowhere.rests t few j (world_at w u s) o h.nowhere u (subst (λ (v : State). EnvBy (SparesEx t few o) v.env) (sym same) h.spares))
       where
         same : (if u == u then s else w.tasks u) ≡ s
         same = ap (λ b. if b then s else w.tasks u) (eq-eqb u u refl)

@@ -26,8 +26,7 @@ world_at w u s = record {
 module _ (t : Table) (few : Few) (j : Journal) (w : World) (u : ℕ) (s : State) where
   -- an object is nowhere in that world, and who does not run in the task neither builds nor destroys it
   pub record NowhereBefore (o : ℕ) : Type 0 where
-    pub rank : Exec → ℕ
-    pub nowhere : IsNowhere t few j (world_at w u s) rank o
+    pub nowhere : IsNowhere t few j (world_at w u s) o
     pub spares : EnvBy (SparesEx t few o) s.env
 
   -- so it is of what goes, or is given up; of what else is let go of, or is entered again to be destroyed, those of whom it is asked are clear

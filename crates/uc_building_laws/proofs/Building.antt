@@ -4,6 +4,7 @@ use Rattle.std.specs.Prelude.{slice_index_or}
 use Rattle.uc_tree.specs.Source as src
 use Rattle.uc_tree.specs.Source.{Stmt, Stmts, CleanUp}
 use Rattle.uc_machine.specs.declared.exec.Exec.{Exec}
+use Rattle.uc_machine.specs.declared.exec.Owner.{Owner}
 use Rattle.uc_machine.specs.declared.exec.Owner.TheVariants.{Frame}
 use Rattle.uc_machine.specs.Pieces as piece
 use Rattle.uc_machine.specs.Pieces.{FieldAt, Value, Place, Todo, Active, address, further, nought}
@@ -40,6 +41,10 @@ part_of t w c (element {v} {m} {b} h j l) = by (part_of t w c h)
     by : IsPart t w c v (Row m b) → IsPart t w c (further (piece.At (element_shape t b) j) v) b
     by (whole e q) = absurd (cc)
     by (of k g x) = of k g (element x j l)
+
+-- what holds what is known if something is bound in it does
+pub where_bound : (t : Table) (few : Few) (n : Exec) (K : Value → Ty → Type 0) (o : Owner) (vs : List Value) (w : Value) (a : Ty) → ((IsUnbound t a → ⊥) → Holds t few n K o vs w a) → Holds t few n K o vs w a
+where_bound t few n K o vs w a h p b i binds = h (λ none. none w (Place o p) b i binds) p b i binds
 
 -- lists
 

@@ -1,5 +1,5 @@
 -- Each step keeps what constructors have bound, by the kinds of frames; and answers do.
-use Rattle.std.proofs.Common.{◌≡◌, ℕ, suc, ◌⊎◌, inl, inr, Bool, true, List, [], ◌∷◌, length, Option, Some, None, refl, sym, ap, ◌∙◌, subst, arith}
+use Rattle.std.proofs.Common.{◌≡◌, ℕ, suc, ◌⊎◌, inl, inr, Bool, true, List, [], ◌∷◌, length, drop, Option, Some, None, refl, sym, ap, ◌∙◌, subst, arith}
 use Rattle.uc_tree.specs.Programs.{Program}
 use Rattle.uc_tree.specs.Source as src
 use Rattle.uc_tree.specs.Source.{Source, Routine, Stmts, CleanUp}
@@ -12,10 +12,10 @@ use Rattle.uc_machine.specs.declared.exec.UnwindReason.TheVariants as reason
 use Rattle.uc_machine.specs.Executions.{others, frame_changed, value_changed}
 use Rattle.uc_machine.specs.Raising as raising
 use Rattle.uc_machine.specs.Switches as sw
-use Rattle.uc_machine.specs.Switches.{Moved, To, Stops, stopped, unwound_there}
+use Rattle.uc_machine.specs.Switches.{Moved, To, Stops, stopped, new_exec, unwound_there}
 use Rattle.uc_machine.specs.Pieces as piece
-use Rattle.uc_machine.specs.Pieces.{FieldAt, Value, Todo, Sort, Active, State, Step, Goes, Ticks, Asks, at, further, stored, nought}
-use Rattle.uc_machine.specs.Quiet.{act_todo, fresh, quiet}
+use Rattle.uc_machine.specs.Pieces.{FieldAt, Value, Number, Running, Todo, Sort, Active, State, Step, Goes, Ticks, Asks, top, at, further, stored, nought}
+use Rattle.uc_machine.specs.Quiet.{act_todo, fresh, home_at, quiet}
 use Rattle.uc_state_laws.specs.Layout.{Sized}
 use Rattle.uc_state_laws.specs.RoomStacks.{StackState}
 use Rattle.uc_typing.specs.Typing.{Ty, Obj, Sig, Table, CleansAt}
@@ -24,7 +24,7 @@ use Rattle.uc_place_laws.specs.CalledStates.{StepJoins}
 use Rattle.uc_life_laws.specs.Things.{Few, IsField, Known, Holds}
 use Rattle.uc_life_laws.specs.LifeStates.{frame_at, Outwards, LifeStateBy, StepIs, OpensBy}
 use Rattle.uc_life_laws.specs.LifeRuns.{IsLaidOut}
-use Rattle.uc_life_laws.specs.Kinds.{IsKept, Turned, stays, begins, goes_back, Returns, GoesPast, GoesOn, Parks, FollowsOn, Claimed}
+use Rattle.uc_life_laws.specs.Kinds.{Stays, IsKept, Turned, stays, begins, goes_back, Returns, GoesPast, GoesOn, Parks, FollowsOn, Claimed}
 use Rattle.uc_life_laws.specs.Lives.{OutwardsOrMade, Lives}
 use Rattle.uc_life_laws.specs.Knowing.{AskedBy, StepBy, ClaimsEnv, Finds}
 use Rattle.uc_life_laws.proofs.Acting.{law_claims}
@@ -33,9 +33,11 @@ use Rattle.uc_life_laws.proofs.GoingOn.{goes_or}
 use Rattle.uc_life_laws.proofs.KindsLemmas.{asked_more}
 use Rattle.uc_life_laws.proofs.Knowns.{known_more, frames_length}
 use Rattle.uc_life_laws.proofs.Clearing as clearing
+use Rattle.uc_life_laws.proofs.LifeSteps.{life_kept}
 use Rattle.uc_life_laws.proofs.LifeWalk.{walk}
 use Rattle.uc_life_laws.proofs.LivesLemmas.{below, lives_kept, lives_parks, lives_read, lives_turned, nothing_kept}
 use Rattle.uc_life_laws.proofs.Parked.{Ex, each_env}
+use Rattle.uc_life_laws.proofs.Parking.{all_stays}
 use Rattle.uc_building_laws.specs.BuildingStates.{variable, of_run, of_wait, BuildsEx, BuildsBy, BuildsAsk, BuildsStep, Stands, Left, Built, BuiltState}
 use Rattle.uc_building_laws.specs.BuildingLaws.{Fair, LawKept}
 use Rattle.uc_building_laws.proofs.Building as building
@@ -115,9 +117,16 @@ module _ (t : Table) (heads : ℕ → ℕ → Bool) (few : Few) where
     callers = r.callers;
   }
 
+  built_written : (n : Exec) (kinds : List Sig) (x : Ex) (d k : ℕ) (v : Value) → J n kinds x → J n kinds (record x { frames = frame_changed d (value_changed k (stored v) nought) x.frames })
+  built_written n gs x d k v h = ((life_kept t few (OutwardsOrMade gs)).written n x d k v h.0, ex_kept n gs x (frame_changed d (value_changed k (stored v) nought) x.frames) (λ e. frame_stored x.frames d k e v) h.1)
+
+  -- whatever is written
+  built_stays : (n : Exec) (w v : Value) → Stays J n w v
+  built_stays = all_stays J (λ n gs x d k v h. built_written n gs x d k v h)
+
   pub built_kept : IsKept J
   built_kept = record {
-    written = λ n gs x d k v h. ((lives_kept t few).written n gs x d k v h.0, ex_kept n gs x (frame_changed d (value_changed k (stored v) nought) x.frames) (λ e. frame_stored x.frames d k e v) h.1);
+    written = λ n gs x d k z h. built_written n gs x d k (Number z) h;
     linked = λ n gs x l h. ((lives_kept t few).linked n gs x l h.0, record { apart = h.1.apart; run = h.1.run; callers = h.1.callers });
     unwound = λ n gs x why other h. ((lives_kept t few).unwound n gs x why other h.0, ex_unwound n gs x why other h.1);
   }
@@ -154,7 +163,9 @@ module _ (t : Table) (heads : ℕ → ℕ → Bool) (few : Few) where
         by (piece.TakeDownNow ∷ todo) e h = (h, behind piece.TakeDownNow todo todo e (λ ps c i w K y. (building.now t heads ps c i w K todo s.run.operands y.0, y.1)))
         by (piece.ResumeNow ∷ todo) e h = (h, behind piece.ResumeNow todo (piece.Land ∷ todo) e (λ ps c i w K y. y))
         by (piece.SuspendNow ∷ todo) e h = (h, behind piece.SuspendNow todo (piece.Land ∷ todo) e (λ ps c i w K y. y))
-        by (piece.SetUpNow r ∷ todo) e h = λ q is. (h q is, fresh_built _ (t.routine r ∷ []) q s.run.this)
+        by (piece.SetUpNow r ∷ todo) e h = λ q is. (((h q is).0, fresh_built _ (t.routine r ∷ []) q s.run.this), built_stays s.env.exec s.run.this (Running (new_exec (home_at s.run.this s.env) s.env)))
+        by (piece.BindNow ∷ todo) e h = built_stays s.env.exec (top (piece.below s.run.operands)) (top s.run.operands)
+        by (piece.BindMadeNow c r ∷ todo) e h = λ q is. built_stays s.env.exec (top (drop q.params (piece.below s.run.operands))) (top s.run.operands)
         by (p ∷ todo) e h = tt
 
     -- the kinds that it then has tell the same

@@ -38,7 +38,7 @@ use Rattle.uc_state_laws.specs.Opens.{RideMeets, RunMeets, LeadsMeet}
 use Rattle.uc_state_laws.proofs.StackWorlds as stacked
 use Rattle.uc_state_laws.proofs.Unreferring.{law_accepted}
 use Rattle.uc_state_laws.proofs.ValueWorlds as value_runs
-use Rattle.uc_typing.specs.Typing.{Ty, Obj, Sig, Table, CleansAt}
+use Rattle.uc_typing.specs.Typing.{Ty, Obj, Row, Sig, Table, CleansAt}
 use Rattle.uc_typing.specs.States.{Sound, IsTask}
 use Rattle.uc_sound.specs.SoundFormed.{IsFormed}
 use Rattle.uc_sound.specs.Sounds.{of_program}
@@ -75,7 +75,7 @@ use Rattle.uc_building_laws.specs.Building.{heads_of}
 use Rattle.uc_building_laws.specs.BuildingStates.{variable, of_wait, BuildsBy, Stands, Left, Built, BuiltState}
 use Rattle.uc_building_laws.specs.BuiltLasting.{FindsBuilt}
 use Rattle.uc_building_laws.specs.BuildingRuns.{OthersHold, MeetsBuilding, LawBuilt}
-use Rattle.uc_building_laws.proofs.Building.{whole_built}
+use Rattle.uc_building_laws.proofs.Building.{whole_built, where_bound}
 use Rattle.uc_building_laws.proofs.Constructors.{fair}
 use Rattle.uc_building_laws.proofs.Kept.{rest_left, built_kept, fresh_built, law_kept}
 use Rattle.uc_building_laws.proofs.Walk.{law_steps}
@@ -211,12 +211,12 @@ module _ (p : Program) (formed : IsFormed p) (accepted : breaks_of p ≡ []) whe
   objects : (s : State) (x : B s) → OthersHold t (heads_of p) any x.0.sigs s → ObjectsOpen t x.0.sigs s
   objects s x h c rest todo e = record {
     object = λ k i d. whole_built t (heads_of p) any x.0.sigs s.env.exec s.env.frames s.run.frame (variable s.env.exec s.run.frame k) i (OutwardsOrMade x.0.sigs (Outwards t any s.env.exec s.run.frame s.run.this s.callers c todo) s.env.exec s.run.frame s.run.this s.callers) (λ m f. each k i d m f (heads_of p i m) refl);
-    array = λ k n i d. h.arrays c rest todo e k n i d;
+    array = λ k n i d. where_bound t any s.env.exec (OutwardsOrMade x.0.sigs (Outwards t any s.env.exec s.run.frame s.run.this s.callers c todo) s.env.exec s.run.frame s.run.this s.callers) (Frame s.env.exec s.run.frame) (frame_at s.run.frame s.env.frames) (variable s.env.exec s.run.frame k) (Row n (Obj i)) (h.arrays c rest todo e k n i d);
   }
     where
       each : (k i : ℕ) → CleansAt t (Obj i) (src.Variable k) c → (m : ℕ) → IsField t i m → (b : Bool) → heads_of p i m ≡ b → Holds t any s.env.exec (OutwardsOrMade x.0.sigs (Outwards t any s.env.exec s.run.frame s.run.this s.callers c todo) s.env.exec s.run.frame s.run.this s.callers) (Frame s.env.exec s.run.frame) (frame_at s.run.frame s.env.frames) (further (FieldAt (t.shape i) m) (variable s.env.exec s.run.frame k)) (t.fields i m)
       each k i d m f true q = law_kept.opens t (heads_of p) any s x c rest todo e k i d m f q
-      each k i d m f false q = h.fields c rest todo e k i d m f q
+      each k i d m f false q = where_bound t any s.env.exec (OutwardsOrMade x.0.sigs (Outwards t any s.env.exec s.run.frame s.run.this s.callers c todo) s.env.exec s.run.frame s.run.this s.callers) (Frame s.env.exec s.run.frame) (frame_at s.run.frame s.env.frames) (further (FieldAt (t.shape i) m) (variable s.env.exec s.run.frame k)) (t.fields i m) (h.fields c rest todo e k i d m f q)
 
   -- so do all that are of what scopes open
   opens : (s : State) (x : B s) → StackState Z s → there.Opens source s → GoodBy Any s → OthersHold t (heads_of p) any x.0.sigs s → OpensBy t any (OutwardsOrMade x.0.sigs) s

@@ -39,13 +39,14 @@ BindsAnew t heads s (BindNow ∷ todo) = (c i g k : ℕ) → heads c i ≡ true 
 BindsAnew t heads s todo = Unit {0}
 
 -- where the scope of an object opens, the fields of which `heads` does not tell hold what is known by these kinds; where that of an array of objects
--- opens, they do
+-- opens, they do. Nothing is asked of fields and of arrays in which nothing is bound
 pub record OthersHold (t : Table) (heads : ℕ → ℕ → Bool) (few : Few) (kinds : List Sig) (s : State) : Type 0 where
   pub fields : (c : CleanUp) (rest : Stmts) (todo : List Todo) → s.run.control ≡ Rest (Scoped c rest) ∷ todo →
       (k i : ℕ) → CleansAt t (Obj i) (Variable k) c → (m : ℕ) → IsField t i m → heads i m ≡ false →
+      (IsUnbound t (t.fields i m) → ⊥) →
       Holds t few s.env.exec (OutwardsOrMade kinds (Outwards t few s.env.exec s.run.frame s.run.this s.callers c todo) s.env.exec s.run.frame s.run.this s.callers) (Frame s.env.exec s.run.frame) (frame_at s.run.frame s.env.frames) (further (FieldAt (t.shape i) m) (variable s.env.exec s.run.frame k)) (t.fields i m)
   pub arrays : (c : CleanUp) (rest : Stmts) (todo : List Todo) → s.run.control ≡ Rest (Scoped c rest) ∷ todo →
-      (k m i : ℕ) → CleansAt t (Row m (Obj i)) (Variable k) c →
+      (k m i : ℕ) → CleansAt t (Row m (Obj i)) (Variable k) c → (IsUnbound t (Row m (Obj i)) → ⊥) →
       Holds t few s.env.exec (OutwardsOrMade kinds (Outwards t few s.env.exec s.run.frame s.run.this s.callers c todo) s.env.exec s.run.frame s.run.this s.callers) (Frame s.env.exec s.run.frame) (frame_at s.run.frame s.env.frames) (variable s.env.exec s.run.frame k) (Row m (Obj i))
 
 -- a step finds what it is to find: what it binds is there behind it; nothing is bound yet where such a field is to be bound; and by some kinds by which objects

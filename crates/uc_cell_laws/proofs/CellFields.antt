@@ -20,19 +20,26 @@ use Rattle.uc_life_laws.proofs.Parked as parked
 use Rattle.uc_life_laws.proofs.Parked.{Ex}
 use Rattle.uc_cell_laws.specs.Sites.{Telling}
 use Rattle.uc_cell_laws.specs.CellTodos.{IsOwnPart}
-use Rattle.uc_cell_laws.specs.CellStates.{IsOwnCell, IsOwnField, IsFree, FieldCells, HandCells, AllCells, CellEx, FieldsOf, CellEnv}
-use Rattle.uc_cell_laws.proofs.CellFrames.{cell_tested, zeros_hold, number_free, free_stored, cells_at}
+use Rattle.uc_cell_laws.specs.CellStates.{IsOwnCell, IsOwnField, IsOwnCoroutine, IsCoroutineIn, first_cell, IsFree, IsAllowed, FieldCells, HandCells, AllCells, CellEx, FieldsOf, CellEnv}
+use Rattle.uc_cell_laws.proofs.CellFrames.{cell_tested, zeros_hold, number_free, free_stored, number_allowed, allowed_stored, cells_at}
 use Rattle.uc_cell_laws.proofs.CellPlaces.{MayWrite, Lies, inside_place, inside_within, object_place}
 
 module _ (tg : Telling) where
   -- what is written, and what a new object holds
 
-  pub fields_written : (o cell : ℕ) (w : Value) (vs : List Value) → ((x : List Link) (c : ℕ) → IsOwnField tg o x c → address x < LAST_ADDRESS → address x ≡ cell → IsFree tg (Place (Fields o) x) c w) → FieldCells tg o vs → FieldCells tg o (value_changed cell (stored w) nought vs)
-  fields_written o cell w vs f h = λ x c i l.
-      cell_tested (IsFree tg (Place (Fields o) x) c) (stored w) vs (address x) cell (λ e b. free_stored tg (Place (Fields o) x) c w (slice_index_or vs (address x) nought) (f x c i l e) b) (h x c i l)
+  pub fields_written : (o cell : ℕ) (w : Value) (vs : List Value) → ((x : List Link) (c : ℕ) → IsOwnField tg o x c → address x < LAST_ADDRESS → address x ≡ cell → IsFree tg (Place (Fields o) x) c w) → ((v : Value) (c : ℕ) → IsCoroutineIn tg o v c → first_cell v < LAST_ADDRESS → first_cell v ≡ cell → IsAllowed tg (Fields o) w) → FieldCells tg o vs → FieldCells tg o (value_changed cell (stored w) nought vs)
+  fields_written o cell w vs f g h = (
+    λ x c i l.
+        cell_tested (IsFree tg (Place (Fields o) x) c) (stored w) vs (address x) cell (λ e b. free_stored tg (Place (Fields o) x) c w (slice_index_or vs (address x) nought) (f x c i l e) b) (h.0 x c i l),
+    λ v c i l.
+        cell_tested (IsAllowed tg (Fields o)) (stored w) vs (first_cell v) cell (λ e b. allowed_stored tg (Fields o) w (slice_index_or vs (first_cell v) nought) (g v c i l e) b) (h.1 v c i l),
+  )
 
   pub fields_zero : (o k : ℕ) → FieldCells tg o (replicate k nought)
-  fields_zero o k = λ x c i l. zeros_hold (IsFree tg (Place (Fields o) x) c) (number_free tg (Place (Fields o) x) c _) k (address x)
+  fields_zero o k = (
+    λ x c i l. zeros_hold (IsFree tg (Place (Fields o) x) c) (number_free tg (Place (Fields o) x) c _) k (address x),
+    λ v c i l. zeros_hold (IsAllowed tg (Fields o)) (number_allowed tg (Fields o) _) k (first_cell v),
+  )
 
   -- in hand
 
@@ -81,15 +88,23 @@ module _ (tg : Telling) where
   -- what is read
 
   values_free : (o : ℕ) (m : Option Members) → FieldsOf tg o m → FieldCells tg o (values_in m)
-  values_free o None h = λ x c i l. number_free tg (Place (Fields o) x) c _
+  values_free o None h = (λ x c i l. number_free tg (Place (Fields o) x) c _, λ v c i l. number_allowed tg (Fields o) _)
   values_free o (Some m) h = h
 
   pub field_read : (e : Env) → CellEnv tg e → (o : ℕ) (x : List Link) (c : ℕ) → IsOwnField tg o x c → address x < LAST_ADDRESS → IsFree tg (Place (Fields o) x) c (loaded (Place (Fields o) x) e)
-  field_read e s o x c i l = values_free o (find o e.hand) (found_fields o e.hand s.fields) x c i l
+  field_read e s o x c i l = (values_free o (find o e.hand) (found_fields o e.hand s.fields)).0 x c i l
+
+  -- what the first cell of an own coroutine holds
+  pub first_read : (e : Env) → CellEnv tg e → (o : ℕ) (v : Value) (c : ℕ) → IsCoroutineIn tg o v c → first_cell v < LAST_ADDRESS → IsAllowed tg (Fields o) (slice_index_or (values_in (find o e.hand)) (first_cell v) nought)
+  first_read e s o v c i l = (values_free o (find o e.hand) (found_fields o e.hand s.fields)).1 v c i l
+
+  pub coroutine_read : (e : Env) (rs : List ℕ) → AllCells tg e.exec rs e.frames → (d r : ℕ) → at_depth rs d ≡ Some r → (x : List Link) (c : ℕ) → IsOwnCoroutine tg r (Frame e.exec d) (Place (Frame e.exec d) x) c → address x < LAST_ADDRESS → IsAllowed tg (Frame e.exec d) (loaded (Place (Frame e.exec d) x) e)
+  coroutine_read e rs h d r at x c i l =
+      subst (λ b. IsAllowed tg (Frame e.exec d) (slice_index_or (list_in (at_depth (if b then e.frames else frames_in (parked_at e.exec e)) d)) (address x) nought)) (sym (exec_same e.exec)) ((cells_at tg e.exec d r rs e.frames at h).1 (Place (Frame e.exec d) x) c i l)
 
   pub cell_read : (e : Env) (rs : List ℕ) → AllCells tg e.exec rs e.frames → (d r : ℕ) → at_depth rs d ≡ Some r → (x : List Link) (c : ℕ) → IsOwnCell tg r (Frame e.exec d) x c → address x < LAST_ADDRESS → IsFree tg (Place (Frame e.exec d) x) c (loaded (Place (Frame e.exec d) x) e)
   cell_read e rs h d r at x c i l =
-      subst (λ b. IsFree tg (Place (Frame e.exec d) x) c (slice_index_or (list_in (at_depth (if b then e.frames else frames_in (parked_at e.exec e)) d)) (address x) nought)) (sym (exec_same e.exec)) (cells_at tg e.exec d r rs e.frames at h x c i l)
+      subst (λ b. IsFree tg (Place (Frame e.exec d) x) c (slice_index_or (list_in (at_depth (if b then e.frames else frames_in (parked_at e.exec e)) d)) (address x) nought)) (sym (exec_same e.exec)) ((cells_at tg e.exec d r rs e.frames at h).0 x c i l)
 
   -- so is what is loaded from an own part
   pub part_read : (may : MayWrite tg) (e : Env) (rs : List ℕ) (level : ℕ) → AllCells tg e.exec rs e.frames → CellEnv tg e → (v : Value) (c : ℕ) → tg.table.mutex c ≡ true → Lies tg e.exec rs level v (Cell (Obj c)) → IsFree tg v c (loaded v e)

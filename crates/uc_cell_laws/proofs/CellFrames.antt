@@ -4,6 +4,7 @@ use Rattle.std.specs.Prelude.{slice_index_or, nat_eq, if◌then◌else◌}
 use Rattle.std.proofs.lemmas.Bool.{eqb-true, eq-eqb}
 use Rattle.uc_tree.specs.Source.{Routine}
 use Rattle.uc_machine.specs.declared.exec.Exec.{Exec}
+use Rattle.uc_machine.specs.declared.exec.Owner.{Owner}
 use Rattle.uc_machine.specs.declared.exec.Owner.TheVariants.{Frame}
 use Rattle.uc_machine.specs.Executions.{at_depth, set_depth, list_in, others, first_or, take_operands, frame_changed, value_changed, values_cleared}
 use Rattle.uc_machine.specs.Pieces.{Link, Value, Number, Place, Running, Object, Nothing, Active, stored, nought, address, LAST_ADDRESS}
@@ -11,7 +12,7 @@ use Rattle.uc_machine.specs.Quiet.{call_frame}
 use Rattle.uc_life_laws.proofs.HomedCells.{set_length}
 use Rattle.uc_cell_laws.specs.Sites.{Telling}
 use Rattle.uc_cell_laws.specs.CellTodos.{Mark, Any}
-use Rattle.uc_cell_laws.specs.CellStates.{IsOwnCell, IsFree, Cells, AllCells, IsRooted, IsOf, AllWait}
+use Rattle.uc_cell_laws.specs.CellStates.{IsOwnCell, IsOwnCoroutine, first_cell, IsFree, IsAllowed, Cells, AllCells, IsRooted, IsOf, AllWait}
 
 -- of a cell that is written, and of all others
 pub cell_tested : (P : Value → Type 0) (f : Value → Value) (vs : List Value) (j k : ℕ) → (j ≡ k → P (slice_index_or vs j nought) → P (f (slice_index_or vs j nought))) → P (slice_index_or vs j nought) → P (slice_index_or (value_changed k f nought vs) j nought)
@@ -96,6 +97,16 @@ module _ (tg : Telling) where
   free_stored q c w (Object o) a b = b
   free_stored q c w Nothing a b = a
 
+  pub number_allowed : (o : Owner) (z : ℤ) → IsAllowed tg o (Number z)
+  number_allowed o z = λ m e. absurd (cc)
+
+  pub allowed_stored : (o : Owner) (w x : Value) → IsAllowed tg o w → IsAllowed tg o x → IsAllowed tg o (stored w x)
+  allowed_stored o w (Number z) a b = a
+  allowed_stored o w (Place q p) a b = b
+  allowed_stored o w (Running e) a b = b
+  allowed_stored o w (Object q) a b = b
+  allowed_stored o w Nothing a b = a
+
 module _ (tg : Telling) (n : Exec) where
   pub rooted_newer : (rs : List ℕ) (r level wide q : ℕ) (v : Value) → level ≤ wide → IsRooted tg n rs level q v → IsRooted tg n (r ∷ rs) wide q v
   rooted_newer rs r level wide q v l (inl h) = inl h
@@ -142,25 +153,43 @@ module _ (tg : Telling) (n : Exec) where
 
   -- cells
 
-  pub cells_written : (r d cell : ℕ) (w : Value) (vs : List Value) → ((x : List Link) (c : ℕ) → IsOwnCell tg r (Frame n d) x c → address x < LAST_ADDRESS → address x ≡ cell → IsFree tg (Place (Frame n d) x) c w) → Cells tg n r d vs → Cells tg n r d (value_changed cell (stored w) nought vs)
-  cells_written r d cell w vs f h = λ x c o l.
-      cell_tested (IsFree tg (Place (Frame n d) x) c) (stored w) vs (address x) cell (λ e b. free_stored tg (Place (Frame n d) x) c w (slice_index_or vs (address x) nought) (f x c o l e) b) (h x c o l)
+  pub cells_written : (r d cell : ℕ) (w : Value) (vs : List Value) → ((x : List Link) (c : ℕ) → IsOwnCell tg r (Frame n d) x c → address x < LAST_ADDRESS → address x ≡ cell → IsFree tg (Place (Frame n d) x) c w) → ((v : Value) (c : ℕ) → IsOwnCoroutine tg r (Frame n d) v c → first_cell v < LAST_ADDRESS → first_cell v ≡ cell → IsAllowed tg (Frame n d) w) → Cells tg n r d vs → Cells tg n r d (value_changed cell (stored w) nought vs)
+  cells_written r d cell w vs f g h = (
+    λ x c o l.
+        cell_tested (IsFree tg (Place (Frame n d) x) c) (stored w) vs (address x) cell (λ e b. free_stored tg (Place (Frame n d) x) c w (slice_index_or vs (address x) nought) (f x c o l e) b) (h.0 x c o l),
+    λ v c o l.
+        cell_tested (IsAllowed tg (Frame n d)) (stored w) vs (first_cell v) cell (λ e b. allowed_stored tg (Frame n d) w (slice_index_or vs (first_cell v) nought) (g v c o l e) b) (h.1 v c o l),
+  )
 
   pub cells_anew : (r d k m : ℕ) (vs : List Value) → Cells tg n r d vs → Cells tg n r d (values_cleared k m nought vs)
-  cells_anew r d k m vs h = λ x c o l. cell_anew (IsFree tg (Place (Frame n d) x) c) (number_free tg (Place (Frame n d) x) c _) vs (address x) k m (h x c o l)
+  cells_anew r d k m vs h = (
+    λ x c o l. cell_anew (IsFree tg (Place (Frame n d) x) c) (number_free tg (Place (Frame n d) x) c _) vs (address x) k m (h.0 x c o l),
+    λ v c o l. cell_anew (IsAllowed tg (Frame n d)) (number_allowed tg (Frame n d) _) vs (first_cell v) k m (h.1 v c o l),
+  )
 
   pub cells_zero : (r d k : ℕ) → Cells tg n r d (replicate k nought)
-  cells_zero r d k = λ x c o l. zeros_hold (IsFree tg (Place (Frame n d) x) c) (number_free tg (Place (Frame n d) x) c _) k (address x)
+  cells_zero r d k = (
+    λ x c o l. zeros_hold (IsFree tg (Place (Frame n d) x) c) (number_free tg (Place (Frame n d) x) c _) k (address x),
+    λ v c o l. zeros_hold (IsAllowed tg (Frame n d)) (number_allowed tg (Frame n d) _) k (first_cell v),
+  )
 
   pub cells_none : (r d : ℕ) → Cells tg n r d []
-  cells_none r d = λ x c o l. number_free tg (Place (Frame n d) x) c _
+  cells_none r d = (λ x c o l. number_free tg (Place (Frame n d) x) c _, λ v c o l. number_allowed tg (Frame n d) _)
 
-  -- own cells of a routine lie behind its parameters
-  pub cells_called : (r d : ℕ) (q : Routine) (vs : List Value) → ((x : List Link) (c : ℕ) → IsOwnCell tg r (Frame n d) x c → address x < LAST_ADDRESS → q.params ≤ address x) → Cells tg n r d (call_frame q vs)
-  cells_called r d q vs f = λ x c o l.
-      let k = f x c o l in
-      let P : Value → Type 0 = IsFree tg (Place (Frame n d) x) c in
-      behind_operands P q.params 0 vs (replicate (q.cells - q.params) nought) (λ j m. zeros_hold P (number_free tg (Place (Frame n d) x) c _) (q.cells - q.params) j) (address x) (omega (arith, k))
+  -- own cells and own coroutines of a routine lie behind its parameters
+  abbrev pub LieBehind : ℕ → ℕ → Routine → Type 0
+  LieBehind r d q = ((x : List Link) (c : ℕ) → IsOwnCell tg r (Frame n d) x c → address x < LAST_ADDRESS → q.params ≤ address x) ×
+      ((v : Value) (c : ℕ) → IsOwnCoroutine tg r (Frame n d) v c → first_cell v < LAST_ADDRESS → q.params ≤ first_cell v)
+
+  called_free : (P : Value → Type 0) → P nought → (q : Routine) (vs : List Value) (k : ℕ) → q.params ≤ k → P (slice_index_or (call_frame q vs) k nought)
+  called_free P z q vs k l =
+      behind_operands P q.params 0 vs (replicate (q.cells - q.params) nought) (λ j m. zeros_hold P z (q.cells - q.params) j) k (omega (arith, l))
+
+  pub cells_called : (r d : ℕ) (q : Routine) (vs : List Value) → LieBehind r d q → Cells tg n r d (call_frame q vs)
+  cells_called r d q vs f = (
+    λ x c o l. called_free (IsFree tg (Place (Frame n d) x) c) (number_free tg (Place (Frame n d) x) c _) q vs (address x) (f.0 x c o l),
+    λ v c o l. called_free (IsAllowed tg (Frame n d)) (number_allowed tg (Frame n d) _) q vs (first_cell v) (f.1 v c o l),
+  )
 
   -- frames
 

@@ -17,13 +17,15 @@ use Rattle.uc_machine.specs.Switches as sw
 use Rattle.uc_machine.specs.Switches.{Moved, To, Stops}
 use Rattle.uc_machine.specs.Pieces.{Value, Number, Place, Running, Object, Nothing, Todo, State, Env, Members, address, stored, nought, written}
 use Rattle.uc_life_laws.specs.LifeStates.{SlotBy, ParkedBy}
+use Rattle.uc_life_laws.proofs.Cells.{tested}
 use Rattle.uc_life_laws.proofs.HomedCells.{either, set_length}
+use Rattle.uc_life_laws.proofs.Reading.{exec_is}
 use Rattle.uc_life_laws.proofs.Parked as parked
 use Rattle.uc_life_laws.proofs.Parked.{Ex, at_home}
 use Rattle.uc_cell_laws.specs.Sites.{Telling}
 use Rattle.uc_cell_laws.specs.CellTodos.{Mark}
-use Rattle.uc_cell_laws.specs.CellStates.{IsFree, HandCells, AllCells, IsOf, AllWait, CellEx, CellEnv, CellRest, CellState, OwnerFits, Fits}
-use Rattle.uc_cell_laws.proofs.CellFrames.{cells_written, all_changed, number_free}
+use Rattle.uc_cell_laws.specs.CellStates.{IsFree, IsAllowed, MayName, HandCells, AllCells, IsOf, AllWait, CellEx, CellEnv, CellRest, CellState, OwnerFits, Fits}
+use Rattle.uc_cell_laws.proofs.CellFrames.{cells_written, all_changed, number_free, number_allowed}
 use Rattle.uc_cell_laws.proofs.CellFields.{KeepsFields, fields_written, same_values, change_env, slot_env}
 
 module _ (tg : Telling) where
@@ -57,41 +59,48 @@ module _ (tg : Telling) where
 
   -- writes
 
-  abbrev KeepsFrames : (List (List Value) → List (List Value)) → Type 0
-  KeepsFrames f = (n : Exec) (rs : List ℕ) (fs : List (List Value)) → (length (f fs) ≡ length fs) × (AllCells tg n rs fs → AllCells tg n rs (f fs))
+  abbrev KeepsFrames : Exec → (List (List Value) → List (List Value)) → Type 0
+  KeepsFrames n f = (rs : List ℕ) (fs : List (List Value)) → (length (f fs) ≡ length fs) × (AllCells tg n rs fs → AllCells tg n rs (f fs))
 
-  frames_kept : (h : Home) (n : ℕ) (f : List (List Value) → List (List Value)) (o : Option Ex) (m : Members) → KeepsFrames f → SlotBy (CellEx tg) (at_home h n) o → ParkedBy (CellEx tg) h m.parked → ParkedBy (CellEx tg) h (frames_by n f o m).parked
-  frames_kept h n f None m same r s = s
-  frames_kept h n f (Some x) m same r s =
-      parked.update_parked (CellEx tg) h n (Some (record x { frames = f x.frames })) m.parked (record { routines = r.routines; frames = (same (at_home h n) r.routines x.frames).0 ∙ r.frames; cells = (same (at_home h n) r.routines x.frames).1 r.cells; run = r.run; callers = r.callers }) s
+  frames_kept : (n : Exec) (f : List (List Value) → List (List Value)) (o : Option Ex) (m : Members) → KeepsFrames n f → SlotBy (CellEx tg) n o → ParkedBy (CellEx tg) n.home m.parked → ParkedBy (CellEx tg) n.home (frames_by n.serial f o m).parked
+  frames_kept n f None m same r s = s
+  frames_kept n f (Some x) m same r s =
+      parked.update_parked (CellEx tg) n.home n.serial (Some (record x { frames = f x.frames })) m.parked (record { routines = r.routines; frames = (same r.routines x.frames).0 ∙ r.frames; cells = (same r.routines x.frames).1 r.cells; run = r.run; callers = r.callers }) s
 
   frames_values : (n : ℕ) (f : List (List Value) → List (List Value)) (o : Option Ex) (m : Members) → (frames_by n f o m).values ≡ m.values
   frames_values n f None m = refl
   frames_values n f (Some x) m = refl
 
-  with_frames_keeps : {rs : List ℕ} (n : Exec) (f : List (List Value) → List (List Value)) (e : Env) → KeepsFrames f → CellEnv tg e → Keeps rs e (with_frames n f e)
+  with_frames_keeps : {rs : List ℕ} (n : Exec) (f : List (List Value) → List (List Value)) (e : Env) → KeepsFrames n f → CellEnv tg e → Keeps rs e (with_frames n f e)
   with_frames_keeps {rs} n f e same s =
-      either (Keeps rs e) (exec_eq n e.exec) (record e { frames = f e.frames }) (change n.home (frames_changed n.serial f) e) (record { exec = refl; frames = (same e.exec rs e.frames).0; cells = (same e.exec rs e.frames).1; env = like s refl refl refl }) (keeps_change n.home (frames_changed n.serial f) e (λ m h. frames_kept n.home n.serial f (joined (find n.serial m.parked)) m same (parked.found_parked (CellEx tg) n.home n.serial m.parked h) h) (same_values tg n.home (frames_changed n.serial f) (λ m. frames_values n.serial f (joined (find n.serial m.parked)) m)) s)
+      tested (Keeps rs e) (exec_eq n e.exec) (record e { frames = f e.frames }) (change n.home (frames_changed n.serial f) e) (λ q. record { exec = refl; frames = (same rs e.frames).0; cells = subst (λ x. AllCells tg x rs e.frames → AllCells tg x rs (f e.frames)) (exec_is n e.exec q) (same rs e.frames).1; env = like s refl refl refl }) (λ q. keeps_change n.home (frames_changed n.serial f) e (λ m h. frames_kept n f (joined (find n.serial m.parked)) m same (parked.found_parked (CellEx tg) n.home n.serial m.parked h) h) (same_values tg n.home (frames_changed n.serial f) (λ m. frames_values n.serial f (joined (find n.serial m.parked)) m)) s)
 
-  -- a value that is no object is written anywhere
+  -- a value that is no object, and names none of which that is the own, is written anywhere
 
   abbrev IsNone : Value → Type 0
   IsNone w = (q : Value) (c : ℕ) → IsFree tg q c w
 
-  none_keeps : {rs : List ℕ} (o : Owner) (k : ℕ) (w : Value) (e : Env) → IsNone w → CellEnv tg e → Keeps rs e (with_owned o (value_changed k (stored w) nought) e)
-  none_keeps (Frame n d) k w e a s =
-      with_frames_keeps n (frame_changed d (value_changed k (stored w) nought)) e (λ n rs fs. (set_length fs d (value_changed k (stored w) nought (list_in (at_depth fs d))), λ h. all_changed tg n d (value_changed k (stored w) nought) rs fs (λ r i vs c. cells_written tg n r d k w vs (λ x i o l q. a (Place (Frame n d) x) i) c) h)) s
-  none_keeps (Fields o) k w e a s = keeps_change (home.Object o) (λ m. record m { values = value_changed k (stored w) nought m.values }) e (λ m h. h) (λ m h. fields_written tg o k w m.values (λ x c i l q. a (Place (Fields o) x) c) h) s
+  none_keeps : {rs : List ℕ} (o : Owner) (k : ℕ) (w : Value) (e : Env) → IsNone w → IsAllowed tg o w → CellEnv tg e → Keeps rs e (with_owned o (value_changed k (stored w) nought) e)
+  none_keeps (Frame n d) k w e a b s =
+      with_frames_keeps n (frame_changed d (value_changed k (stored w) nought)) e (λ rs fs. (set_length fs d (value_changed k (stored w) nought (list_in (at_depth fs d))), λ h. all_changed tg n d (value_changed k (stored w) nought) rs fs (λ r i vs c. cells_written tg n r d k w vs (λ x i o l q. a (Place (Frame n d) x) i) (λ v i o l q. b) c) h)) s
+  none_keeps (Fields o) k w e a b s = keeps_change (home.Object o) (λ m. record m { values = value_changed k (stored w) nought m.values }) e (λ m h. h) (λ m h. fields_written tg o k w m.values (λ x c i l q. a (Place (Fields o) x) c) (λ v c i l q. b) h) s
 
-  pub written_none : {rs : List ℕ} (v w : Value) (e : Env) → IsNone w → CellEnv tg e → Keeps rs e (written v w e)
-  written_none (Number n) w e a s = keeps_like s refl refl refl refl refl
-  written_none (Place o p) w e a s = none_keeps o (address p) w e a s
-  written_none (Running x) w e a s = keeps_like s refl refl refl refl refl
-  written_none (Object o) w e a s = none_keeps (Fields o) 0 w e a s
-  written_none Nothing w e a s = keeps_like s refl refl refl refl refl
+  pub written_none : {rs : List ℕ} (v w : Value) (e : Env) → IsNone w → MayName tg v w → CellEnv tg e → Keeps rs e (written v w e)
+  written_none (Number n) w e a b s = keeps_like s refl refl refl refl refl
+  written_none (Place o p) w e a b s = none_keeps o (address p) w e a b s
+  written_none (Running x) w e a b s = keeps_like s refl refl refl refl refl
+  written_none (Object o) w e a b s = none_keeps (Fields o) 0 w e a b s
+  written_none Nothing w e a b s = keeps_like s refl refl refl refl refl
+
+  number_may : (v : Value) (z : ℤ) → MayName tg v (Number z)
+  number_may (Number n) z = tt
+  number_may (Place o p) z = number_allowed tg o z
+  number_may (Running x) z = tt
+  number_may (Object o) z = number_allowed tg (Fields o) z
+  number_may Nothing z = tt
 
   pub written_number : {rs : List ℕ} (v : Value) (z : ℤ) (e : Env) → CellEnv tg e → Keeps rs e (written v (Number z) e)
-  written_number v z e s = written_none v (Number z) e (λ q c. number_free tg q c z) s
+  written_number v z e s = written_none v (Number z) e (λ q c. number_free tg q c z) (number_may v z) s
 
   -- a value is written that fits there
 
@@ -100,13 +109,13 @@ module _ (tg : Telling) where
       subst (λ (b : Bool). Keeps rs e (if b then record e { frames = frame_changed d (value_changed k (stored w) nought) e.frames } else change n.home (frames_changed n.serial (frame_changed d (value_changed k (stored w) nought))) e)) (sym a.0) (record {
         exec = refl;
         frames = set_length e.frames d (value_changed k (stored w) nought (list_in (at_depth e.frames d)));
-        cells = λ h. all_changed tg e.exec d (value_changed k (stored w) nought) rs e.frames (λ r i vs c. cells_written tg e.exec r d k w vs (a.1 r i) c) h;
+        cells = λ h. all_changed tg e.exec d (value_changed k (stored w) nought) rs e.frames (λ r i vs c. cells_written tg e.exec r d k w vs (a.1 r i) (a.2 r i) c) h;
         env = like s refl refl refl;
       })
 
   owner_fits : {rs : List ℕ} (o : Owner) (k : ℕ) (w : Value) (e : Env) → OwnerFits tg rs o k w e → CellEnv tg e → Keeps rs e (with_owned o (value_changed k (stored w) nought) e)
   owner_fits (Frame n d) k w e a s = fits_at n d k w e a s
-  owner_fits (Fields o) k w e a s = keeps_change (home.Object o) (λ m. record m { values = value_changed k (stored w) nought m.values }) e (λ m h. h) (λ m h. fields_written tg o k w m.values a h) s
+  owner_fits (Fields o) k w e a s = keeps_change (home.Object o) (λ m. record m { values = value_changed k (stored w) nought m.values }) e (λ m h. h) (λ m h. fields_written tg o k w m.values a.0 a.1 h) s
 
   pub written_fits : {rs : List ℕ} (v w : Value) (e : Env) → Fits tg rs v w e → CellEnv tg e → Keeps rs e (written v w e)
   written_fits (Number n) w e a s = keeps_like s refl refl refl refl refl

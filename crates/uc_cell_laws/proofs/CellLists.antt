@@ -144,7 +144,7 @@ module _ (g : Telling) (r : ℕ) where
   cleans (src.Destroys e) todo n h = (n, inl (tt, h))
   cleans (src.DestroysAll m e) todo n h = (tt, (n, h))
   cleans src.Unwinds todo n h = (tt, h)
-  cleans src.Forgets todo n h = (tt, h)
+  cleans src.Forgets todo n h = (n.1, h)
   cleans src.Leaves todo n h = (tt, h)
   cleans src.Ends todo n h = (tt, h)
   cleans (src.Frees None) todo n h = (tt, h)

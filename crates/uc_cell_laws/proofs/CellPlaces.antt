@@ -16,7 +16,7 @@ use Rattle.uc_cell_laws.specs.Places.{LiesInScope}
 use Rattle.uc_cell_laws.specs.Sites.{Telling, HasPlace, IsLent}
 use Rattle.uc_cell_laws.specs.CellTodos.{IsOwnPart, Around, Mark, Sited, Lent, FirstBound, Meets, Holds}
 use Rattle.uc_cell_laws.proofs.Offsets.{IsSpot, spots, last_links, before_last, not_root, one_type}
-use Rattle.uc_cell_laws.specs.CellStates.{IsOwnCell, IsOwnField, IsObjectPart, IsFree, IsRooted, Fits}
+use Rattle.uc_cell_laws.specs.CellStates.{IsOwnCell, IsOwnField, IsOwnCoroutine, IsCoroutineIn, first_cell, IsObjectPart, IsFree, IsRooted, Fits}
 
 -- own parts
 
@@ -47,7 +47,7 @@ further_object : (o : ℕ) (l : Link) (v : Value) (B : Type 0) → ((v ≡ Objec
 further_object o l v B (inl e) = (l ∷ [], ap (further l) e.0)
 further_object o l v B (inr e) = (l ∷ e.0, ap (further l) e.1)
 
-inside_object : (t : Table) (owns : Owns) (o : ℕ) {a : Ty} {v : Value} {b : Ty} → Inside t owns (Object o) a v b → ((v ≡ Object o) × (b ≡ a)) ⊎ ((x : List Link) × (v ≡ Place (Fields o) x))
+pub inside_object : (t : Table) (owns : Owns) (o : ℕ) {a : Ty} {v : Value} {b : Ty} → Inside t owns (Object o) a v b → ((v ≡ Object o) × (b ≡ a)) ⊎ ((x : List Link) × (v ≡ Place (Fields o) x))
 inside_object t owns o all_of_it = inl (refl, refl)
 inside_object t owns o {a} (own_field {v = v} {c = c} h i f q) = inr (further_object o (FieldAt (t.shape c) i) v (Obj c ≡ a) (inside_object t owns o h))
 inside_object t owns o {a} (own_element {v = v} {m = m} {b = b} h j l) = inr (further_object o (At (element_shape t b) j) v (Row m b ≡ a) (inside_object t owns o h))
@@ -136,8 +136,12 @@ pub record MayWrite (g : Telling) : Type 0 where
   pub home : (rs : List ℕ) (d r : ℕ) (x : List Link) (c : ℕ) (w : Value) (e : Env) → at_depth rs d ≡ Some r → LiesInScope g.table g.source r (Frame e.exec d) (Place (Frame e.exec d) x) (Cell (Obj c)) → IsFree g (Place (Frame e.exec d) x) c w → Fits g rs (Place (Frame e.exec d) x) w e
   pub other : (rs : List ℕ) (d r : ℕ) (x : List Link) (b : Ty) (w : Value) (e : Env) → at_depth rs d ≡ Some r → LiesInScope g.table g.source r (Frame e.exec d) (Place (Frame e.exec d) x) (Cell b) → (IsMutex g.table b → ⊥) → Fits g rs (Place (Frame e.exec d) x) w e
   pub lent : (rs : List ℕ) (d r c i : ℕ) (v : Value) (x : List Link) (b : Ty) (w : Value) (e : Env) → at_depth rs d ≡ Some r → LiesInScope g.table g.source r (Frame e.exec d) v (Obj c) → IsField g.table c i → g.owns c i ≡ false → g.table.fields c i ≡ Cell b → further (FieldAt (g.table.shape c) i) v ≡ Place (Frame e.exec d) x → Fits g rs (Place (Frame e.exec d) x) w e
-  -- own cells of each routine lie behind its parameters
+  -- own cells of each routine lie behind its parameters, and so do its own coroutines; these have addresses, which no binding has
   pub behind : (r : ℕ) (q : Routine) → slice_get g.source.routines r ≡ Some q → (n : Exec) (d : ℕ) (x : List Link) (c : ℕ) → IsOwnCell g r (Frame n d) x c → address x < LAST_ADDRESS → q.params ≤ address x
+  pub first_behind : (r : ℕ) (q : Routine) → slice_get g.source.routines r ≡ Some q → (n : Exec) (d : ℕ) (v : Value) (c : ℕ) → IsOwnCoroutine g r (Frame n d) v c → first_cell v < LAST_ADDRESS → q.params ≤ first_cell v
+  pub first_low : (r : ℕ) (o : Owner) (v : Value) (c : ℕ) → IsOwnCoroutine g r o v c → first_cell v < LAST_ADDRESS
+  pub first_low_in : (o : ℕ) (v : Value) (d : ℕ) → IsCoroutineIn g o v d → first_cell v < LAST_ADDRESS
+  pub first_in : (o c : ℕ) (x : List Link) (b : Ty) (v : Value) (d : ℕ) → Within g.table (Object o) (Obj c) (Place (Fields o) x) (Cell b) → Within g.table (Object o) (Obj c) v (Obj d) → g.table.executes d ≡ true → first_cell v < LAST_ADDRESS → first_cell v ≡ address x → ⊥
   pub low : (r : ℕ) (o : Owner) (x : List Link) (c : ℕ) → IsOwnCell g r o x c → address x < LAST_ADDRESS
   pub low_field : (o c : ℕ) (x : List Link) (b : Ty) → Within g.table (Object o) (Obj c) (Place (Fields o) x) (Cell b) → g.table.mutex c ≡ true → address x < LAST_ADDRESS
   pub places : (o c : ℕ) (x y : List Link) (b d : Ty) → Within g.table (Object o) (Obj c) (Place (Fields o) x) (Cell b) → Within g.table (Object o) (Obj c) (Place (Fields o) y) (Cell d) → address x < LAST_ADDRESS → address x ≡ address y → (x ≡ y) × (b ≡ d)
@@ -154,6 +158,11 @@ module _ (g : Telling) (may : MayWrite g) (e : Env) (rs : List ℕ) (level : ℕ
   one_field o c x b told h y d own lt a =
       may.places o c y x (Obj d) b (inside_within g.table g.owns (subst (λ z. Inside g.table g.owns (Object o) (Obj z) (Place (Fields o) y) (Cell (Obj d))) (some_same own.0 c (sym own.2 ∙ told)) own.4)) h lt a
 
+  -- and the first cell of an own coroutine in it has none of these
+  not_there : (o c : ℕ) (x : List Link) (b : Ty) → g.class o ≡ Some c → Within g.table (Object o) (Obj c) (Place (Fields o) x) (Cell b) → (v : Value) (d : ℕ) → IsCoroutineIn g o v d → first_cell v < LAST_ADDRESS → first_cell v ≡ address x → ⊥
+  not_there o c x b told h v d own lt a =
+      may.first_in o c x b v d h (inside_within g.table g.owns (subst (λ z. Inside g.table g.owns (Object o) (Obj z) v (Obj d)) (some_same own.0 c (sym own.2 ∙ told)) own.4)) own.1 lt a
+
   -- so what lies in a mutex object lies there
   abbrev IsThere : (v : Value) (b : Ty) (h : IsObjectPart g v (Cell b)) → Type 0
   IsThere v b h = Within g.table (Object h.number) (Obj h.class) (Place (Fields h.number) (object_place g v b h).0) (Cell b)
@@ -165,10 +174,13 @@ module _ (g : Telling) (may : MayWrite g) (e : Env) (rs : List ℕ) (level : ℕ
   pub fits_home : (v w : Value) (c : ℕ) → Lies g e.exec rs level v (Cell (Obj c)) → IsFree g v c w → Fits g rs v w e
   fits_home v w c (inl h) k =
       let x = object_place g v (Obj c) h in
-      subst (λ u. Fits g rs u w e) (sym x.1) (λ y d own lt a o q.
-      let same = one_field h.number h.class x.0 (Obj c) h.told (is_there v (Obj c) h) y d own lt a in
-      let f = k o q in
-      (f.0 ∙ (x.1 ∙ ap (Place (Fields h.number)) (sym same.0)), f.1 ∙ ap Some (sym (object_same d c same.1))))
+      subst (λ u. Fits g rs u w e) (sym x.1) (
+        (λ y d own lt a o q.
+            let same = one_field h.number h.class x.0 (Obj c) h.told (is_there v (Obj c) h) y d own lt a in
+            let f = k o q in
+            (f.0 ∙ (x.1 ∙ ap (Place (Fields h.number)) (sym same.0)), f.1 ∙ ap Some (sym (object_same d c same.1)))),
+        (λ y d own lt a. absurd (not_there h.number h.class x.0 (Obj c) h.told (is_there v (Obj c) h) y d own lt a)),
+      )
   fits_home v w c (inr h) k =
       let part = h.4 in
       let x = inside_place g.table g.owns (Frame e.exec h.0) (Slot part.cell ∷ []) part.inside in
@@ -178,7 +190,10 @@ module _ (g : Telling) (may : MayWrite g) (e : Env) (rs : List ℕ) (level : ℕ
   pub fits_other : (v w : Value) (b : Ty) → Lies g e.exec rs level v (Cell b) → (IsMutex g.table b → ⊥) → Fits g rs v w e
   fits_other v w b (inl h) k =
       let x = object_place g v b h in
-      subst (λ u. Fits g rs u w e) (sym x.1) (λ y d own lt a o q. absurd (k (subst (IsMutex g.table) (one_field h.number h.class x.0 b h.told (is_there v b h) y d own lt a).1 own.1)))
+      subst (λ u. Fits g rs u w e) (sym x.1) (
+        (λ y d own lt a o q. absurd (k (subst (IsMutex g.table) (one_field h.number h.class x.0 b h.told (is_there v b h) y d own lt a).1 own.1))),
+        (λ y d own lt a. absurd (not_there h.number h.class x.0 b h.told (is_there v b h) y d own lt a)),
+      )
   fits_other v w b (inr h) k =
       let part = h.4 in
       let x = inside_place g.table g.owns (Frame e.exec h.0) (Slot part.cell ∷ []) part.inside in
@@ -194,11 +209,14 @@ module _ (g : Telling) (may : MayWrite g) (e : Env) (rs : List ℕ) (level : ℕ
       let x = lent_place class i this h in
       let outer : Within g.table (Object h.number) (Obj h.class) this (Obj class) = inside_within g.table g.owns h.inside in
       let lies : Within g.table (Object h.number) (Obj h.class) (Place (Fields h.number) x.0) (Cell b) = subst (λ u. Within g.table (Object h.number) (Obj h.class) u (Cell b)) x.1 (subst (λ z. Within g.table (Object h.number) (Obj h.class) (further l this) z) q (field outer i f)) in
-      subst (λ u. Fits g rs u w e) (sym x.1) (λ y d own lt a m r.
-      let same = one_field h.number h.class x.0 b h.told lies y d own lt a in
-      let place : Place (Fields h.number) y ≡ further l this = ap (Place (Fields h.number)) same.0 ∙ sym x.1 in
-      let inner : Inside g.table g.owns (Object h.number) (Obj h.class) (Place (Fields h.number) y) (Cell (Obj d)) = subst (λ z. Inside g.table g.owns (Object h.number) (Obj z) (Place (Fields h.number) y) (Cell (Obj d))) (some_same own.0 h.class (sym own.2 ∙ h.told)) own.4 in
-      absurd (false_is_not_true (g.owns class i) (own_last g.table g.owns this class i inner outer tt place) o))
+      subst (λ u. Fits g rs u w e) (sym x.1) (
+        (λ y d own lt a m r.
+            let same = one_field h.number h.class x.0 b h.told lies y d own lt a in
+            let place : Place (Fields h.number) y ≡ further l this = ap (Place (Fields h.number)) same.0 ∙ sym x.1 in
+            let inner : Inside g.table g.owns (Object h.number) (Obj h.class) (Place (Fields h.number) y) (Cell (Obj d)) = subst (λ z. Inside g.table g.owns (Object h.number) (Obj z) (Place (Fields h.number) y) (Cell (Obj d))) (some_same own.0 h.class (sym own.2 ∙ h.told)) own.4 in
+            absurd (false_is_not_true (g.owns class i) (own_last g.table g.owns this class i inner outer tt place) o)),
+        (λ y d own lt a. absurd (not_there h.number h.class x.0 b h.told lies y d own lt a)),
+      )
   fits_lent class i this w b (inr h) f o q =
       let part = h.4 in
       let l : Link = FieldAt (g.table.shape class) i in

@@ -11,7 +11,6 @@ use Rattle.uc_entry.specs.declared.request.Piece.{Piece}
 use Rattle.uc_entry.specs.declared.request.Request.TheVariants as ask
 use Rattle.uc_entry.specs.Keyed.{find, signed_64}
 use Rattle.uc_machine.specs.declared.exec.Exec.{Exec}
-use Rattle.uc_machine.specs.declared.exec.Owner.TheVariants.{Frame}
 use Rattle.uc_machine.specs.declared.exec.Pending.{Pending}
 use Rattle.uc_machine.specs.declared.exec.UnwindReason.{UnwindReason}
 use Rattle.uc_machine.specs.declared.exec.UnwindReason.TheVariants as reason
@@ -26,22 +25,24 @@ use Rattle.uc_machine.specs.Monitors as monitors
 use Rattle.uc_machine.specs.Polls as polls
 use Rattle.uc_machine.specs.Quiet as quiet
 use Rattle.uc_machine.specs.Pieces as piece
-use Rattle.uc_machine.specs.Pieces.{Link, Value, Number, Object, Nothing, LAST_ADDRESS, loaded, Todo, Sort, Active, State, Env, Step, Asks, Outcome, Gives, Faults, at, in_env, fault, top, below, number, nought, address, written}
+use Rattle.uc_machine.specs.Pieces.{Value, Number, Object, Nothing, loaded, Todo, Sort, Active, State, Env, Step, Asks, Outcome, Gives, Faults, at, in_env, fault, top, below, number, nought, written}
 use Rattle.uc_typing.specs.Typing.{Ty, Cell, Obj, Row}
 use Rattle.uc_state_laws.specs.Counted.{params_at, params, count, CountedExpr}
 use Rattle.uc_state_laws.proofs.ValueSteps.{exec_same}
+use Rattle.uc_life_laws.specs.Belonging.{Belongs}
 use Rattle.uc_life_laws.specs.HomedStates.{Inside, all_of_it}
 use Rattle.uc_life_laws.specs.LifeStates.{frame_at}
 use Rattle.uc_life_laws.proofs.HomedCells.{either, set_length, others_length}
 use Rattle.uc_cell_laws.specs.Sites.{Telling, IsNoMaker, SitedExpr}
 use Rattle.uc_cell_laws.specs.CellTodos.{Around, around, Mark, Any, Sited, Lent, Classed, mark_of, made_mark, rest, rests, anys, FirstSited, FirstClassed, FirstCell, FirstRow, FirstBound, Meets, Holds, Finding, CodeExpr, CodeClean, CodeStmt, CodeStmts, CodeHandlers, CallFits, BindFits, LeftBy, Ok, Left}
-use Rattle.uc_cell_laws.specs.CellStates.{IsOwnCell, IsFree, AllCells, IsRooted, IsOf, AllWait, CellEx, CellRest, CellState, CellStep, Fits, FindsNumber}
+use Rattle.uc_cell_laws.specs.CellStates.{IsFree, AllCells, IsRooted, IsOf, AllWait, CellEx, CellRest, CellState, CellStep, Fits, FindsNumber}
 use Rattle.uc_cell_laws.proofs.CellMarks as marks
 use Rattle.uc_cell_laws.proofs.CellMarks.{holds_below, holds_drop, bound_under}
 use Rattle.uc_cell_laws.proofs.CellLists as todos
-use Rattle.uc_cell_laws.proofs.CellFrames.{newest, deeper, all_newer, all_older, all_others, all_changed, cells_anew, cells_none, cells_zero, cells_called, lengths, running_free, rooted_newer, rooted_wider}
+use Rattle.uc_cell_laws.proofs.CellFrames.{newest, deeper, all_newer, all_older, all_others, all_changed, cells_anew, cells_none, cells_zero, LieBehind, cells_called, lengths, running_free, rooted_newer, rooted_wider}
 use Rattle.uc_cell_laws.proofs.CellFields.{part_read}
 use Rattle.uc_cell_laws.proofs.CellPlaces.{MayWrite, variable_meets, field_meets, lent_meets, element_meets, Lies, sited_lies, fits_home, fits_bound}
+use Rattle.uc_cell_laws.proofs.CellNames.{names_new}
 use Rattle.uc_cell_laws.proofs.CellKeeping as kept
 use Rattle.uc_cell_laws.proofs.CellKeeping.{Keeps}
 
@@ -595,7 +596,7 @@ module _ (tg : Telling) where
 
       abbrev pub Starts : ℕ → Option Routine → Type 0
       Starts n None = Unit {0}
-      Starts n (Some q) = CodeStmts tg n q.body × ((d : ℕ) (x : List Link) (c : ℕ) → IsOwnCell tg n (Frame s.env.exec d) x c → address x < LAST_ADDRESS → q.params ≤ address x)
+      Starts n (Some q) = CodeStmts tg n q.body × ((d : ℕ) → LieBehind tg s.env.exec n d q)
 
       begun : (n : ℕ) (q : Routine) (this : Value) (counts : Bool) (ns : List Mark) (todo : List Todo) (vs : List Value) → Starts n (Some q) → (tg.special n ≡ true → IsRooted tg s.env.exec st.routines (length s.env.frames) n this) → H ns vs → O (Any ∷ ns) todo → CellStep tg (quiet.begun_step q this counts todo vs s)
       begun n q this counts ns todo vs b f k h =
@@ -639,13 +640,13 @@ module _ (tg : Telling) where
       fresh : (n : Exec) (k : ℕ) (q : Routine) (this : Value) → CodeStmts tg k q.body → IsNoMaker tg k → CellEx tg n (quiet.fresh q this)
       fresh n k q this b free = record { routines = k ∷ []; frames = refl; cells = (cells_zero tg n k 0 q.cells, tt); run = record { routine = k; frame = refl; low = omega arith; this = λ x. absurd (free x); marks = []; holds = tt; ok = todos.routine tg k q b }; callers = tt }
 
-      pub set_up : (k : ℕ) (q : Option Routine) (todo : List Todo) → Starts k q → IsNoMaker tg k → O [] todo → CellStep tg (quiet.set_up_step q todo s)
-      set_up k None todo b free h = anew _ _ h
-      set_up k (Some q) todo b free h =
+      pub set_up : (k : ℕ) (q : Option Routine) (todo : List Todo) → Starts k q → IsNoMaker tg k → (tg.naming ≡ true → Belongs tg.few (sw.new_exec (quiet.home_at s.run.this s.env) s.env) s.run.this → ⊥) → O [] todo → CellStep tg (quiet.set_up_step q todo s)
+      set_up k None todo b free f h = anew _ _ h
+      set_up k (Some q) todo b free f h =
           let c = quiet.home_at s.run.this s.env in
           let x = quiet.fresh q s.run.this in
           let i : Keeps tg st.routines s.env (sw.born c x s.env) = kept.born_keeps tg c x s.env (λ m. fresh m k q s.run.this b.0 free) st.env in
-          go_in [] todo _ _ tt h (kept.keeps_both tg i (kept.written_none tg s.run.this _ (sw.born c x s.env) (λ p k. running_free tg p k _) i.env))
+          go_in [] todo _ _ tt h (kept.keeps_both tg i (kept.written_none tg s.run.this _ (sw.born c x s.env) (λ p k. running_free tg p k _) (names_new tg s.run.this _ f) i.env))
 
       -- mutex objects
 

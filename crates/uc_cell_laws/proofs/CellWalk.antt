@@ -69,7 +69,7 @@ module _ (tg : Telling) (known : Known tg) (may : MayWrite tg) where
 
     starts : (r : ℕ) (q : Option Routine) → slice_get tg.source.routines r ≡ q → steps.Starts tg s st ms holds r q
     starts r None e = tt
-    starts r (Some q) e = (subst (CodeRoutine tg r) e (known r), λ d x i k l. may.behind r q e s.env.exec d x i k l)
+    starts r (Some q) e = (subst (CodeRoutine tg r) e (known r), λ d. (λ x c i l. may.behind r q e s.env.exec d x c i l, λ v c i l. may.first_behind r q e s.env.exec d v c i l))
 
     -- one piece, with what is to do behind it
     acts : (p : Todo) (todo : List Todo) → s.run.control ≡ p ∷ todo → Ok tg R ms (p ∷ todo) → CellStep tg (quiet.act tg.source p todo s)
@@ -133,7 +133,7 @@ module _ (tg : Telling) (known : Known tg) (may : MayWrite tg) where
     acts piece.Unwind todo c h = steps.unwinds tg s st todo h
     acts piece.ThrowNow todo c h = steps.thrown tg s st (raising.event_in s.run.operands) todo h.1
     acts piece.RaiseNow todo c h = steps.raises tg s st ms (raising.event_in s.run.operands) todo holds h.1
-    acts (piece.SetUpNow r) todo c h = steps.set_up tg s st ms holds r (slice_get tg.source.routines r) todo (starts r (slice_get tg.source.routines r) refl) h.0 h.1
+    acts (piece.SetUpNow r) todo c h = steps.set_up tg s st ms holds r (slice_get tg.source.routines r) todo (starts r (slice_get tg.source.routines r) refl) h.0 (subst (λ l. FindsAt tg l s) c finds) h.1
     acts piece.EnlivenNow todo c h = steps.go_in tg s st [] _ _ _ tt h.1 (kept.enlivened_keeps tg (piece.own_exec s) s.env st.env)
     acts piece.TakeDownNow todo c h = steps.moved tg s st _ todo _ (kept.take_down_rests tg (piece.own_exec s) (at todo s.run.operands s) (anew _ _ h.1))
     acts piece.ForgetNow todo c h = steps.go_in tg s st [] _ _ _ tt h.1 (kept.forgotten_keeps tg (piece.own_exec s) s.env st.env)

@@ -8,6 +8,8 @@ pub mod CellPlaces
 pub mod CellFrames
 pub mod CellFields
 pub mod CellKeeping
+pub mod CellNames
+pub mod Leading
 pub mod CellSteps
 pub mod CellWalk
 pub mod CellWorlds

@@ -1,9 +1,9 @@
 -- Within one thing places that have one address are one place: what lies within it lies one behind the other.
-use Rattle.std.proofs.Common.{◌≡◌, ℕ, zero, suc, ◌+◌, ◌*◌, ◌≤◌, ◌<◌, ◌⊎◌, inl, inr, ⊎_elim, List, [], ◌∷◌, length, refl, sym, ap, ◌∙◌, subst, arith}
+use Rattle.std.proofs.Common.{◌≡◌, ℕ, zero, suc, ◌+◌, ◌*◌, ◌≤◌, ◌<◌, ◌⊎◌, inl, inr, ⊎_elim, true, List, [], ◌∷◌, length, refl, sym, ap, ◌∙◌, subst, arith}
 use Rattle.std.specs.Prelude.{min}
 use Rattle.std.proofs.Math.Nat.{min-eq_left, min-eq_right}
 use Rattle.std.proofs.lemmas.Nat.{mul-le}
-use Rattle.uc_tree.specs.Source.{shape_cells}
+use Rattle.uc_tree.specs.Source.{shape_cells, field_cells}
 use Rattle.uc_machine.specs.declared.exec.Owner.{Owner}
 use Rattle.uc_machine.specs.declared.exec.Owner.TheVariants.{Fields}
 use Rattle.uc_machine.specs.Pieces.{Link, FieldAt, At, Value, Number, Place, Running, Object, Nothing, LAST_ADDRESS, link_cells, address, further}
@@ -11,7 +11,9 @@ use Rattle.uc_typing.specs.Typing.{Ty, Num, Cell, Obj, Raw, Row, Clu, Pro, Table
 use Rattle.uc_state_laws.specs.Layout.{Sized}
 use Rattle.uc_life_laws.specs.Things.{Within, itself, field, element, IsField}
 use Rattle.uc_life_laws.specs.LifeRuns.{span, IsFlat, IsLaidOut}
+use Rattle.uc_cell_laws.specs.CellStates.{first_cell}
 use Rattle.uc_cell_laws.specs.Places.{LawPlaces}
+use Rattle.uc_cell_laws.proofs.Leading.{IsLed}
 
 -- how many cells lie before a place, however many there are
 abbrev pub offset : List Link → ℕ
@@ -390,6 +392,26 @@ module _ (t : Table) where
         by (inr (inr (inl x))) = let y : offset_of v + 1 ≤ offset_of u = x in absurd (omega (arith, y, e))
         by (inr (inr (inr x))) = let y : offset_of u + 1 ≤ offset_of v = x in absurd (omega (arith, y, e))
 
+    -- and the cell of a binding is not the first one of an object that has one before its fields
+    pub not_first : {w : Value} {a : Ty} {v : Value} {c : ℕ} {u : Value} {b : Ty} → IsFlat a → IsSpot w → t.executes c ≡ true → IsLed t c → Within t w a v (Obj c) → Within t w a u (Cell b) → offset_of v ≡ offset_of u → ⊥
+    not_first {w} {a} {v} {c} {u} {b} f s x led h g e = by (compare f s h g)
+      where
+        inside : ((u ≡ v) × (Cell b ≡ Obj c)) ⊎ ((i : ℕ) × IsField t c i × Within t (further (FieldAt (t.shape c) i) v) (t.fields c i) u (Cell b)) → ⊥
+        inside (inl y) = let z = y.1 in absurd (cc)
+        inside (inr y) =
+            let z = spots h s in
+            let k = bounds (l.flat c y.0 y.1) (spot_further (FieldAt (t.shape c) y.0) v z) y.2 in
+            let low = k.low in
+            let q : offset_of (further (FieldAt (t.shape c) y.0) v) ≡ offset_of v + field_cells (t.shape c) y.0 = offset_further (FieldAt (t.shape c) y.0) v z in
+            let behind = led.fields y.0 (y.1 x) in
+            absurd (omega (arith, low, q, behind, e))
+
+        by : Compared v (Obj c) u (Cell b) → ⊥
+        by (inl y) = let z = (only_cell y).1 in absurd (cc)
+        by (inr (inl y)) = inside (first_field y)
+        by (inr (inr (inl y))) = let z : offset_of v + shape_cells (t.shape c) ≤ offset_of u = y in let one = led.cells in absurd (omega (arith, z, one, e))
+        by (inr (inr (inr y))) = let z : offset_of u + 1 ≤ offset_of v = y in absurd (omega (arith, z, e))
+
 path_of : (o : Owner) (x y : List Link) → Place o x ≡ Place o y → x ≡ y
 path_of o x y e = cc
 
@@ -403,6 +425,28 @@ places Z t l w a f o x y b c h g lt e =
     let j : address y ≡ offset y = addressed y (omega (arith, lt, e)) in
     let k : Place o x ≡ Place o y = one_place t Z l f s h g (sym i ∙ (e ∙ j)) in
     (path_of o x y k, cell_of b c (one_type t h g s k))
+
+-- the cell of a thing, where it is below the last
+pub first_addressed : (v : Value) → first_cell v < LAST_ADDRESS → first_cell v ≡ offset_of v
+first_addressed (Number z) h = refl
+first_addressed (Place o p) h = addressed p h
+first_addressed (Running x) h = refl
+first_addressed (Object o) h = refl
+first_addressed Nothing h = refl
+
+pub first_has : (v : Value) → offset_of v < LAST_ADDRESS → first_cell v < LAST_ADDRESS
+first_has (Number z) h = h
+first_has (Place o p) h = has_address p h
+first_has (Running x) h = h
+first_has (Object o) h = h
+first_has Nothing h = h
+
+-- so no binding within one thing has the address of the first cell of such an object
+pub first_apart : (Z : ℕ → ℕ → Type 0) (t : Table) → IsLaidOut Z t → (w : Value) (a : Ty) → IsFlat a → (v : Value) (c : ℕ) (o : Owner) (x : List Link) (b : Ty) → t.executes c ≡ true → IsLed t c → Within t w a v (Obj c) → Within t w a (Place o x) (Cell b) → first_cell v < LAST_ADDRESS → first_cell v ≡ address x → ⊥
+first_apart Z t l w a f v c o x b ex led h g lt e =
+    let i = first_addressed v lt in
+    let j : address x ≡ offset x = addressed x (omega (arith, lt, e)) in
+    not_first t Z l f (spot_root t g tt) ex led h g (sym i ∙ (e ∙ j))
 
 pub law_places : LawPlaces
 law_places = record {

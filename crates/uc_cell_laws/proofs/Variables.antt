@@ -15,7 +15,7 @@ use Rattle.uc_tree.specs.Source as src
 use Rattle.uc_tree.specs.Source.{Expr, CleanUp, Routine, shape_cells}
 use Rattle.uc_machine.specs.declared.exec.Owner.{Owner}
 use Rattle.uc_machine.specs.declared.exec.Owner.TheVariants.{Fields}
-use Rattle.uc_machine.specs.Pieces.{Link, Slot, Place, Object, LAST_ADDRESS, address}
+use Rattle.uc_machine.specs.Pieces.{Link, Slot, Value, Place, Object, LAST_ADDRESS, address}
 use Rattle.uc_resolve.specs.Resolve.{source_of}
 use Rattle.uc_rules.specs.Breaks.{breaks_of}
 use Rattle.uc_rules.specs.declared.rule.Rule.TheVariants.{S6, S14}
@@ -41,7 +41,9 @@ use Rattle.uc_life_laws.proofs.Laying.{laid_out}
 use Rattle.uc_cell_laws.specs.Scopes.{LieApart, InRoutine}
 use Rattle.uc_cell_laws.specs.Places.{LiesInScope, LawVariables, LawAddresses}
 use Rattle.uc_cell_laws.proofs.Scopes.{LiesBehind, scope_behind, law_scopes}
-use Rattle.uc_cell_laws.proofs.Offsets.{offset, addressed, has_address, bounds, places}
+use Rattle.uc_cell_laws.specs.CellStates.{first_cell}
+use Rattle.uc_cell_laws.proofs.Leading.{leading}
+use Rattle.uc_cell_laws.proofs.Offsets.{offset, offset_of, addressed, has_address, first_has, first_apart, bounds, places}
 
 some_same : {A : Type 0} {x y : A} → Some x ≡ Some y → x ≡ y
 some_same e = cc
@@ -156,22 +158,22 @@ module _ (Z : ℕ → ℕ → Type 0) (t : Table) (l : IsLaidOut Z t) where
       record { first = n.lies_there.1.0; last = omega (arith, fits, all); flat = n.flat m }
   between low high k a c h d = absurd d
 
-  -- two bindings in variables that lie on different sides of a cell have different addresses
-  not_one : (o : Owner) (low cell high k m : ℕ) (a b : Ty) (x y : List Link) (d e : Ty) → Between t low cell k a → Between t cell high m b → Within t (Place o (Slot k ∷ [])) a (Place o x) (Cell d) → Within t (Place o (Slot m ∷ [])) b (Place o y) (Cell e) → address x < LAST_ADDRESS → address x ≡ address y → ⊥
-  not_one o low cell high k m a b x y d e i j h g lt q =
+  -- two things in variables that lie on different sides of a cell have different addresses, where the first one has a cell
+  not_one : (o : Owner) (low cell high k m : ℕ) (a b : Ty) (x y : List Link) (d e : Ty) → 1 ≤ span t d → Between t low cell k a → Between t cell high m b → Within t (Place o (Slot k ∷ [])) a (Place o x) d → Within t (Place o (Slot m ∷ [])) b (Place o y) e → address x < LAST_ADDRESS → address x ≡ address y → ⊥
+  not_one o low cell high k m a b x y d e one i j h g lt q =
       let u = bounds t Z l i.flat tt h in
       let v = bounds t Z l j.flat tt g in
       let last = i.last in
       let first = j.first in
-      let high : offset x + 1 ≤ (0 + k) + span t a = u.high in
+      let high : offset x + span t d ≤ (0 + k) + span t a = u.high in
       let low : 0 + m ≤ offset y = v.low in
       let f = addressed x lt in
       let z = addressed y (omega (arith, lt, q)) in
-      omega (arith, last, first, high, low, f, z, q)
+      omega (arith, last, first, high, low, f, z, q, one)
 
--- bindings in what scopes are of that have one address lie in what one clean-up is for
-pub same_scope : (p : Program) → IsFormed p → breaks_of p ≡ [] → (r : ℕ) (o : Owner) (x y : List Link) (b c : Ty) (h : LiesInScope (table_of p) (source_of p) r o (Place o x) (Cell b)) (g : LiesInScope (table_of p) (source_of p) r o (Place o y) (Cell c)) → address x < LAST_ADDRESS → address x ≡ address y → h.clean ≡ g.clean
-same_scope p formed accepted r o x y b c h g lt q = by (law_scopes p accepted r h.clean g.clean h.scope g.scope)
+-- things in what scopes are of that have cells, and one address, lie in what one clean-up is for
+one_scope : (p : Program) → IsFormed p → breaks_of p ≡ [] → (r : ℕ) (o : Owner) (x y : List Link) (b c : Ty) → 1 ≤ span (table_of p) b → 1 ≤ span (table_of p) c → (h : LiesInScope (table_of p) (source_of p) r o (Place o x) b) (g : LiesInScope (table_of p) (source_of p) r o (Place o y) c) → address x < LAST_ADDRESS → address x ≡ address y → h.clean ≡ g.clean
+one_scope p formed accepted r o x y b c one other h g lt q = by (law_scopes p accepted r h.clean g.clean h.scope g.scope)
   where
     t : Table
     t = table_of p
@@ -181,8 +183,12 @@ same_scope p formed accepted r o x y b c h g lt q = by (law_scopes p accepted r 
 
     by : (h.clean ≡ g.clean) ⊎ LieApart (Sized p) h.clean g.clean → h.clean ≡ g.clean
     by (inl e) = e
-    by (inr (inl s)) = absurd (not_one (Sized p) t l o s.low s.cell s.high h.cell g.cell h.type g.type x y b c (between (Sized p) t l s.low s.cell h.cell h.type h.clean s.before h.cleans) (between (Sized p) t l s.cell s.high g.cell g.type g.clean s.behind g.cleans) h.within g.within lt q)
-    by (inr (inr s)) = absurd (not_one (Sized p) t l o s.low s.cell s.high g.cell h.cell g.type h.type y x c b (between (Sized p) t l s.low s.cell g.cell g.type g.clean s.before g.cleans) (between (Sized p) t l s.cell s.high h.cell h.type h.clean s.behind h.cleans) g.within h.within (omega (arith, lt, q)) (sym q))
+    by (inr (inl s)) = absurd (not_one (Sized p) t l o s.low s.cell s.high h.cell g.cell h.type g.type x y b c one (between (Sized p) t l s.low s.cell h.cell h.type h.clean s.before h.cleans) (between (Sized p) t l s.cell s.high g.cell g.type g.clean s.behind g.cleans) h.within g.within lt q)
+    by (inr (inr s)) = absurd (not_one (Sized p) t l o s.low s.cell s.high g.cell h.cell g.type h.type y x c b other (between (Sized p) t l s.low s.cell g.cell g.type g.clean s.before g.cleans) (between (Sized p) t l s.cell s.high h.cell h.type h.clean s.behind h.cleans) g.within h.within (omega (arith, lt, q)) (sym q))
+
+-- so do bindings
+pub same_scope : (p : Program) → IsFormed p → breaks_of p ≡ [] → (r : ℕ) (o : Owner) (x y : List Link) (b c : Ty) (h : LiesInScope (table_of p) (source_of p) r o (Place o x) (Cell b)) (g : LiesInScope (table_of p) (source_of p) r o (Place o y) (Cell c)) → address x < LAST_ADDRESS → address x ≡ address y → h.clean ≡ g.clean
+same_scope p formed accepted r o x y b c h g lt q = one_scope p formed accepted r o x y (Cell b) (Cell c) (omega arith) (omega arith) h g lt q
 
 -- and so in one variable, of one type
 pub same_variable : (t : Table) (a b : Ty) (k l : ℕ) (c d : CleanUp) → c ≡ d → CleansAt t a (src.Variable k) c → CleansAt t b (src.Variable l) d → (k ≡ l) × (a ≡ b)
@@ -195,8 +201,17 @@ law_variables p formed accepted r o x y b c h g lt q =
     let u : Within t (Place o (Slot h.cell ∷ [])) h.type (Place o y) (Cell c) = subst (λ k. Within t (Place o (Slot k ∷ [])) h.type (Place o y) (Cell c)) (sym z.0) (subst (λ a. Within t (Place o (Slot g.cell ∷ [])) a (Place o y) (Cell c)) (sym z.1) g.within) in
     places (Sized p) t (laid_out p formed accepted) (Place o (Slot h.cell ∷ [])) h.type (flat_of t h.type h.cell h.clean h.cleans) o x y b c h.within u lt q
 
--- bindings in what scopes of a routine are of lie behind its parameters
-pub behind_params : (p : Program) → IsFormed p → breaks_of p ≡ [] → (r : ℕ) (q : Routine) → slice_get (source_of p).routines r ≡ Some q → (o : Owner) (x : List Link) (b : Ty) → LiesInScope (table_of p) (source_of p) r o (Place o x) (Cell b) → address x < LAST_ADDRESS → q.params ≤ address x
+-- and no binding has the address of a coroutine, at the first cell of which its execution is found
+pub first_variable : (p : Program) → IsFormed p → breaks_of p ≡ [] → (r : ℕ) (o : Owner) (y x : List Link) (c : ℕ) (b : Ty) → (table_of p).executes c ≡ true → LiesInScope (table_of p) (source_of p) r o (Place o y) (Obj c) → LiesInScope (table_of p) (source_of p) r o (Place o x) (Cell b) → address y < LAST_ADDRESS → address y ≡ address x → ⊥
+first_variable p formed accepted r o y x c b ex g h lt q =
+    let t : Table = table_of p in
+    let led = leading p accepted c ex in
+    let z = same_variable t g.type h.type g.cell h.cell g.clean h.clean (one_scope p formed accepted r o y x (Obj c) (Cell b) led.cells (omega arith) g h lt q) g.cleans h.cleans in
+    let u : Within t (Place o (Slot g.cell ∷ [])) g.type (Place o x) (Cell b) = subst (λ k. Within t (Place o (Slot k ∷ [])) g.type (Place o x) (Cell b)) (sym z.0) (subst (λ a. Within t (Place o (Slot h.cell ∷ [])) a (Place o x) (Cell b)) (sym z.1) h.within) in
+    first_apart (Sized p) t (laid_out p formed accepted) (Place o (Slot g.cell ∷ [])) g.type (flat_of t g.type g.cell g.clean g.cleans) (Place o y) c o x b ex led g.within u lt q
+
+-- what lies in what scopes of a routine are of lies behind its parameters
+pub behind_params : (p : Program) → IsFormed p → breaks_of p ≡ [] → (r : ℕ) (q : Routine) → slice_get (source_of p).routines r ≡ Some q → (o : Owner) (x : List Link) (b : Ty) → LiesInScope (table_of p) (source_of p) r o (Place o x) b → address x < LAST_ADDRESS → q.params ≤ address x
 behind_params p formed accepted r q e o x b h lt =
     let l : IsLaidOut (Sized p) (table_of p) = laid_out p formed accepted in
     let z : LiesBehind p q h.clean = scope_behind p accepted r q e h.clean h.scope in
@@ -208,9 +223,9 @@ behind_params p formed accepted r q e o x b h lt =
     let f = addressed x lt in
     omega (arith, low, first, params, f)
 
--- in a program within its limits they have addresses
-variables_low : (p : Program) → IsFormed p → breaks_of p ≡ [] → IsWithinLimits p → (r : ℕ) (o : Owner) (x : List Link) (b : Ty) → LiesInScope (table_of p) (source_of p) r o (Place o x) (Cell b) → address x < LAST_ADDRESS
-variables_low p formed accepted within r o x b h = by (slice_get (source_of p).routines r) refl (law_limits p within r)
+-- in a program within its limits what has cells has an address
+things_low : (p : Program) → IsFormed p → breaks_of p ≡ [] → IsWithinLimits p → (r : ℕ) (o : Owner) (x : List Link) (b : Ty) → 1 ≤ span (table_of p) b → LiesInScope (table_of p) (source_of p) r o (Place o x) b → address x < LAST_ADDRESS
+things_low p formed accepted within r o x b one h = by (slice_get (source_of p).routines r) refl (law_limits p within r)
   where
     by : (q : Option Routine) → slice_get (source_of p).routines r ≡ q → MaybeRoutineFits MOST_CELLS q → address x < LAST_ADDRESS
     by None e fits = absurd (subst (InRoutine h.clean) e h.scope)
@@ -219,12 +234,15 @@ variables_low p formed accepted within r o x b h = by (slice_get (source_of p).r
         let z : LiesBehind p q h.clean = scope_behind p accepted r q e h.clean h.scope in
         let i : Between (table_of p) z.low z.high h.cell h.type = between (Sized p) (table_of p) l z.low z.high h.cell h.type h.clean z.lies h.cleans in
         let u = bounds (table_of p) (Sized p) l i.flat tt h.within in
-        let high : offset x + 1 ≤ (0 + h.cell) + span (table_of p) h.type = u.high in
+        let high : offset x + span (table_of p) b ≤ (0 + h.cell) + span (table_of p) h.type = u.high in
         let last = i.last in
         let cells : z.high ≤ q.cells = z.cells in
         let few : q.cells ≤ MOST_CELLS = fits.cells in
         let most : MOST_CELLS < LAST_ADDRESS = omega arith in
-        has_address x (omega (arith, high, last, cells, few, most))
+        has_address x (omega (arith, high, one, last, cells, few, most))
+
+pub first_low : (p : Program) → IsFormed p → breaks_of p ≡ [] → IsWithinLimits p → (r : ℕ) (o : Owner) (x : List Link) (c : ℕ) → (table_of p).executes c ≡ true → LiesInScope (table_of p) (source_of p) r o (Place o x) (Obj c) → address x < LAST_ADDRESS
+first_low p formed accepted within r o x c ex h = things_low p formed accepted within r o x (Obj c) (leading p accepted c ex).cells h
 
 -- and so have bindings in mutex objects: the cells of a class are limited by a rule
 
@@ -263,8 +281,17 @@ objects_low p formed accepted o c x b m h =
     let most : CLASS_CELLS < LAST_ADDRESS = omega arith in
     has_address x (omega (arith, high, few, most))
 
+pub first_low_in : (p : Program) → IsFormed p → breaks_of p ≡ [] → (o c : ℕ) (v : Value) (d : ℕ) → (table_of p).mutex c ≡ true → (table_of p).executes d ≡ true → Within (table_of p) (Object o) (Obj c) v (Obj d) → first_cell v < LAST_ADDRESS
+first_low_in p formed accepted o c v d m ex h =
+    let u = bounds (table_of p) (Sized p) (laid_out p formed accepted) tt tt h in
+    let high : offset_of v + shape_cells (class_shape p d) ≤ 0 + shape_cells (class_shape p c) = u.high in
+    let one = (leading p accepted d ex).cells in
+    let few = class_low p formed accepted c m in
+    let most : CLASS_CELLS < LAST_ADDRESS = omega arith in
+    first_has v (omega (arith, high, one, few, most))
+
 pub law_addresses : LawAddresses
 law_addresses = record {
-  variables = λ p formed accepted within r o x b h. variables_low p formed accepted within r o x b h;
+  variables = λ p formed accepted within r o x b h. things_low p formed accepted within r o x (Cell b) (omega arith) h;
   objects = λ p formed accepted o c x b m h. objects_low p formed accepted o c x b m h;
 }

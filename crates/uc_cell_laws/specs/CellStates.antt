@@ -1,5 +1,5 @@
 -- Tasks in which each frame is one of a routine, and its own cells hold no object or the one that is at home there, of the class of the cell; so do those of each
--- mutex object, by the class of which it was made. The to-do lists of all activations that use a frame are code of its routine, before operands of which it is
+-- mutex object, by the class of which it was made. The first cell of a coroutine names no execution of which that is the own. The to-do lists of all activations that use a frame are code of its routine, before operands of which it is
 -- known where they lie, and what a constructor or a destructor has at hand is an own part, of its class, of a variable or of a mutex object.
 use Rattle.std.specs.Prelude.{◌≡◌, ℕ, suc, ◌≤◌, ◌<◌, ◌⊎◌, Bool, true, false, List, [], ◌∷◌, ◌++◌, length, slice_index_or, drop, Option, None, Some}
 use Rattle.uc_entry.specs.declared.request.Answer.{Answer}
@@ -13,10 +13,13 @@ use Rattle.uc_machine.specs.declared.exec.Owner.TheVariants.{Frame, Fields}
 use Rattle.uc_machine.specs.Executions.{Execution, at_depth, exec_eq}
 use Rattle.uc_machine.specs.Pieces as piece
 use Rattle.uc_machine.specs.Pieces.{Link, Value, Number, Place, Running, Object, Nothing, LAST_ADDRESS, address, nought, top, below, Todo, Active, State, Env, Members, Step, Goes, Ticks, Asks}
+use Rattle.uc_machine.specs.Quiet.{home_at}
+use Rattle.uc_machine.specs.Switches.{new_exec}
 use Rattle.uc_answer_laws.specs.Suiting.{form_of_request}
 use Rattle.uc_typing.specs.Typing.{Ty, Cell, Obj}
 use Rattle.uc_state_laws.specs.Counted.{params}
 use Rattle.uc_state_laws.specs.Marked.{operands}
+use Rattle.uc_life_laws.specs.Belonging.{Belongs}
 use Rattle.uc_life_laws.specs.HomedStates.{Inside}
 use Rattle.uc_life_laws.specs.LifeStates.{MembersBy, EnvBy}
 use Rattle.uc_cell_laws.specs.Sites.{Telling, IsNoMaker}
@@ -30,6 +33,14 @@ is_unframed (Place (Fields o) p) = true
 is_unframed (Running x) = true
 is_unframed (Object o) = true
 is_unframed Nothing = true
+
+-- the cell at which something begins
+abbrev pub first_cell : Value → ℕ
+first_cell (Number z) = 0
+first_cell (Place o p) = address p
+first_cell (Running x) = 0
+first_cell (Object o) = 0
+first_cell Nothing = 0
 
 module _ (g : Telling) where
   -- the cell of a mutex object of the class c is an own part of what a scope of a routine is of, in a frame
@@ -53,18 +64,53 @@ module _ (g : Telling) where
   IsOwnField o x d = (c : ℕ) × (g.table.mutex d ≡ true) × (g.class o ≡ Some c) × (g.table.mutex c ≡ true) ×
       Inside g.table g.owns (Object o) (Obj c) (Place (Fields o) x) (Cell (Obj d))
 
+  -- a coroutine is an own part of what a scope of a routine is of, in a frame; so is one of a mutex object
+  abbrev pub IsOwnCoroutine : ℕ → Owner → Value → ℕ → Type 0
+  IsOwnCoroutine r o v c = (g.table.executes c ≡ true) × IsOwnPart g.table g.owns g.source r o v (Obj c)
+
+  abbrev pub IsCoroutineIn : ℕ → Value → ℕ → Type 0
+  IsCoroutineIn o v d = (c : ℕ) × (g.table.executes d ≡ true) × (g.class o ≡ Some c) × (g.table.mutex c ≡ true) ×
+      Inside g.table g.owns (Object o) (Obj c) v (Obj d)
+
+  -- a value does not name the execution of which all that this owner holds is the own, where that is told
+  abbrev pub IsAllowed : Owner → Value → Type 0
+  IsAllowed o v = (m : Exec) → v ≡ Running m → g.naming ≡ true → Belongs g.few m (Place o []) → ⊥
+
+  -- so it is of what is written to a place
+  abbrev pub MayName : Value → Value → Type 0
+  MayName (Number z) w = Unit {0}
+  MayName (Place o p) w = IsAllowed o w
+  MayName (Running x) w = Unit {0}
+  MayName (Object o) w = IsAllowed (Fields o) w
+  MayName Nothing w = Unit {0}
+
   -- a value is no object, or the one that is at home at a place, of this class
   abbrev pub IsFree : Value → ℕ → Value → Type 0
   IsFree place c v = (o : ℕ) → v ≡ Object o → (g.few.home o ≡ place) × (g.class o ≡ Some c)
 
   -- so is what each own cell of a routine holds, in its frame of a depth with these values, and each of a mutex object
-  abbrev pub Cells : Exec → ℕ → ℕ → List Value → Type 0
-  Cells n r d vs = (x : List Link) (c : ℕ) → IsOwnCell r (Frame n d) x c → address x < LAST_ADDRESS →
+  abbrev pub HomeCells : Exec → ℕ → ℕ → List Value → Type 0
+  HomeCells n r d vs = (x : List Link) (c : ℕ) → IsOwnCell r (Frame n d) x c → address x < LAST_ADDRESS →
       IsFree (Place (Frame n d) x) c (slice_index_or vs (address x) nought)
 
-  abbrev pub FieldCells : ℕ → List Value → Type 0
-  FieldCells o vs = (x : List Link) (c : ℕ) → IsOwnField o x c → address x < LAST_ADDRESS →
+  abbrev pub HomeFields : ℕ → List Value → Type 0
+  HomeFields o vs = (x : List Link) (c : ℕ) → IsOwnField o x c → address x < LAST_ADDRESS →
       IsFree (Place (Fields o) x) c (slice_index_or vs (address x) nought)
+
+  -- and the first cell of each own coroutine names none of which that is the own
+  abbrev pub NameCells : Exec → ℕ → ℕ → List Value → Type 0
+  NameCells n r d vs = (v : Value) (c : ℕ) → IsOwnCoroutine r (Frame n d) v c → first_cell v < LAST_ADDRESS →
+      IsAllowed (Frame n d) (slice_index_or vs (first_cell v) nought)
+
+  abbrev pub NameFields : ℕ → List Value → Type 0
+  NameFields o vs = (v : Value) (c : ℕ) → IsCoroutineIn o v c → first_cell v < LAST_ADDRESS →
+      IsAllowed (Fields o) (slice_index_or vs (first_cell v) nought)
+
+  abbrev pub Cells : Exec → ℕ → ℕ → List Value → Type 0
+  Cells n r d vs = HomeCells n r d vs × NameCells n r d vs
+
+  abbrev pub FieldCells : ℕ → List Value → Type 0
+  FieldCells o vs = HomeFields o vs × NameFields o vs
 
   abbrev pub HandCells : List (ℕ × Members) → Type 0
   HandCells [] = Unit {0}
@@ -152,11 +198,14 @@ module _ (g : Telling) where
   CellStep (Ticks s) = CellState s
   CellStep (Asks r s) = CellAsk r s
 
-  -- a value may be written to a place: what is an own cell there is its home, if it is an object, and of its class
+  -- a value may be written to a place: what is an own cell there is its home, if it is an object, and of its class, and the first cell of an own coroutine there
+  -- may hold it
   module _ (rs : List ℕ) where
     abbrev pub OwnerFits : Owner → ℕ → Value → Env → Type 0
-    OwnerFits (Frame m d) cell w e = (exec_eq m e.exec ≡ true) × ((r : ℕ) → at_depth rs d ≡ Some r → (x : List Link) (c : ℕ) → IsOwnCell g r (Frame e.exec d) x c → address x < LAST_ADDRESS → address x ≡ cell → IsFree g (Place (Frame e.exec d) x) c w)
-    OwnerFits (Fields o) cell w e = (x : List Link) (c : ℕ) → IsOwnField g o x c → address x < LAST_ADDRESS → address x ≡ cell → IsFree g (Place (Fields o) x) c w
+    OwnerFits (Frame m d) cell w e = (exec_eq m e.exec ≡ true) × ((r : ℕ) → at_depth rs d ≡ Some r → (x : List Link) (c : ℕ) → IsOwnCell g r (Frame e.exec d) x c → address x < LAST_ADDRESS → address x ≡ cell → IsFree g (Place (Frame e.exec d) x) c w) ×
+        ((r : ℕ) → at_depth rs d ≡ Some r → (v : Value) (c : ℕ) → IsOwnCoroutine g r (Frame e.exec d) v c → first_cell v < LAST_ADDRESS → first_cell v ≡ cell → IsAllowed g (Frame e.exec d) w)
+    OwnerFits (Fields o) cell w e = ((x : List Link) (c : ℕ) → IsOwnField g o x c → address x < LAST_ADDRESS → address x ≡ cell → IsFree g (Place (Fields o) x) c w) ×
+        ((v : Value) (c : ℕ) → IsCoroutineIn g o v c → first_cell v < LAST_ADDRESS → first_cell v ≡ cell → IsAllowed g (Fields o) w)
 
     abbrev pub Fits : Value → Value → Env → Type 0
     Fits (Place o p) w e = OwnerFits o (address p) w e
@@ -168,13 +217,15 @@ module _ (g : Telling) where
   FindsNumber q s = g.special q ≡ true → (c : ℕ) → (g.table.routine q).this ≡ Some c → g.table.mutex c ≡ true →
       (o : ℕ) × (top (drop (params g.source q) s.run.operands) ≡ Object o)
 
-  -- so a step is to find it; what is called without an object is none of these; and what is bound to a new object is its home
+  -- so a step is to find it; what is called without an object is none of these; what is bound to a new object is its home; and a coroutine that is set up is
+  -- not the own of its new execution
   abbrev pub FindsAt : List Todo → State → Type 0
   FindsAt (piece.BindMadeNow c r ∷ todo) s = (o : ℕ) → top s.run.operands ≡ Object o →
       g.few.home o ≡ top (drop (params g.source r) (below s.run.operands))
   FindsAt (piece.CallNow q ∷ todo) s = IsNoMaker g q
   FindsAt (piece.CallOnNow q ∷ todo) s = FindsNumber q s
   FindsAt (piece.CallUnwrittenNow q ∷ todo) s = FindsNumber q s
+  FindsAt (piece.SetUpNow q ∷ todo) s = g.naming ≡ true → Belongs g.few (new_exec (home_at s.run.this s.env) s.env) s.run.this → ⊥
   FindsAt todo s = Unit {0}
 
   abbrev pub CellFinds : State → Type 0

@@ -12,7 +12,7 @@ use Rattle.uc_state_laws.specs.Counted.{params, count, CountedExpr, CountedExprs
 use Rattle.uc_life_laws.specs.Things.{IsField, IsMutex}
 use Rattle.uc_life_laws.specs.HomedStates.{Owns, Inside}
 use Rattle.uc_cell_laws.specs.Scopes.{IsScopeOf}
-use Rattle.uc_cell_laws.specs.Sites.{Telling, IsNoMaker, HasPlace, IsLent, SitedExpr, SitedExprs, SitedMaybe, SitedItems, SitedTargets, SitedDeclared, SitedClean, SitedStmt, SitedStmts, SitedHandlers, SitedClauses}
+use Rattle.uc_cell_laws.specs.Sites.{Telling, IsNoMaker, IsExecuting, HasPlace, IsLent, SitedExpr, SitedExprs, SitedMaybe, SitedItems, SitedTargets, SitedDeclared, SitedClean, SitedStmt, SitedStmts, SitedHandlers, SitedClauses}
 
 -- something of a type is an own part of what a scope of the routine of this number is of, which stands at a variable of a frame
 pub record IsOwnPart (t : Table) (owns : Owns) (source : Source) (r : ℕ) (o : Owner) (v : Value) (b : Ty) : Type 0 where
@@ -258,6 +258,7 @@ module _ (g : Telling) (r : ℕ) where
   CodePiece (piece.Guards cs) ms = CodeClauses cs
   CodePiece (piece.ChooseNow cs) ms = CodeClauses cs
   CodePiece (piece.SetUpNow q) ms = IsNoMaker g q
+  CodePiece piece.ForgetNow ms = IsExecuting g r
   CodePiece (piece.SpawnNow q) ms = IsNoMaker g q
   CodePiece (piece.ChildNow q) ms = IsNoMaker g q
   CodePiece p ms = Unit {0}

@@ -5,3 +5,4 @@ pub mod CellTodos
 pub mod CellStates
 pub mod Classes
 pub mod OwnCells
+pub mod Coroutines

@@ -55,9 +55,12 @@ is_of_objects p (Some c) = not (of_kind is_event (class_at p c))
 abbrev pub builds_or_ends : Program → ℕ → Bool
 builds_or_ends p r = ((table_of p).routine r).whole && is_of_objects p ((table_of p).routine r).this
 
--- `class`: of which class what has a number was made
+-- `class`: of which class what has a number was made; `naming`: it is told too that no first cell of an own coroutine names one whose own that is
+abbrev pub telling_by : Program → Few → (ℕ → Option ℕ) → Bool → Telling
+telling_by p few class naming = record { table = table_of p; source = source_of p; owns = owns_of p; special = builds_or_ends p; few = few; class = class; naming = naming }
+
 abbrev pub telling_of : Program → Few → (ℕ → Option ℕ) → Telling
-telling_of p few class = record { table = table_of p; source = source_of p; owns = owns_of p; special = builds_or_ends p; few = few; class = class }
+telling_of p few class = telling_by p few class false
 
 -- in a program that breaks no rule a value may be written to a binding in what scopes of the routine of a frame are of: where it is at home there, and of the
 -- class, if it is an object; where no mutex object is bound there; and where that is a field that is a reference. So it may be to a binding in a mutex object

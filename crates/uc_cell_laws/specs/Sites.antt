@@ -1,15 +1,15 @@
 -- Code of a routine in which what is built, destroyed and bound stands where the routine has it: at a variable that is an object, or an array of such, at a
 -- field of the object at hand, or at an element of one of these.
 use Rattle.std.specs.Prelude.{◌≡◌, ℕ, ◌⊎◌, Bool, true, false, List, Option, Some, None, slice_get}
-use Rattle.uc_tree.specs.Source.{Shape, Expr, Exprs, ObjectExpr, Variable, Element, Load, OfObject, OwnField, CallOn, CallLive, CallUnwritten, EnterOn, EndOn, Bind, MakeOn, Item, Target, Declared, CleanUp, Frees, Stmt, Stmts, TaskStmt, SetUp, Handlers, Clauses, Raised, Routine, Source}
+use Rattle.uc_tree.specs.Source.{Shape, Expr, Exprs, ObjectExpr, Variable, Element, Load, OfObject, OwnField, CallOn, CallLive, CallUnwritten, EnterOn, EndOn, Bind, MakeOn, Item, Target, Declared, CleanUp, Forgets, Frees, Stmt, Stmts, TaskStmt, SetUp, Handlers, Clauses, Raised, Routine, Source}
 use Rattle.uc_typing.specs.Typing.{Ty, Cell, Obj, Row, Table, element_shape, CleansAt}
 use Rattle.uc_inner_laws.specs.Walks as walk
 use Rattle.uc_life_laws.specs.Things.{Few, IsField, IsMutex}
 use Rattle.uc_life_laws.specs.HomedStates.{Owns}
 use Rattle.uc_cell_laws.specs.Scopes.{IsScopeOf}
 
--- a source with the table of its types, which fields hold what is their own, which routines are constructors and destructors, what there is, and of which class
--- each mutex object was made, by its number
+-- a source with the table of its types, which fields hold what is their own, which routines are constructors and destructors, what there is, of which class
+-- each mutex object was made, by its number, and whether it is told too whom first cells of coroutines name
 pub record Telling : Type 0 where
   pub table : Table
   pub source : Source
@@ -17,6 +17,7 @@ pub record Telling : Type 0 where
   pub special : ℕ → Bool
   pub few : Few
   pub class : ℕ → Option ℕ
+  pub naming : Bool
 
 -- a routine is no constructor and no destructor
 abbrev pub IsNoMaker : Telling → ℕ → Type 0
@@ -32,6 +33,10 @@ module _ (g : Telling) (r : ℕ) where
     pub shape : h ≡ g.table.shape class
     pub field : IsField g.table class i
     pub type : a ≡ g.table.fields class i
+
+  -- the routine builds or destroys a coroutine, at the first cell of which its execution is found
+  abbrev pub IsExecuting : Type 0
+  IsExecuting = (g.special r ≡ true) × ((c : ℕ) × ((g.table.routine r).this ≡ Some c) × (g.table.executes c ≡ true))
 
   -- a place of this type: at a variable of which a scope of the routine is, at an own field of the object at hand, or at an element of one
   abbrev pub HasPlace : Expr → Ty → Type 0
@@ -81,6 +86,8 @@ module _ (g : Telling) (r : ℕ) where
 
   abbrev pub AtClean : Unit {0} → CleanUp → Type 0
   AtClean u (Frees (Some q)) = IsNoMaker g q
+  -- an execution is forgotten by what destroys its coroutine, or fails to build it
+  AtClean u Forgets = IsExecuting
   AtClean u c = Unit {0}
 
   abbrev pub same : CleanUp → Unit {0} → Unit {0}

@@ -1,5 +1,6 @@
 // The laws: each is a function whose contract is the law.
 
+ghost use Rattle.uc_cell_laws.specs.Coroutines.{LawCoroutines};
 ghost use Rattle.uc_cell_laws.specs.OwnCells.{LawCells, LawFits};
 ghost use Rattle.uc_cell_laws.specs.Places.{LawAddresses, LawPlaces, LawVariables};
 ghost use Rattle.uc_cell_laws.specs.Scopes.{LawScopes};
@@ -37,4 +38,10 @@ pub fn law_cells()
 /// reference: in frames and in mutex objects.
 pub fn law_fits()
     ensures { LawFits }
+{}
+
+/// So the first cell of each coroutine names no execution of which the coroutine is the own, in each such
+/// run in which none that is set up is that of its new execution: no step forgets the execution that runs.
+pub fn law_coroutines()
+    ensures { LawCoroutines }
 {}

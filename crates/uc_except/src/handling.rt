@@ -130,8 +130,8 @@ fn handling_at(work: &Work, row: HandlerRow, frame: u32, event: Event) -> Option
         None => None,
         Some(active) => Some(HandlerStart {
             entry: row.entry,
-            this: active.this,
-            frame: active.frame,
+            this: active.head.this,
+            frame: active.head.frame,
             visited: Visited {
                 level: frame,
                 rest: row.rest,

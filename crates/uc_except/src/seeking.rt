@@ -70,7 +70,7 @@ fn catch_at(code: &Code, work: &Work, level: u32, event: u8) -> Option<u32>
 {
     match work.activation(level) {
         None => None,
-        Some(active) => first_handler(code, active.next, HandlerQuery::Catch(event)),
+        Some(active) => first_handler(code, active.head.next, HandlerQuery::Catch(event)),
     }
 }
 
@@ -111,8 +111,8 @@ fn resumption_at(code: &Code, work: &Work, level: u32, rest: Option<u32>, event:
     match work.activation(level) {
         None => None,
         Some(active) => match rest {
-            None => first_handler(code, active.next, HandlerQuery::Resume(event)),
-            Some(rest) => first_within(code, active.next, rest, HandlerQuery::Resume(event)),
+            None => first_handler(code, active.head.next, HandlerQuery::Resume(event)),
+            Some(rest) => first_within(code, active.head.next, rest, HandlerQuery::Resume(event)),
         },
     }
 }

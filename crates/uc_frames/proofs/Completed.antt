@@ -1,11 +1,17 @@
 -- Activations with their operands, which lie in a block.
-use Rattle.std.proofs.Common.{◌≡◌, ℕ, List, [], ◌∷◌, length, Some, None, Bool, true, false, suc, refl, sym, ap}
+use Rattle.std.proofs.Common.{◌≡◌, ℕ, List, [], ◌∷◌, length, Option, Some, None, Bool, true, false, suc, refl, sym, ap, subst}
 use Rattle.std.specs.Prelude.{nat_eq, if◌then◌else◌}
 use Rattle.std.proofs.lemmas.Option.{none-some, same_Some}
 use Rattle.uc_machine.specs.Executions.{at_depth, first_or, others}
 use Rattle.uc_frames.specs.declared.active.Activation.{Activation as Row}
 use Rattle.uc_frames.specs.declared.cell.Cell.{Cell}
-use Rattle.uc_frames.specs.Block.{completed, all_completed}
+use Rattle.uc_machine.specs.declared.exec.UnwindReason.{UnwindReason}
+use Rattle.uc_machine.specs.declared.exec.Visited.{Visited}
+use Rattle.uc_frames.specs.Block.{completed, all_completed, exceptional}
+
+-- of one that says nothing exceptional
+pub nothing_handled : (b : Bool) (h : Option Visited) (r : Option UnwindReason) (given : Cell) → exceptional b h r given → b ≡ false → h ≡ None
+nothing_handled b h r given e q = (subst (λ x. exceptional x h r given) q e).0
 
 -- as many, and each at its depth
 

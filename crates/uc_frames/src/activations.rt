@@ -1,6 +1,6 @@
 // The activations of the execution that runs: calls, their ends, handlers, and what events do to them.
 
-ghost use Rattle.std.specs.Prelude.{◌≡◌, ◌-◌, ◌<◌, ◌∷◌, [], List, length, reverse, nat_lt, None, Some, IfOk, OnOk, OnErr, MatchOption, slice_get, true};
+ghost use Rattle.std.specs.Prelude.{◌≡◌, ◌-◌, ◌<◌, ◌∷◌, [], List, length, reverse, nat_lt, None, Some, IfOk, OnOk, OnErr, MatchOption, slice_get, true, false};
 ghost use Rattle.uc_machine.specs.Executions.{at_depth, calmed};
 ghost use Rattle.uc_machine.specs.Insides.{counted_no_more};
 ghost use Rattle.uc_frames.specs.declared.cell.Cell.{Cell};
@@ -28,35 +28,35 @@ impl Work {
     pub fn next(&self) -> u32
         ensures { result ≡ self.now.run.control }
     {
-        self.task.running.run.next
+        self.task.running.run.head.next
     }
 
     /// Another op is next.
     pub fn set_next(&mut self, to: u32)
         ensures { self.new ≡ record self.old { run = record self.old.run { control = to } } }
     {
-        self.task.running.run.next = to;
+        self.task.running.run.head.next = to;
     }
 
     /// The object of the running activation.
     pub fn this(&self) -> Cell
         ensures { result ≡ self.now.run.this }
     {
-        self.task.running.run.this
+        self.task.running.run.head.this
     }
 
     /// How many elements stand of the array that the running activation builds or destroys.
     pub fn elements(&self) -> u32
         ensures { result ≡ self.now.run.elements }
     {
-        self.task.running.run.elements
+        self.task.running.run.head.elements
     }
 
     /// So many elements stand.
     pub fn set_elements(&mut self, count: u32)
         ensures { self.new ≡ record self.old { run = record self.old.run { elements = count } } }
     {
-        self.task.running.run.elements = count;
+        self.task.running.run.head.elements = count;
     }
 
     /// How many calls are active in the running execution.
@@ -78,33 +78,12 @@ impl Work {
     }
 
     /// Makes a call without an object, which counts: the newest operands are the routine's parameters.
-    #[inline(always)]
     pub fn call(&mut self, routine: RoutineCode) -> Result<(), AllocError>
         requires { self.old.env.links.calls < CALLS }
         ensures ok { OnOk result (self.new ≡ called (plain_call routine) self.old) }
         ensures err { OnErr result (self.new ≡ self.old) }
     {
-        let call = Call {
-            routine,
-            this: Cell::Nothing,
-            taken: u64::from(routine.params),
-            counts: true,
-        };
-        if !self.task.running.enter_in_place(call) {
-            self.call_with_room(routine)?;
-        }
-        Ok(())
-    }
-
-    // The same, where it may need more room. It stands apart and is handed no more than the routine, so that nothing is kept for it.
-    #[cold]
-    #[inline(never)]
-    fn call_with_room(&mut self, routine: RoutineCode) -> Result<(), AllocError>
-        requires { self.old.env.links.calls < CALLS }
-        ensures ok { OnOk result (self.new ≡ called (plain_call routine) self.old) }
-        ensures err { OnErr result (self.new ≡ self.old) }
-    {
-        self.task.running.enter_with_room(Call {
+        self.task.running.enter(Call {
             routine,
             this: Cell::Nothing,
             taken: u64::from(routine.params),
@@ -113,41 +92,43 @@ impl Work {
         Ok(())
     }
 
-    /// Makes a call at the object below its arguments, which counts or does not: the newest operands are the routine's parameters.
+    /// The same where that needs no more room and nothing exceptional is said, as most calls. The answer is whether it does not; else all
+    /// stays as it is.
     #[inline(always)]
+    pub fn call_in_place(&mut self, routine: RoutineCode) -> bool
+        requires { self.old.env.links.calls < CALLS }
+        ensures made { result ≡ true → self.new ≡ called (plain_call routine) self.old }
+        ensures stays { result ≡ false → self.new ≡ self.old }
+    {
+        let made = self.task.running.enter_bare(routine);
+        made
+    }
+
+    /// Makes a call at the object below its arguments, which counts or does not: the newest operands are the routine's parameters.
     pub fn call_on(&mut self, routine: RoutineCode, counts: bool) -> Result<(), AllocError>
         requires { counts ≡ true → self.old.env.links.calls < CALLS }
         ensures ok { OnOk result (self.new ≡ called (object_call routine counts self.old) self.old) }
         ensures err { OnErr result (self.new ≡ self.old) }
     {
-        let call = Call {
-            routine,
-            this: self.below(routine.params),
-            taken: u64::from(routine.params) + 1,
-            counts,
-        };
-        if !self.task.running.enter_in_place(call) {
-            self.call_on_with_room(routine, counts)?;
-        }
-        Ok(())
-    }
-
-    // The same, where it may need more room.
-    #[cold]
-    #[inline(never)]
-    fn call_on_with_room(&mut self, routine: RoutineCode, counts: bool) -> Result<(), AllocError>
-        requires { counts ≡ true → self.old.env.links.calls < CALLS }
-        ensures ok { OnOk result (self.new ≡ called (object_call routine counts self.old) self.old) }
-        ensures err { OnErr result (self.new ≡ self.old) }
-    {
         let this = self.below(routine.params);
-        self.task.running.enter_with_room(Call {
+        self.task.running.enter(Call {
             routine,
             this,
             taken: u64::from(routine.params) + 1,
             counts,
         })?;
         Ok(())
+    }
+
+    /// The same of one that counts, where that needs no more room and nothing exceptional is said.
+    #[inline(always)]
+    pub fn call_on_in_place(&mut self, routine: RoutineCode) -> bool
+        requires { self.old.env.links.calls < CALLS }
+        ensures made { result ≡ true → self.new ≡ called (object_call routine true self.old) self.old }
+        ensures stays { result ≡ false → self.new ≡ self.old }
+    {
+        let made = self.task.running.enter_on(routine);
+        made
     }
 
     /// The running activation is left with its frame, and the one that waits for it goes on with what it is handed. Where none
@@ -161,13 +142,16 @@ impl Work {
         Ok(called)
     }
 
-    /// The same, where the one that waits is handed nothing.
+    /// The same, where the one that waits is handed nothing. Where none waits, or the running activation handles a resumption, all stays as it
+    /// is, and the answer is false.
     #[inline(always)]
-    pub fn leave_bare(&mut self) -> bool
-        ensures called { result ≡ nat_lt 0 (length self.old.callers) }
-        ensures after { self.new ≡ left_bare self.old.callers self.old }
+    pub fn give_back(&mut self) -> bool
+        ensures over { result ≡ true → self.new ≡ left_bare self.old.callers self.old }
+        ensures called { result ≡ true → nat_lt 0 (length self.old.callers) ≡ true }
+        ensures plain { result ≡ true → self.old.run.handles ≡ None }
+        ensures stays { result ≡ false → self.new ≡ self.old }
     {
-        let called = self.task.running.leave_bare();
+        let called = self.task.running.give_back();
         called
     }
 
@@ -235,7 +219,7 @@ impl Work {
     {
         let running = &mut *self.task.running;
         running.block.drop_all();
-        running.run.is_exceptional = true;
+        running.run.head.is_exceptional = true;
         running.run.raised = Some(why);
         running.run.result = given;
     }
@@ -246,9 +230,9 @@ impl Work {
     {
         let running = &mut *self.task.running;
         running.block.drop_all();
-        running.run.next = to;
+        running.run.head.next = to;
         running.run.raised = None;
-        running.run.is_exceptional = running.run.says_more();
+        running.run.head.is_exceptional = running.run.says_more();
     }
 
     /// A clean-up of the running activation begins at this op.
@@ -257,7 +241,7 @@ impl Work {
     {
         let running = &mut *self.task.running;
         running.block.drop_all();
-        running.run.next = entry;
+        running.run.head.next = entry;
     }
 
     /// The handler at this op catches an event in the running activation.
@@ -267,9 +251,9 @@ impl Work {
     {
         let running = &mut *self.task.running;
         running.block.put_event(event)?;
-        running.run.next = entry;
+        running.run.head.next = entry;
         running.run.raised = None;
-        running.run.is_exceptional = running.run.says_more();
+        running.run.head.is_exceptional = running.run.says_more();
         Ok(())
     }
 
@@ -306,9 +290,9 @@ impl Work {
     pub fn count_no_more(&mut self)
         ensures { self.new ≡ counted_no_more self.old }
     {
-        let counts = self.task.running.run.counts;
+        let counts = self.task.running.run.head.counts;
         self.task.running.links.leave(counts);
-        self.task.running.run.counts = false;
+        self.task.running.run.head.counts = false;
     }
 
     /// A return of a handler has arrived at the running mutex call, which goes on at this op with what that hands over.
@@ -318,9 +302,9 @@ impl Work {
     {
         let running = &mut *self.task.running;
         running.block.replace_all(running.run.result)?;
-        running.run.next = to;
+        running.run.head.next = to;
         running.run.raised = None;
-        running.run.is_exceptional = running.run.says_more();
+        running.run.head.is_exceptional = running.run.says_more();
         Ok(())
     }
 }
@@ -333,7 +317,7 @@ fn line_from(code: &Code, callers: &[Activation], line: u32) -> u32
         None => line,
         Some((caller, outer)) => {
             if line == 0 {
-                line_from(code, outer, line_before(code, caller.next))
+                line_from(code, outer, line_before(code, caller.head.next))
             } else {
                 line
             }

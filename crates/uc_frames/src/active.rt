@@ -9,18 +9,24 @@ use crate::cell::{Cell, is_nothing};
 use crate::event::HandlerStart;
 use uc_machine::exec::{UnwindReason, Visited};
 
-/// What is next in an activation, the object of a member's call, the depth of the frame whose variables it uses, whether it counts as
-/// an active call, how many elements stand of the array that it builds or destroys, how far the search came where it handles a
-/// resumption, why it is unwound, and what a return that unwinds it hands over. Its operands lie in the block of its execution. Of an
-/// activation that is not exceptional the last three say nothing, and they are not copied from one such activation to another.
+/// What a call and a return copy of an activation as one: what is next in it, the depth of the frame whose variables it uses, how many
+/// elements stand of the array that it builds or destroys, whether it counts as an active call, and the object of a member's call.
 #[derive(Clone, Copy)]
-pub struct Activation {
+pub struct Head {
     pub next: u32,
     pub frame: u32,
     pub elements: u32,
     pub counts: bool,
     pub(crate) is_exceptional: bool,
     pub this: Cell,
+}
+
+/// An activation: its head, how far the search came where it handles a resumption, why it is unwound, and what a return that unwinds it
+/// hands over. Its operands lie in the block of its execution. Of an activation that is not exceptional the last three say nothing, and
+/// they are not copied from one such activation to another.
+#[derive(Clone, Copy)]
+pub struct Activation {
+    pub head: Head,
     pub handles: Option<Visited>,
     pub raised: Option<UnwindReason>,
     pub result: Cell,
@@ -33,12 +39,14 @@ impl Activation {
         ensures told { Told result }
     {
         Activation {
-            next: entry,
-            this,
-            frame,
-            counts,
-            elements: 0,
-            is_exceptional: false,
+            head: Head {
+                next: entry,
+                frame,
+                elements: 0,
+                counts,
+                is_exceptional: false,
+                this,
+            },
             handles: None,
             raised: None,
             result: Cell::Nothing,
@@ -52,38 +60,51 @@ impl Activation {
         ensures begins { completed self.new [] ≡ begun entry this frame Cell.Nothing counts }
         ensures told { Told self.new }
     {
-        self.next = entry;
-        self.this = this;
-        self.frame = frame;
-        self.counts = counts;
-        self.elements = 0;
-        if self.is_exceptional {
+        self.head.next = entry;
+        self.head.this = this;
+        self.head.frame = frame;
+        self.head.counts = counts;
+        self.head.elements = 0;
+        if self.head.is_exceptional {
             self.forget();
         }
     }
 
-    // The same where nothing exceptional is said.
+    // The same where nothing exceptional is said, as an active call for the object that is here.
     #[inline(always)]
-    pub(crate) fn begin_plain(&mut self, entry: u32, this: Cell, frame: u32, counts: bool)
+    pub(crate) fn begin_here(&mut self, entry: u32, frame: u32)
         requires told { Told self.old }
-        requires plain { self.old.is_exceptional ≡ false }
-        ensures begins { completed self.new [] ≡ begun entry this frame Cell.Nothing counts }
+        requires plain { self.old.head.is_exceptional ≡ false }
+        ensures begins { completed self.new [] ≡ begun entry self.old.head.this frame Cell.Nothing true }
         ensures told { Told self.new }
     {
-        self.next = entry;
-        self.this = this;
-        self.frame = frame;
-        self.counts = counts;
-        self.elements = 0;
+        self.head.next = entry;
+        self.head.frame = frame;
+        self.head.counts = true;
+        self.head.elements = 0;
+    }
+
+    // The same without an object.
+    #[inline(always)]
+    pub(crate) fn begin_bare(&mut self, entry: u32, frame: u32)
+        requires told { Told self.old }
+        requires plain { self.old.head.is_exceptional ≡ false }
+        ensures begins { completed self.new [] ≡ begun entry Cell.Nothing frame Cell.Nothing true }
+        ensures told { Told self.new }
+    {
+        if !is_nothing(&self.head.this) {
+            self.head.this = Cell::Nothing;
+        }
+        self.begin_here(entry, frame);
     }
 
     // Nothing exceptional is said any more.
     #[cold]
     #[inline(never)]
     fn forget(&mut self)
-        ensures { self.new ≡ record self.old { is_exceptional = false; handles = None; raised = None; result = Cell.Nothing } }
+        ensures { self.new ≡ record self.old { head = record self.old.head { is_exceptional = false }; handles = None; raised = None; result = Cell.Nothing } }
     {
-        self.is_exceptional = false;
+        self.head.is_exceptional = false;
         self.handles = None;
         self.raised = None;
         self.result = Cell::Nothing;
@@ -103,14 +124,9 @@ impl Activation {
         requires other { Told other.now }
         ensures { self.new ≡ other.now }
     {
-        self.next = other.next;
-        self.frame = other.frame;
-        self.elements = other.elements;
-        self.counts = other.counts;
-        if !(is_nothing(&self.this) && is_nothing(&other.this)) {
-            self.this = other.this;
-        }
-        if self.is_exceptional || other.is_exceptional {
+        let is_exceptional = self.head.is_exceptional || other.head.is_exceptional;
+        self.head = other.head;
+        if is_exceptional {
             self.copy_exceptional(other);
         }
     }
@@ -121,28 +137,22 @@ impl Activation {
         requires told { Told self.old }
         requires other { Told other.now }
         ensures made { result ≡ true → self.new ≡ other.now }
-        ensures plain { result ≡ true → other.now.is_exceptional ≡ false }
+        ensures own { result ≡ true → self.old.head.is_exceptional ≡ false }
+        ensures plain { result ≡ true → other.now.head.is_exceptional ≡ false }
         ensures stays { result ≡ false → self.new ≡ self.old }
     {
-        if self.is_exceptional || other.is_exceptional {
+        if self.head.is_exceptional || other.head.is_exceptional {
             return false;
         }
-        self.next = other.next;
-        self.frame = other.frame;
-        self.elements = other.elements;
-        self.counts = other.counts;
-        if !(is_nothing(&self.this) && is_nothing(&other.this)) {
-            self.this = other.this;
-        }
+        self.head = other.head;
         true
     }
 
     #[cold]
     #[inline(never)]
     fn copy_exceptional(&mut self, other: &Activation)
-        ensures { self.new ≡ record self.old { is_exceptional = other.now.is_exceptional; handles = other.now.handles; raised = other.now.raised; result = other.now.result } }
+        ensures { self.new ≡ record self.old { handles = other.now.handles; raised = other.now.raised; result = other.now.result } }
     {
-        self.is_exceptional = other.is_exceptional;
         self.handles = other.handles;
         self.raised = other.raised;
         self.result = other.result;
@@ -151,16 +161,10 @@ impl Activation {
     // It is another, which is unwound as it was itself.
     #[inline(always)]
     pub(crate) fn unwind_on(&mut self, other: &Activation)
-        ensures { self.new ≡ record other.now { is_exceptional = true; raised = self.old.raised; result = self.old.result } }
+        ensures { self.new ≡ record other.now { head = record other.now.head { is_exceptional = true }; raised = self.old.raised; result = self.old.result } }
     {
-        self.next = other.next;
-        self.frame = other.frame;
-        self.elements = other.elements;
-        self.counts = other.counts;
-        if !(is_nothing(&self.this) && is_nothing(&other.this)) {
-            self.this = other.this;
-        }
-        self.is_exceptional = true;
+        self.head = other.head;
+        self.head.is_exceptional = true;
         self.handles = other.handles;
     }
 
@@ -170,12 +174,14 @@ impl Activation {
         ensures told { Told result }
     {
         Activation {
-            next: handling.entry,
-            this: handling.this,
-            frame: handling.frame,
-            counts: false,
-            elements: 0,
-            is_exceptional: true,
+            head: Head {
+                next: handling.entry,
+                frame: handling.frame,
+                elements: 0,
+                counts: false,
+                is_exceptional: true,
+                this: handling.this,
+            },
             handles: Some(handling.visited),
             raised: None,
             result: Cell::Nothing,

@@ -276,9 +276,21 @@ impl Block {
         self.number_of(depth, at)
     }
 
-    // The same where the frame is as likely an older one.
+    // The same where the frame is most likely an older one.
     #[inline(always)]
-    pub(crate) fn number_of(&self, depth: u32, at: u64) -> Option<i64>
+    pub(crate) fn number_behind(&self, depth: u32, at: u64) -> Option<i64>
+        ensures { result ≡ number_within (slice_index_or (list_in (at_depth self.now.frames depth)) at nought) }
+    {
+        let place = depth as usize;
+        if place < self.older.len() {
+            return number_at(&self.cells, self.older[place], at);
+        }
+        self.number_older(depth, at)
+    }
+
+    // The same where it may be either.
+    #[inline(always)]
+    fn number_of(&self, depth: u32, at: u64) -> Option<i64>
         ensures { result ≡ number_within (slice_index_or (list_in (at_depth self.now.frames depth)) at nought) }
     {
         match extent_at(self.newest, &self.older, depth) {
@@ -341,6 +353,20 @@ impl Block {
         }
     }
 
+    // The same, where the frame is most likely an older one.
+    #[inline(always)]
+    pub(crate) fn write_behind(&mut self, depth: u32, at: u64, number: i64)
+        ensures { self.new ≡ record self.old { frames = frame_changed depth (cell_written at (Cell.Number number)) self.old.frames } }
+    {
+        let place = depth as usize;
+        if place < self.older.len() {
+            let extent = self.older[place];
+            put_number_in(&mut self.cells, extent, at, number);
+        } else {
+            self.write_older(depth, at, number);
+        }
+    }
+
     #[inline(never)]
     fn write_older(&mut self, depth: u32, at: u64, number: i64)
         ensures { self.new ≡ record self.old { frames = frame_changed depth (cell_written at (Cell.Number number)) self.old.frames } }
@@ -358,17 +384,16 @@ impl Block {
         }
     }
 
-    // A call of a routine that takes so many of the newest operands, its parameters among them, where that needs no more room. The answer
-    // is whether it does not; else all stays as it is.
+    // A call of a routine that takes its parameters, the newest operands, where that needs no more room. The answer is whether it does not; else
+    // all stays as it is.
     #[inline(always)]
-    pub(crate) fn enter_in_place(&mut self, routine: RoutineCode, taken: u64) -> bool
-        ensures made { result ≡ true → self.new ≡ with_call taken (call_frame routine self.old.operands) self.old }
+    pub(crate) fn enter_bare(&mut self, routine: RoutineCode) -> bool
+        ensures made { result ≡ true → self.new ≡ with_call routine.params (call_frame routine self.old.operands) self.old }
         ensures stays { result ≡ false → self.new ≡ self.old }
     {
-        let taken = taken as usize;
         let params = routine.params as usize;
         let length = self.cells.len();
-        if length - self.newest.start < taken || taken < params {
+        if length - self.newest.start < params {
             return false;
         }
         if self.older.len() >= self.older.capacity() {
@@ -379,7 +404,35 @@ impl Block {
             return false;
         }
         self.older.push_reserved(self.newest);
-        self.newest.floor = length - taken;
+        self.newest.floor = length - params;
+        self.newest.base = length - params;
+        self.newest.start = length + others as usize;
+        true
+    }
+
+    // The same of a call that takes the object below its parameters too, which is put here.
+    #[inline(always)]
+    pub(crate) fn enter_on(&mut self, routine: RoutineCode, this: &mut Cell) -> bool
+        ensures made { result ≡ true → self.new ≡ with_call (routine.params + 1) (call_frame routine self.old.operands) self.old }
+        ensures object { result ≡ true → this.new ≡ top (drop routine.params self.old.operands) }
+        ensures stays { result ≡ false → self.new ≡ self.old }
+        ensures kept { result ≡ false → this.new ≡ this.old }
+    {
+        let params = routine.params as usize;
+        let length = self.cells.len();
+        if length - self.newest.start <= params {
+            return false;
+        }
+        if self.older.len() >= self.older.capacity() {
+            return false;
+        }
+        let others = routine.cells.saturating_sub(routine.params);
+        if !zeros_in_place(&mut self.cells, others) {
+            return false;
+        }
+        *this = self.cells[length - 1 - params];
+        self.older.push_reserved(self.newest);
+        self.newest.floor = length - 1 - params;
         self.newest.base = length - params;
         self.newest.start = length + others as usize;
         true

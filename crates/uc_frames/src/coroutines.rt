@@ -24,7 +24,7 @@ impl Work {
     pub fn own_exec(&self) -> Option<Exec>
         ensures { result ≡ own_exec self.now }
     {
-        self.exec_at(&self.task.running.run.this)
+        self.exec_at(&self.task.running.run.head.this)
     }
 
     // The execution of the coroutine at a place, which its first cell names.

@@ -1,6 +1,6 @@
 // Numbered things, and whether two names are one.
 
-ghost use Rattle.std.specs.Prelude.{◌≡◌, ℕ, None, MatchOption};
+ghost use Rattle.std.specs.Prelude.{◌≡◌, ℕ, None, MatchOption, true};
 ghost use Rattle.uc_machine.specs.Executions.{home_eq, exec_eq};
 ghost use Rattle.uc_entry.specs.Keyed.{find};
 ghost use Rattle.uc_frames.specs.Numbered.{Ascends, IsAt, IsBound};
@@ -88,6 +88,20 @@ pub(crate) fn is_same_home(a: Home, b: Home) -> bool
             Home::Task(_) => false,
             Home::Object(y) => x == y,
         },
+    }
+}
+
+// Whether two names are one of an execution that is at home in a task, as most are. Where they are not, nothing is told.
+#[inline(always)]
+pub(crate) fn is_same_of_task(a: Exec, b: Exec) -> bool
+    ensures { result ≡ true → exec_eq a b ≡ true }
+{
+    match a.home {
+        Home::Task(x) => match b.home {
+            Home::Task(y) => x == y && a.serial == b.serial,
+            Home::Object(_) => false,
+        },
+        Home::Object(_) => false,
     }
 }
 

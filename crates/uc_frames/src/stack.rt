@@ -1,6 +1,6 @@
 // The stack of one execution.
 
-ghost use Rattle.std.specs.Prelude.{◌≡◌, ◌<◌, ◌≤◌, ◌+◌, ◌∷◌, ◌++◌, [], All, List, length, take, nat_lt, None, Some, IfOk, OnOk, OnErr, MatchOption, true, false};
+ghost use Rattle.std.specs.Prelude.{◌≡◌, ◌<◌, ◌≤◌, ◌+◌, ◌∷◌, ◌++◌, ◌^◌, [], All, List, length, take, nat_lt, None, Some, IfOk, OnOk, OnErr, MatchOption, true, false};
 ghost use Rattle.uc_machine.specs.Executions.{at_depth};
 ghost use Rattle.uc_machine.specs.Switches.{unwound_there};
 ghost use Rattle.uc_frames.specs.declared.cell.Cell.{Cell};
@@ -8,6 +8,7 @@ ghost use Rattle.uc_frames.specs.Block.{completed, Told, call_made, call_left, h
 ghost use Rattle.uc_frames.specs.BareReturns.{call_over};
 ghost use Rattle.uc_frames.specs.Machine.{first_execution};
 ghost use Rattle.uc_frames.specs.PassedAlike.{unwound_alike};
+ghost use Rattle.uc_frames.specs.Calls.{call_below, plain_call};
 ghost use Rattle.uc_frames.specs.Unwinding.{IsCaller};
 ghost use Rattle.uc_tree.specs.declared.limits.TheConstants.{CALLS};
 
@@ -43,7 +44,7 @@ impl Model for Stack {
 
     ghost view = { λ s. record { run = completed s.run s.block.operands; callers = all_completed (reverse (take (length s.block.waiting) s.callers.items)) s.block.waiting; frames = s.block.frames; links = s.links } };
 
-    ghost invariant = { λ s. (length s.block.waiting < 2 ^ 32) × (length s.block.waiting ≤ length s.callers.items) × Told s.run × All Told s.callers.items };
+    ghost invariant = { λ s. (length s.callers.items < 2 ^ 32) × (length s.block.waiting ≤ length s.callers.items) × Told s.run × All Told s.callers.items };
 }
 
 impl Stack {
@@ -99,48 +100,51 @@ impl Stack {
         self.block.waiting() as u32
     }
 
-    // Makes a call. A part of who calls, so that what is known of the call there is not asked here. What a call seldom needs stands apart,
-    // so that nothing is kept for it. Executions of `u32::MAX` frames make no more.
+    // Makes a call without an object, which counts, where that needs no more room and no more cells, and neither who calls nor what stands
+    // in its place says anything exceptional. A part of who calls, so that what is known of the call there is not asked here. The answer is
+    // whether it does not; else all stays as it is.
     #[inline(always)]
-    pub(crate) fn enter(&mut self, call: Call) -> Result<(), AllocError>
-        requires { call.counts ≡ true → self.old.links.calls < CALLS }
-        ensures ok { OnOk result (self.new ≡ call_made call self.old) }
-        ensures err { OnErr result (self.new ≡ self.old) }
-    {
-        if !self.enter_in_place(call) {
-            self.enter_with_room(call)?;
-        }
-        Ok(())
-    }
-
-    // Makes a call where that needs no more room and no more cells, and neither who calls nor what stands in its place says anything
-    // exceptional. The answer is whether it does not; else all stays as it is.
-    #[inline(always)]
-    pub(crate) fn enter_in_place(&mut self, call: Call) -> bool
-        requires { call.counts ≡ true → self.old.links.calls < CALLS }
-        ensures made { result ≡ true → self.new ≡ call_made call self.old }
+    pub(crate) fn enter_bare(&mut self, routine: RoutineCode) -> bool
+        requires { self.old.links.calls < CALLS }
+        ensures made { result ≡ true → self.new ≡ call_made (plain_call routine) self.old }
         ensures stays { result ≡ false → self.new ≡ self.old }
     {
         let depth = self.block.depth();
-        if depth >= u32::MAX as usize {
-            return false;
-        }
         let waiting = self.block.waiting();
         if !wait_at(&mut self.callers, waiting, &self.run) {
             return false;
         }
-        if !self.block.enter_in_place(call.routine, call.taken) {
+        if !self.block.enter_bare(routine) {
             return false;
         }
-        self.run
-            .begin_plain(call.routine.entry, call.this, depth as u32, call.counts);
-        self.links.enter(call.counts);
+        self.run.begin_bare(routine.entry, depth as u32);
+        self.links.enter(true);
         true
     }
 
-    // Makes a call, for which room is made where it needs more.
+    // The same of a call at the object below its arguments.
+    #[inline(always)]
+    pub(crate) fn enter_on(&mut self, routine: RoutineCode) -> bool
+        requires { self.old.links.calls < CALLS }
+        ensures made { result ≡ true → self.new ≡ call_made (call_below routine self.old.run.operands) self.old }
+        ensures stays { result ≡ false → self.new ≡ self.old }
+    {
+        let depth = self.block.depth();
+        let waiting = self.block.waiting();
+        if !wait_at(&mut self.callers, waiting, &self.run) {
+            return false;
+        }
+        if !self.block.enter_on(routine, &mut self.run.head.this) {
+            return false;
+        }
+        self.run.begin_here(routine.entry, depth as u32);
+        self.links.enter(true);
+        true
+    }
+
+    // Makes a call, for which room is made where it needs more. Executions of `u32::MAX` frames make no more.
     #[inline(never)]
-    pub(crate) fn enter_with_room(&mut self, call: Call) -> Result<(), AllocError>
+    pub(crate) fn enter(&mut self, call: Call) -> Result<(), AllocError>
         requires { call.counts ≡ true → self.old.links.calls < CALLS }
         ensures ok { OnOk result (self.new ≡ call_made call self.old) }
         ensures err { OnErr result (self.new ≡ self.old) }
@@ -185,13 +189,12 @@ impl Stack {
             return Ok(false);
         }
         self.block.leave(given)?;
-        self.links.leave(self.run.counts);
+        self.links.leave(self.run.head.counts);
         self.run.copy_from(&self.callers[waiting - 1]);
         Ok(true)
     }
 
     // The same, where that one is handed nothing.
-    #[inline(always)]
     pub(crate) fn leave_bare(&mut self) -> bool
         ensures called { result ≡ nat_lt 0 (length self.old.callers) }
         ensures after { self.new ≡ call_over self.old.callers self.old }
@@ -201,9 +204,45 @@ impl Stack {
             return false;
         }
         self.block.leave_bare();
-        self.links.leave(self.run.counts);
+        self.links.leave(self.run.head.counts);
         self.run.copy_from(&self.callers[waiting - 1]);
         true
+    }
+
+    // The same, where the newest activation handles no resumption. Else the answer is false, and all stays as it is.
+    #[inline(always)]
+    pub(crate) fn give_back(&mut self) -> bool
+        ensures over { result ≡ true → self.new ≡ call_over self.old.callers self.old }
+        ensures called { result ≡ true → nat_lt 0 (length self.old.callers) ≡ true }
+        ensures plain { result ≡ true → self.old.run.handles ≡ None }
+        ensures stays { result ≡ false → self.new ≡ self.old }
+    {
+        let waiting = self.block.waiting();
+        if waiting == 0 {
+            return false;
+        }
+        let counts = self.run.head.counts;
+        if !self.run.copy_plain(&self.callers[waiting - 1]) {
+            return self.give_back_seldom();
+        }
+        self.block.leave_bare();
+        self.links.leave(counts);
+        true
+    }
+
+    // The same where something exceptional is said.
+    #[cold]
+    #[inline(never)]
+    fn give_back_seldom(&mut self) -> bool
+        ensures over { result ≡ true → self.new ≡ call_over self.old.callers self.old }
+        ensures called { result ≡ true → nat_lt 0 (length self.old.callers) ≡ true }
+        ensures plain { result ≡ true → self.old.run.handles ≡ None }
+        ensures stays { result ≡ false → self.new ≡ self.old }
+    {
+        match self.run.handles {
+            Some(_) => false,
+            None => self.leave_bare(),
+        }
     }
 
     // The newest activation is left with its frame, and the one that waits for it is unwound in its turn, for this reason and with
@@ -217,9 +256,9 @@ impl Stack {
             return false;
         }
         self.block.leave_unwinding();
-        self.links.leave(self.run.counts);
+        self.links.leave(self.run.head.counts);
         self.run = self.callers[waiting - 1];
-        self.run.is_exceptional = true;
+        self.run.head.is_exceptional = true;
         self.run.raised = Some(why);
         self.run.result = given;
         true
@@ -235,7 +274,7 @@ impl Stack {
             return false;
         }
         self.block.leave_unwinding();
-        self.links.leave(self.run.counts);
+        self.links.leave(self.run.head.counts);
         self.run.unwind_on(&self.callers[waiting - 1]);
         true
     }
@@ -244,7 +283,7 @@ impl Stack {
     pub(crate) fn unwind(&mut self, why: UnwindReason)
         ensures { self.new ≡ unwound_there why self.old }
     {
-        self.run.is_exceptional = true;
+        self.run.head.is_exceptional = true;
         self.run.raised = Some(why);
     }
 }
@@ -258,7 +297,7 @@ fn wait_at(callers: &mut Vec<Activation>, at: usize, waiting: &Activation) -> bo
     requires waits { Told waiting.now }
     ensures made { result ≡ true → take (at + 1) callers.new.items ≡ take at callers.old.items ++ waiting.now ∷ [] }
     ensures room { result ≡ true → at < length callers.new.items }
-    ensures plain { result ≡ true → waiting.now.is_exceptional ≡ false }
+    ensures plain { result ≡ true → waiting.now.head.is_exceptional ≡ false }
     ensures below { take at callers.new.items ≡ take at callers.old.items }
     ensures len { length callers.new.items ≡ length callers.old.items }
     ensures told { All Told callers.new.items }
@@ -276,6 +315,9 @@ fn put_at(callers: &mut Vec<Activation>, at: usize, waiting: &Activation) -> Res
     requires place { at ≤ length callers.old.items }
     requires told { All Told callers.old.items }
     requires waits { Told waiting.now }
+    requires few { length callers.old.items < 2 ^ 32 }
+    requires last { at + 1 < 2 ^ 32 }
+    ensures few { length callers.new.items < 2 ^ 32 }
     ensures ok { OnOk result (take (at + 1) callers.new.items ≡ take at callers.old.items ++ waiting.now ∷ []) }
     ensures below { take at callers.new.items ≡ take at callers.old.items }
     ensures room { OnOk result (at < length callers.new.items) }

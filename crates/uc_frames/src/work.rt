@@ -10,7 +10,7 @@ ghost use Rattle.uc_frames.specs.Machine.{nought, below, top, cell_written, shif
 
 use crate::cell::{Cell, further_on, number_in_place};
 use crate::members::{House, Members};
-use crate::numbered::position;
+use crate::numbered::{is_same_of_task, position};
 use crate::parked::ParkedStack;
 use crate::pieces::Pieces;
 use crate::task::Task;
@@ -72,7 +72,7 @@ impl Work {
     {
         let frame = Owner::Frame {
             exec: self.task.parts.exec,
-            depth: self.task.running.run.frame,
+            depth: self.task.running.run.head.frame,
         };
         Cell::Place(frame, u64::from(cell))
     }
@@ -83,7 +83,7 @@ impl Work {
         ensures { result ≡ loaded (shifted cell (Cell.Place (this_frame self.now) 0)) self.now.env }
     {
         let running = &*self.task.running;
-        running.block.read(running.run.frame, u64::from(cell))
+        running.block.read(running.run.head.frame, u64::from(cell))
     }
 
     /// The number in a cell of the frame of the running activation, if it holds one.
@@ -92,7 +92,9 @@ impl Work {
         ensures { result ≡ number_within (loaded (shifted cell (Cell.Place (this_frame self.now) 0)) self.now.env) }
     {
         let running = &*self.task.running;
-        running.block.number(running.run.frame, u64::from(cell))
+        running
+            .block
+            .number(running.run.head.frame, u64::from(cell))
     }
 
     /// The number in the cell so many behind the place of the object at hand, if it holds one.
@@ -100,11 +102,11 @@ impl Work {
     pub fn own_number(&self, cell: u32) -> Option<i64>
         ensures { result ≡ number_within (loaded (this_place cell self.now) self.now.env) }
     {
-        match &self.task.running.run.this {
+        match &self.task.running.run.head.this {
             Cell::Place(Owner::Frame { exec, depth }, at) => {
                 let place = at.saturating_add(u64::from(cell));
-                if self.runs(*exec) {
-                    self.task.running.block.number_of(*depth, place)
+                if is_same_of_task(*exec, self.task.parts.exec) {
+                    self.task.running.block.number_behind(*depth, place)
                 } else {
                     self.number_elsewhere(*exec, *depth, place)
                 }
@@ -137,15 +139,31 @@ impl Work {
     pub fn hold_number(&mut self, cell: u32, number: i64)
         ensures { self.new ≡ record self.old { env = written (this_place cell self.old) (Cell.Number number) self.old.env } }
     {
-        match &self.task.running.run.this {
-            Cell::Place(Owner::Frame { exec, depth }, at) => {
+        match &self.task.running.run.head.this {
+            Cell::Place(Owner::Frame { exec, depth }, at)
+                if is_same_of_task(*exec, self.task.parts.exec) => {
                 let depth = *depth;
                 let at = at.saturating_add(u64::from(cell));
-                if self.runs(*exec) {
-                    self.task.running.block.write_number(depth, at, number);
+                self.task.running.block.write_behind(depth, at, number);
+            }
+            _ => self.hold_elsewhere(cell, number),
+        }
+    }
+
+    // The same where the object may lie in a frame of another execution. It stands apart, so that nothing is kept for it.
+    #[inline(never)]
+    fn hold_elsewhere(&mut self, cell: u32, number: i64)
+        ensures { self.new ≡ record self.old { env = written (this_place cell self.old) (Cell.Number number) self.old.env } }
+    {
+        match &self.task.running.run.head.this {
+            Cell::Place(Owner::Frame { exec, depth }, at) => {
+                let exec = *exec;
+                let depth = *depth;
+                let to = at.saturating_add(u64::from(cell));
+                if self.runs(exec) {
+                    self.task.running.block.write_number(depth, to, number);
                 } else {
-                    let exec = *exec;
-                    self.put_parked(exec, depth, at, number);
+                    self.put_parked(exec, depth, to, number);
                 }
             }
             _ => self.hold_number_apart(cell, number),
@@ -174,7 +192,7 @@ impl Work {
                 let at = *at;
                 let _ = self.pop();
                 if self.runs(exec) {
-                    self.task.running.block.write_number(depth, at, number);
+                    self.task.running.block.write_behind(depth, at, number);
                 } else {
                     self.put_parked(exec, depth, at, number);
                 }
@@ -214,7 +232,7 @@ impl Work {
     pub fn set(&mut self, cell: u32, value: Cell)
         ensures { self.new ≡ record self.old { env = written (shifted cell (Cell.Place (this_frame self.old) 0)) value self.old.env } }
     {
-        let frame = self.task.running.run.frame;
+        let frame = self.task.running.run.head.frame;
         self.task.running.block.write(frame, u64::from(cell), value);
     }
 
@@ -223,7 +241,7 @@ impl Work {
     pub fn set_number(&mut self, cell: u32, number: i64)
         ensures { self.new ≡ record self.old { env = written (shifted cell (Cell.Place (this_frame self.old) 0)) (Cell.Number number) self.old.env } }
     {
-        let frame = self.task.running.run.frame;
+        let frame = self.task.running.run.head.frame;
         self.task
             .running
             .block
@@ -381,7 +399,7 @@ impl Work {
     pub fn clear(&mut self, cell: u32, cells: u32)
         ensures { self.new ≡ record self.old { env = cleared cell cells self.old } }
     {
-        let frame = self.task.running.run.frame;
+        let frame = self.task.running.run.head.frame;
         self.task.running.block.clear(frame, cell, cells);
     }
 

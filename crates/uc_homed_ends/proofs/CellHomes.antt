@@ -101,6 +101,7 @@ module _ (p : Program) (formed : IsFormed p) (accepted : breaks_of p ≡ []) (fe
         by (piece.CallNow q ∷ todo) ok h = no_maker q ok.2
         by (piece.CallOnNow q ∷ todo) ok h = called q ok.0 ok.1 ok.2
         by (piece.CallUnwrittenNow q ∷ todo) ok h = called q ok.0 ok.1 ok.2
+        by (piece.SetUpNow q ∷ todo) ok h = λ e b. false_true e
         by [] ok h = tt
         by (z ∷ todo) ok h = tt
 
@@ -171,6 +172,6 @@ module _ (p : Program) (formed : IsFormed p) (accepted : breaks_of p ≡ []) (fe
         let low = run.low in
         let level : ℕ = suc (length u.callers) in
         let lies = sited_lies g u.env.exec x.held.routines level run.routine u.run.frame (length u.callers) u.run.this (omega (arith, low)) (omega arith) run.frame run.this there (Cell (Obj k.0)) (site_meets run.routine u x.site s.run.elements (Cell (Obj k.0)) f.1 k.2) in
-        let free = part_read g (may_write p formed accepted few class within) u.env x.held.routines level x.held.cells x.held.env there k.0 k.1 lies in
+        let free = part_read g (may_write p formed accepted few class false within) u.env x.held.routines level x.held.cells x.held.env there k.0 k.1 lies in
         let loads : loaded there u.env ≡ Object o = subst (λ z. loaded z u.env ≡ Object o) same (subst (λ (v : Env). loaded (top s.run.operands) v ≡ Object o) x.env e) in
         (free o loads).0 ∙ sym same

@@ -53,7 +53,7 @@ use Rattle.uc_homed_ends.proofs.EndHomes.{Now, ways_of, way_at, fair_here, run_w
 
 -- what holds in each state that is reached so holds in each state of a ride
 module _ (P Q : State → Type 0) where
-  rides_led : {source : Source} {s u : State} {q k : ℕ} {a : Asked} (d : Rides source s q u k a) → RideMeets P source s q u k a d → ((v : State) (l : Leads source s v) → LeadsMeet P source s v l → Q v) → RideMeets Q source s q u k a d
+  pub rides_led : {source : Source} {s u : State} {q k : ℕ} {a : Asked} (d : Rides source s q u k a) → RideMeets P source s q u k a d → ((v : State) (l : Leads source s v) → LeadsMeet P source s v l → Q v) → RideMeets Q source s q u k a d
   rides_led rides.slices m f = tt
   rides_led (rides.goes_on {s} {t} e r) m f = (f s rooms.stays tt, rides_led r m.1 (λ v l h. f v (rooms.goes e l) (m.0, h)))
   rides_led (rides.ticks {s} {t} e r) m f = (f s rooms.stays tt, rides_led r m.1 (λ v l h. f v (rooms.ticks e l) (m.0, h)))
@@ -162,7 +162,7 @@ module _ (p : Program) (formed : IsFormed p) (accepted : breaks_of p ≡ []) (wi
       run_finds = run_with Facts Finding finds r run_facts
 
       run_cells : RunMeets Cells source input opts j w r
-      run_cells = law_cells.runs p formed accepted within few input opts range j w r fits (law_sited p formed accepted few class) run_finds
+      run_cells = law_cells.runs p formed accepted within few input opts range j w r fits (law_sited p formed accepted few class false) run_finds
 
       was_open : RunMeets Opening source input opts j w r
       was_open = run_with Tells Opening opening r told
@@ -186,7 +186,7 @@ module _ (p : Program) (formed : IsFormed p) (accepted : breaks_of p ≡ []) (wi
             let open_now : Rides_with Opening = ride_with Tells Opening opening d.rides tells in
             let here : Rides_with Here = rides_led Opening Here d.rides open_now (λ v l h. way_at p formed accepted no_fields few input opts range r fits was_open on t v (comes_to v l) h) in
             let finding : Rides_with Finding = ride_with Facts Finding finds d.rides facts in
-            let cells : Rides_with Cells = rides_led Finding Cells d.rides finding (λ v l h. (law_cells.leads p formed accepted within few input opts range j w r fits (law_sited p formed accepted few class) run_finds on t v (comes_to v l) h).0) in
+            let cells : Rides_with Cells = rides_led Finding Cells d.rides finding (λ v l h. (law_cells.leads p formed accepted within few input opts range j w r fits (law_sited p formed accepted few class false) run_finds on t v (comes_to v l) h).0) in
             let cell_ways : Rides_with CellWays = rides_led Cells CellWays d.rides cells (λ v l h. comes_way tb Cells source (free_of p formed accepted) input opts range r fits run_cells on t v (comes_to v l) h) in
             ride_zip Ways Facts Fairly found_here d.rides (ride_zip Here CellWays Ways (λ v a b. (a, b)) d.rides here cell_ways) facts
 

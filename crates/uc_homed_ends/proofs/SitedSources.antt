@@ -59,8 +59,8 @@ use Rattle.uc_putting_laws.proofs.Expressions as expressions
 use Rattle.uc_putting_laws.proofs.Expressions.{AllMeant}
 use Rattle.uc_putting_laws.proofs.Statements as statements
 use Rattle.uc_cell_laws.specs.Scopes.{InStmt, InStmts, InHandlers, InClauses, InRoutine, IsScopeOf}
-use Rattle.uc_cell_laws.specs.Sites.{Telling, IsNoMaker, HasPlace, IsLent, SitedExpr, SitedExprs, SitedMaybe, SitedItems, SitedTargets, SitedDeclared, SitedClean, SitedRaised, SitedStmt, SitedStmts, SitedHandlers, SitedClauses, SitedRoutine}
-use Rattle.uc_cell_laws.specs.OwnCells.{is_own, owns_by, owns_of, is_of_objects, builds_or_ends, telling_of}
+use Rattle.uc_cell_laws.specs.Sites.{Telling, IsNoMaker, IsExecuting, HasPlace, IsLent, SitedExpr, SitedExprs, SitedMaybe, SitedItems, SitedTargets, SitedDeclared, SitedClean, SitedRaised, SitedStmt, SitedStmts, SitedHandlers, SitedClauses, SitedRoutine}
+use Rattle.uc_cell_laws.specs.OwnCells.{is_own, owns_by, owns_of, is_of_objects, builds_or_ends, telling_by}
 use Rattle.uc_homed_ends.specs.Sited.{LawSited}
 use Rattle.uc_homed_ends.proofs.Wholes.{plain_whole}
 
@@ -134,9 +134,9 @@ module _ (p : Program) where
 
 -- one routine
 
-module _ (p : Program) (few : Few) (class : ℕ → Option ℕ) (r : ℕ) where
+module _ (p : Program) (few : Few) (class : ℕ → Option ℕ) (naming : Bool) (r : ℕ) where
   abbrev g : Telling
-  g = telling_of p few class
+  g = telling_by p few class naming
 
   abbrev Plain : Expr → Type 0
   Plain e = SitedExpr g r e
@@ -218,7 +218,7 @@ module _ (p : Program) (few : Few) (class : ℕ → Option ℕ) (r : ℕ) where
   abbrev Has : Expr → Ty → Type 0
   Has e a = HasPlace g r e a
 
-module _ (p : Program) (few : Few) (class : ℕ → Option ℕ) (formed : IsFormed p) (u : Unbroken (program_visits p)) (r : ℕ) where
+module _ (p : Program) (few : Few) (class : ℕ → Option ℕ) (naming : Bool) (formed : IsFormed p) (u : Unbroken (program_visits p)) (r : ℕ) where
   abbrev sig : Sig
   sig = (table_of p).routine r
 
@@ -246,38 +246,38 @@ module _ (p : Program) (few : Few) (class : ℕ → Option ℕ) (formed : IsForm
 
   -- objects
 
-  args_plain : (q : ℕ) (args : List Meant) → AllMeant p args → Plains p few class r (tree.args_by (tree.params_of p q) args)
-  args_plain q args k = plains p few class r (tree.args_by (tree.params_of p q) args) (expressions.args_by p (tree.params_of p q) args k)
+  args_plain : (q : ℕ) (args : List Meant) → AllMeant p args → Plains p few class naming r (tree.args_by (tree.params_of p q) args)
+  args_plain q args k = plains p few class naming r (tree.args_by (tree.params_of p q) args) (expressions.args_by p (tree.params_of p q) args k)
 
-  cluster_in : (args : List Meant) → AllMeant p args → Plain p few class r (meaning.cluster_in args)
+  cluster_in : (args : List Meant) → AllMeant p args → Plain p few class naming r (meaning.cluster_in args)
   cluster_in [] h = tt
-  cluster_in (m ∷ ms) h = plain p few class r m.expr h.0.expr
+  cluster_in (m ∷ ms) h = plain p few class naming r m.expr h.0.expr
 
   -- what destroys an object at its place
-  destroyed_sited : (m : Making) → Is m → (place : Expr) → Has p few class r place (ty m) → Plain p few class r place → Plain p few class r (meaning.destroyed p m place)
+  destroyed_sited : (m : Making) → Is m → (place : Expr) → Has p few class naming r place (ty m) → Plain p few class naming r place → Plain p few class naming r (meaning.destroyed p m place)
   destroyed_sited (APlain i) c place h k = by (written_at p i role.Destructor) refl
     where
-      by : (o : Option ℕ) → written_at p i role.Destructor ≡ o → Plain p few class r (meaning.called_by p i role.Destructor place [] o)
+      by : (o : Option ℕ) → written_at p i role.Destructor ≡ o → Plain p few class naming r (meaning.called_by p i role.Destructor place [] o)
       by None e = (inr (i, c.1.unwritten_this e, h), k)
-      by (Some d) e = (inr (i, (c.1.written d e).this, h), (k, no_args p few class r (tree.params_of p d)))
+      by (Some d) e = (inr (i, (c.1.written d e).this, h), (k, no_args p few class naming r (tree.params_of p d)))
   destroyed_sited (AMutex i) c place h k = by (written_at p i role.Destructor) refl
     where
-      by : (o : Option ℕ) → written_at p i role.Destructor ≡ o → Plain p few class r (meaning.ended_by p i (src.Load place) o)
+      by : (o : Option ℕ) → written_at p i role.Destructor ≡ o → Plain p few class naming r (meaning.ended_by p i (src.Load place) o)
       by None e = ((i, c.1.unwritten_this e, c.2, h), k)
       by (Some d) e = ((i, (c.1.written d e).this, c.2, h), k)
   destroyed_sited ACluster c place h k = (tt, k)
   destroyed_sited AProcessor c place h k = (tt, k)
 
   -- what builds it
-  constructed_sited : (m : Making) → Is m → (place : Expr) → Has p few class r place (ty m) → Plain p few class r place → (args : List Meant) → AllMeant p args → Plain p few class r (meaning.constructed p m place args)
+  constructed_sited : (m : Making) → Is m → (place : Expr) → Has p few class naming r place (ty m) → Plain p few class naming r place → (args : List Meant) → AllMeant p args → Plain p few class naming r (meaning.constructed p m place args)
   constructed_sited (APlain i) c place h k args a = by (written_at p i role.Constructor) refl
     where
-      by : (o : Option ℕ) → written_at p i role.Constructor ≡ o → Plain p few class r (meaning.called_by p i role.Constructor place args o)
+      by : (o : Option ℕ) → written_at p i role.Constructor ≡ o → Plain p few class naming r (meaning.called_by p i role.Constructor place args o)
       by None e = (inr (i, c.0.unwritten_this e, h), k)
       by (Some d) e = (inr (i, (c.0.written d e).this, h), (k, args_plain d args a))
   constructed_sited (AMutex i) c place h k args a = by (written_at p i role.Constructor) refl
     where
-      by : (o : Option ℕ) → written_at p i role.Constructor ≡ o → Plain p few class r (meaning.made_by p i place args o)
+      by : (o : Option ℕ) → written_at p i role.Constructor ≡ o → Plain p few class naming r (meaning.made_by p i place args o)
       by None e = ((i, c.0.unwritten_this e, c.2, h), (k, tt))
       by (Some d) e = ((i, (c.0.written d e).this, c.2, h), (k, args_plain d args a))
   constructed_sited ACluster c place h k args a = (inl (Clu, (λ x. x), h), (k, (tt, tt)))
@@ -291,46 +291,46 @@ module _ (p : Program) (few : Few) (class : ℕ → Option ℕ) (formed : IsForm
   element_kept AProcessor c = refl
 
   -- of a place of what is made
-  build : (line : ℕ) (m : Making) → Is m → (len : Option ℕ) (place : Expr) → Has p few class r place (declared_ty len (ty m)) → Plain p few class r place → (args : List Meant) → AllMeant p args → SitedStmt (telling_of p few class) r (meaning.build p line m len place args)
+  build : (line : ℕ) (m : Making) → Is m → (len : Option ℕ) (place : Expr) → Has p few class naming r place (declared_ty len (ty m)) → Plain p few class naming r place → (args : List Meant) → AllMeant p args → SitedStmt (telling_by p few class naming) r (meaning.build p line m len place args)
   build line m c None place h k args a = constructed_sited m c place h k args a
   build line m c (Some n) place h k args a =
       let e : Expr = meaning.counted_element p m n place in
       (constructed_sited m c e (element_kept m c, h) (k, (tt, tt)) [] tt, destroyed_sited m c e (element_kept m c, h) (k, (tt, tt)))
 
-  clean_sited : (m : Making) → Is m → (len : Option ℕ) (place : Expr) → Has p few class r place (declared_ty len (ty m)) → Plain p few class r place → SitedClean (telling_of p few class) r (meaning.clean_up p m len place)
+  clean_sited : (m : Making) → Is m → (len : Option ℕ) (place : Expr) → Has p few class naming r place (declared_ty len (ty m)) → Plain p few class naming r place → SitedClean (telling_by p few class naming) r (meaning.clean_up p m len place)
   clean_sited m c None place h k = destroyed_sited m c place h k
   clean_sited m c (Some n) place h k = destroyed_sited m c (meaning.counted_element p m n place) (element_kept m c, h) (k, (tt, tt))
 
   -- expressions in a scope
 
-  meant : (s : Scope) (e : expr.Expr) → Plain p few class r (tree.meant (meaning.context_at p s) e).expr
-  meant s e = plain p few class r (tree.meant (meaning.context_at p s) e).expr (statements.meant p formed u s e).expr
+  meant : (s : Scope) (e : expr.Expr) → Plain p few class naming r (tree.meant (meaning.context_at p s) e).expr
+  meant s e = plain p few class naming r (tree.meant (meaning.context_at p s) e).expr (statements.meant p formed u s e).expr
 
-  value : (s : Scope) (e : expr.Expr) → Plain p few class r (tree.value_in_scope (meaning.context_at p s) e)
-  value s e = plain p few class r (tree.value_in_scope (meaning.context_at p s) e) (statements.value p formed u s e)
+  value : (s : Scope) (e : expr.Expr) → Plain p few class naming r (tree.value_in_scope (meaning.context_at p s) e)
+  value s e = plain p few class naming r (tree.value_in_scope (meaning.context_at p s) e) (statements.value p formed u s e)
 
-  converted : (k : Shape) (s : Scope) (e : expr.Expr) → Plain p few class r (tree.converted k (tree.value_in_scope (meaning.context_at p s) e))
-  converted k s e = plain p few class r (tree.converted k (tree.value_in_scope (meaning.context_at p s) e)) (expressions.converted p k (tree.value_in_scope (meaning.context_at p s) e) (statements.value p formed u s e))
+  converted : (k : Shape) (s : Scope) (e : expr.Expr) → Plain p few class naming r (tree.converted k (tree.value_in_scope (meaning.context_at p s) e))
+  converted k s e = plain p few class naming r (tree.converted k (tree.value_in_scope (meaning.context_at p s) e)) (expressions.converted p k (tree.value_in_scope (meaning.context_at p s) e) (statements.value p formed u s e))
 
   -- parts of statements
 
-  items : (s : Scope) (texts : ℕ) (os : List stmt.OutItem) → SitedItems (telling_of p few class) r (meaning.items_meant (meaning.context_at p s) texts os)
+  items : (s : Scope) (texts : ℕ) (os : List stmt.OutItem) → SitedItems (telling_by p few class naming) r (meaning.items_meant (meaning.context_at p s) texts os)
   items s texts [] = tt
   items s texts (stmt.Endl sign ∷ os) = (tt, items s texts os)
   items s texts (stmt.Literal sign text ∷ os) = (tt, items s (texts + 1) os)
   items s texts (stmt.Printed sign e ∷ os) = (value s e, items s texts os)
 
-  targets : (s : Scope) (es : expr.Exprs) → SitedTargets (telling_of p few class) r (meaning.targets_meant (meaning.context_at p s) es)
+  targets : (s : Scope) (es : expr.Exprs) → SitedTargets (telling_by p few class naming) r (meaning.targets_meant (meaning.context_at p s) es)
   targets s expr.NoExprs = tt
   targets s (expr.MoreExprs e es) = (meant s e, targets s es)
 
-  start : (s : Scope) (k : Shape) (x : stmt.Start) → SitedMaybe (telling_of p few class) r (meaning.start_meant (meaning.context_at p s) k x)
+  start : (s : Scope) (k : Shape) (x : stmt.Start) → SitedMaybe (telling_by p few class naming) r (meaning.start_meant (meaning.context_at p s) k x)
   start s k stmt.NoStart = tt
   start s k (stmt.StartValue e) = converted k s e
   start s k (stmt.StartArgs expr.NoExprs) = tt
   start s k (stmt.StartArgs (expr.MoreExprs e es)) = converted k s e
 
-  declared : (s : Scope) (b : Base) (ds : List Declarator) → SitedDeclared (telling_of p few class) r (meaning.all_declared p s b ds)
+  declared : (s : Scope) (b : Base) (ds : List Declarator) → SitedDeclared (telling_by p few class naming) r (meaning.all_declared p s b ds)
   declared s b [] = tt
   declared s b (d ∷ ds) = (start s (shape_of b) d.start, declared (meaning.with_declared p s b d) b ds)
 
@@ -342,7 +342,7 @@ module _ (p : Program) (few : Few) (class : ℕ → Option ℕ) (formed : IsForm
   -- events
 
   -- what builds an event is none of these
-  event_none : (name : List ℕ) (q : ℕ) → meaning.event_constructor p name ≡ Some q → IsNoMaker (telling_of p few class) q
+  event_none : (name : List ℕ) (q : ℕ) → meaning.event_constructor p name ≡ Some q → IsNoMaker (telling_by p few class naming) q
   event_none name q e h =
       let k : Looked (λ d. nat_eq d.number 0 && (is_constructor d.routine.sig.role && same_name d.routine.sig.name name)) (routines_of p) 0 (Some q) = looked (λ d. nat_eq d.number 0 && (is_constructor d.routine.sig.role && same_name d.routine.sig.name name)) (routines_of p) 0 q (sym (event_looked (routines_of p) 0 name) ∙ e) in
       let d = k.defined in
@@ -364,33 +364,33 @@ module _ (p : Program) (few : Few) (class : ℕ → Option ℕ) (formed : IsForm
           let at : class_at p i ≡ Some x.class = subst (λ n. slice_get (classes_of p.items) n ≡ Some x.class) same x.at in
           no_both (of_kind is_event (class_at p i)) (ap (of_kind is_event) at ∙ x.event) (is_not p (of_kind is_event (class_at p i)) (subst (λ o. is_of_objects p o ≡ true) (this ∙ k) of_objects))
 
-  built_event : (s : Scope) (n : ℕ) (name : List ℕ) (q : Option ℕ) (ms : List Meant) → meaning.event_constructor p name ≡ q → AllMeant p ms → SitedRaised (telling_of p few class) r (meaning.built_event p s n q ms)
+  built_event : (s : Scope) (n : ℕ) (name : List ℕ) (q : Option ℕ) (ms : List Meant) → meaning.event_constructor p name ≡ q → AllMeant p ms → SitedRaised (telling_by p few class naming) r (meaning.built_event p s n q ms)
   built_event s n name None ms e k = tt
   built_event s n name (Some q) ms e k = (inl (event_none name q e), (tt, args_plain q ms k))
 
-  raised : (s : Scope) (x : Option stmt.Raised) → SitedRaised (telling_of p few class) r (meaning.raised_meant p s x)
+  raised : (s : Scope) (x : Option stmt.Raised) → SitedRaised (telling_by p few class naming) r (meaning.raised_meant p s x)
   raised s None = tt
   raised s (Some x) = built_event s (meaning.number_of_event p x.name) x.name (meaning.event_constructor p x.name) (tree.args_meant (meaning.context_at p s) x.args) refl (statements.args p formed u s x.args)
 
-  test : (s : Scope) (e : Option expr.Expr) → Plain p few class r (meaning.test_of p s e)
+  test : (s : Scope) (e : Option expr.Expr) → Plain p few class naming r (meaning.test_of p s e)
   test s None = tt
   test s (Some e) = value s e
 
-  step : (s : Scope) (e : Option expr.Expr) → SitedMaybe (telling_of p few class) r (meaning.step_of p s e)
+  step : (s : Scope) (e : Option expr.Expr) → SitedMaybe (telling_by p few class naming) r (meaning.step_of p s e)
   step s None = tt
   step s (Some e) = meant s e
 
-  returned : (s : Scope) (e : Option expr.Expr) → SitedMaybe (telling_of p few class) r (meaning.return_meant p s e)
+  returned : (s : Scope) (e : Option expr.Expr) → SitedMaybe (telling_by p few class naming) r (meaning.return_meant p s e)
   returned s None = tt
   returned s (Some e) = converted (shape_of (tree.result_of p s.routine)) s e
 
   -- statements
 
   abbrev Fine : Stmts → Type 0
-  Fine ss = SitedStmts (telling_of p few class) r ss
+  Fine ss = SitedStmts (telling_by p few class naming) r ss
 
   abbrev FineOne : Stmt → Type 0
-  FineOne a = SitedStmt (telling_of p few class) r a
+  FineOne a = SitedStmt (telling_by p few class naming) r a
 
   -- all scopes in them are of the routine
   abbrev In : Stmts → Type 0
@@ -404,7 +404,7 @@ module _ (p : Program) (few : Few) (class : ℕ → Option ℕ) (formed : IsForm
   objects_in m line b (d ∷ ds) s rest c n h =
       let len : Option ℕ = meaning.length_of p d d.len in
       let place : Expr = src.Variable s.cells in
-      let has : Has p few class r place (declared_ty len (ty m)) = (meaning.clean_up p m len place, n (meaning.clean_up p m len place) (inr (inr (inl refl))), cleans_at (table_of p) sig refl p m len place c) in
+      let has : Has p few class naming r place (declared_ty len (ty m)) = (meaning.clean_up p m len place, n (meaning.clean_up p m len place) (inr (inr (inl refl))), cleans_at (table_of p) sig refl p m len place c) in
       ((tt, tt), (build line m c len place has tt (meaning.start_args p s d.start) (start_args s d.start), (clean_sited m c len place has tt, objects_in m line b ds (meaning.with_declared p s b d) rest c (λ x i. n x (inr (inr (inr i)))) h)))
 
   declared_then : (b : Base) (m : Option Making) (line : ℕ) (ds : List Declarator) (s : Scope) (rest : Stmts) → Makes m → In (meaning.declared_then p m line b ds s rest) → (In rest → Fine rest) → Fine (meaning.declared_then p m line b ds s rest)
@@ -457,15 +457,15 @@ module _ (p : Program) (few : Few) (class : ℕ → Option ℕ) (formed : IsForm
         let behind : Scope = meaning.scope_past_clauses p cs inner in
         (tt, clauses cs inner (meaning.else_meant p other behind) n (λ k. otherwise other behind k))
 
-    clauses : (cs : stmt.Clauses) (s : Scope) (other : Clauses) → ((c : CleanUp) → InClauses c (meaning.clauses_meant p cs s other) → IsScopeOf (source_of p) r c) → (((c : CleanUp) → InClauses c other → IsScopeOf (source_of p) r c) → SitedClauses (telling_of p few class) r other) → SitedClauses (telling_of p few class) r (meaning.clauses_meant p cs s other)
+    clauses : (cs : stmt.Clauses) (s : Scope) (other : Clauses) → ((c : CleanUp) → InClauses c (meaning.clauses_meant p cs s other) → IsScopeOf (source_of p) r c) → (((c : CleanUp) → InClauses c other → IsScopeOf (source_of p) r c) → SitedClauses (telling_by p few class naming) r other) → SitedClauses (telling_by p few class naming) r (meaning.clauses_meant p cs s other)
     clauses stmt.NoClauses s other n k = k n
     clauses (stmt.MoreClauses (stmt.Accepts place guard members body) rest) s other n k = (test s guard, one body s (λ c i. n c (inl i)), clauses rest (meaning.scope_past p body s) other (λ c i. n c (inr i)) k)
 
-    otherwise : (t : stmt.MaybeStmt) (s : Scope) → ((c : CleanUp) → InClauses c (meaning.else_meant p t s) → IsScopeOf (source_of p) r c) → SitedClauses (telling_of p few class) r (meaning.else_meant p t s)
+    otherwise : (t : stmt.MaybeStmt) (s : Scope) → ((c : CleanUp) → InClauses c (meaning.else_meant p t s) → IsScopeOf (source_of p) r c) → SitedClauses (telling_by p few class naming) r (meaning.else_meant p t s)
     otherwise stmt.NoStmt s n = tt
     otherwise (stmt.OneStmt body) s n = one body s n
 
-    handlers : (hs : stmt.Handlers) (s : Scope) → ((c : CleanUp) → InHandlers c (meaning.handlers_meant p hs s) → IsScopeOf (source_of p) r c) → SitedHandlers (telling_of p few class) r (meaning.handlers_meant p hs s)
+    handlers : (hs : stmt.Handlers) (s : Scope) → ((c : CleanUp) → InHandlers c (meaning.handlers_meant p hs s) → IsScopeOf (source_of p) r c) → SitedHandlers (telling_by p few class naming) r (meaning.handlers_meant p hs s)
     handlers stmt.NoHandlers s n = tt
     handlers (stmt.MoreHandlers (stmt.Handles place kind event param brace body) rest) s n =
         let x : stmt.Handler = stmt.Handles place kind event param brace body in
@@ -490,15 +490,15 @@ module _ (p : Program) (few : Few) (class : ℕ → Option ℕ) (formed : IsForm
   module _ (i : ℕ) (c : whole.Class) (at : class_at p i ≡ Some c) where
     -- a field that is a reference may be bound
     abbrev MayBind : ClassField → ℕ → Type 0
-    MayBind f n = f.declarator.by_ref ≡ true → IsLent (telling_of p few class) r (src.OfObject (src.OwnField (class_shape p i) n))
+    MayBind f n = f.declarator.by_ref ≡ true → IsLent (telling_by p few class naming) r (src.OfObject (src.OwnField (class_shape p i) n))
 
     -- what is made has its place at one that is none
     abbrev MayMake : ClassField → ℕ → Type 0
-    MayMake f n = (m : Making) → meaning.field_making p f ≡ Some m → Is m × Has p few class r (src.OfObject (src.OwnField (class_shape p i) n)) (declared_ty (meaning.length_in_class p c i f) (ty m))
+    MayMake f n = (m : Making) → meaning.field_making p f ≡ Some m → Is m × Has p few class naming r (src.OfObject (src.OwnField (class_shape p i) n)) (declared_ty (meaning.length_in_class p c i f) (ty m))
 
-    field_start : (b : Bool) (s : Shape) (place : Expr) (m : Meant) → (b ≡ true → IsLent (telling_of p few class) r place) → IsLocus p few class r place → expressions.MeantPlain p m → Plain p few class r (meaning.field_start p b s place m)
-    field_start true s place m b l h = (inr (b refl), (locus_plain p few class r place l, plain p few class r m.expr h.expr))
-    field_start false s place m b l h = (locus_plain p few class r place l, plain p few class r (tree.converted s (tree.value_of m)) (expressions.converted p s (tree.value_of m) (expressions.value_of p m h)))
+    field_start : (b : Bool) (s : Shape) (place : Expr) (m : Meant) → (b ≡ true → IsLent (telling_by p few class naming) r place) → IsLocus p few class naming r place → expressions.MeantPlain p m → Plain p few class naming r (meaning.field_start p b s place m)
+    field_start true s place m b l h = (inr (b refl), (locus_plain p few class naming r place l, plain p few class naming r m.expr h.expr))
+    field_start false s place m b l h = (locus_plain p few class naming r place l, plain p few class naming r (tree.converted s (tree.value_of m)) (expressions.converted p s (tree.value_of m) (expressions.value_of p m h)))
 
     field_started : (f : ClassField) (n : ℕ) (args : List Meant) (rest : Stmts) → MayBind f n → AllMeant p args → (In rest → Fine rest) → In (meaning.field_started p f (src.OfObject (src.OwnField (class_shape p i) n)) args rest) → Fine (meaning.field_started p f (src.OfObject (src.OwnField (class_shape p i) n)) args rest)
     field_started f n [] rest b h l w = l w
@@ -627,9 +627,12 @@ module _ (p : Program) (few : Few) (class : ℕ → Option ℕ) (formed : IsForm
 
   -- constructors and destructors
 
-  set_up : (b : Bool) (i : ℕ) (rest : Stmts) → (b ≡ true → IsNoMaker (telling_of p few class) (meaning.main_at p i)) → (In rest → Fine rest) → In (meaning.set_up p b i rest) → Fine (meaning.set_up p b i rest)
-  set_up false i rest f h w = h w
-  set_up true i rest f h w = ((f refl, tt), (tt, h (λ x y. w x (inr y))))
+  abbrev Executes : Type 0
+  Executes = IsExecuting (telling_by p few class naming) r
+
+  set_up : (b : Bool) (i : ℕ) (rest : Stmts) → (b ≡ true → IsNoMaker (telling_by p few class naming) (meaning.main_at p i)) → (b ≡ true → Executes) → (In rest → Fine rest) → In (meaning.set_up p b i rest) → Fine (meaning.set_up p b i rest)
+  set_up false i rest f g h w = h w
+  set_up true i rest f g h w = ((f refl, tt), (g refl, h (λ x y. w x (inr y))))
 
   started_in : (b : Bool) (body : Stmts) → (In body → Fine body) → In (meaning.started_in p b body) → Fine (meaning.started_in p b body)
   started_in false body h w = h w
@@ -643,15 +646,15 @@ module _ (p : Program) (few : Few) (class : ℕ → Option ℕ) (formed : IsForm
   taken_down false body h w = h w
   taken_down true body h w = ((tt, tt), h (λ x y. w x (inr y)))
 
-  forgotten : (b : Bool) (rest : Stmts) → (In rest → Fine rest) → In (meaning.forgotten p b rest) → Fine (meaning.forgotten p b rest)
-  forgotten false rest h w = h w
-  forgotten true rest h w = (tt, h (λ x y. w x (inr y)))
+  forgotten : (b : Bool) (rest : Stmts) → (b ≡ true → Executes) → (In rest → Fine rest) → In (meaning.forgotten p b rest) → Fine (meaning.forgotten p b rest)
+  forgotten false rest g h w = h w
+  forgotten true rest g h w = (g refl, h (λ x y. w x (inr y)))
 
   ending : (b : Bool) (rest : Stmts) → (In rest → Fine rest) → In (meaning.ending p b rest) → Fine (meaning.ending p b rest)
   ending false rest h w = h w
   ending true rest h w = (tt, h (λ x y. w x (inr y)))
 
-  freed : (k : Kind) (i : ℕ) (rest : Stmts) → (k ≡ kind.Task → IsNoMaker (telling_of p few class) (meaning.main_at p i)) → (In rest → Fine rest) → In (meaning.freed p k i rest) → Fine (meaning.freed p k i rest)
+  freed : (k : Kind) (i : ℕ) (rest : Stmts) → (k ≡ kind.Task → IsNoMaker (telling_by p few class naming) (meaning.main_at p i)) → (In rest → Fine rest) → In (meaning.freed p k i rest) → Fine (meaning.freed p k i rest)
   freed kind.Monitor i rest f h w = (tt, h (λ x y. w x (inr y)))
   freed kind.Cormonitor i rest f h w = (tt, h (λ x y. w x (inr y)))
   freed kind.Task i rest f h w = (f refl, h (λ x y. w x (inr y)))
@@ -659,10 +662,10 @@ module _ (p : Program) (few : Few) (class : ℕ → Option ℕ) (formed : IsForm
   freed kind.Coroutine i rest f h w = h w
   freed kind.Event i rest f h w = h w
 
-  -- of a class of which the fields may be so
-  module _ (i : ℕ) (c : whole.Class) (at : class_at p i ≡ Some c) (may : AllMay i c at (fields_of c.members) (leading_cells c.kind)) where
-    main_none : has_main c.kind ≡ true → IsNoMaker (telling_of p few class) (meaning.main_at p i)
-    main_none h = none p few class r (meaning.main_at p i) (main_plain p formed u i c at h)
+  -- of a class of which the fields may be so, which has executions where the routine builds or destroys one
+  module _ (i : ℕ) (c : whole.Class) (at : class_at p i ≡ Some c) (may : AllMay i c at (fields_of c.members) (leading_cells c.kind)) (ex : has_execution c.kind ≡ true → Executes) where
+    main_none : has_main c.kind ≡ true → IsNoMaker (telling_by p few class naming) (meaning.main_at p i)
+    main_none h = none p few class naming r (meaning.main_at p i) (main_plain p formed u i c at h)
 
     executes_main : (k : Kind) → has_execution k ≡ true → has_main k ≡ true
     executes_main kind.Coroutine e = refl
@@ -674,11 +677,11 @@ module _ (p : Program) (few : Few) (class : ℕ → Option ℕ) (formed : IsForm
 
     construction : (inits : List whole.Init) (s : Scope) (body : Stmts) → (In body → Fine body) → In (meaning.construction p (Some c) i inits s body) → Fine (meaning.construction p (Some c) i inits s body)
     construction inits s body h w =
-        freed c.kind i _ (λ e. main_none (ap has_main e)) (set_up (has_execution c.kind) i _ (λ e. main_none (executes_main c.kind e)) (fields_built i c at inits s (fields_of c.members) (leading_cells c.kind) _ may (started_in (has_execution c.kind) body h))) w
+        freed c.kind i _ (λ e. main_none (ap has_main e)) (set_up (has_execution c.kind) i _ (λ e. main_none (executes_main c.kind e)) ex (fields_built i c at inits s (fields_of c.members) (leading_cells c.kind) _ may (started_in (has_execution c.kind) body h))) w
 
     destruction : (body : Stmts) → (In body → Fine body) → In (meaning.destruction p (Some c) i body) → Fine (meaning.destruction p (Some c) i body)
     destruction body h w =
-        ending (is_mutex c.kind) _ (forgotten (has_execution c.kind) _ (fields_left i c at (fields_of c.members) (leading_cells c.kind) _ may (taken_down (has_execution c.kind) body h))) w
+        ending (is_mutex c.kind) _ (forgotten (has_execution c.kind) _ ex (fields_left i c at (fields_of c.members) (leading_cells c.kind) _ may (taken_down (has_execution c.kind) body h))) w
 
     construction_ends : Fine (meaning.construction_ends p (Some c) i)
     construction_ends = enlivened (has_execution c.kind)
@@ -705,6 +708,20 @@ module _ (p : Program) (few : Few) (class : ℕ → Option ℕ) (formed : IsForm
       by true e = event_may i c at e
       by false e = may i c at (objects e) this
 
+  no_event : (k : Kind) → has_execution k ≡ true → is_event k ≡ false
+  no_event kind.Coroutine e = refl
+  no_event kind.Cormonitor e = refl
+  no_event kind.Class e = refl
+  no_event kind.Monitor e = refl
+  no_event kind.Task e = refl
+  no_event kind.Event e = false_true e
+
+  executing : (whole : sig.whole ≡ true) (i : ℕ) → sig.this ≡ Some i → (c : Class) (at : class_at p i ≡ Some c) → has_execution c.kind ≡ true → Executes
+  executing whole i this c at h = (
+    both_are sig.whole (is_of_objects p sig.this) whole (ap (is_of_objects p) this ∙ (ap (λ o. not (of_kind is_event o)) at ∙ ap not (no_event c.kind h))),
+    (i, this, ap (of_kind has_execution) at ∙ h),
+  )
+
   -- what builds and destroys objects of a class, if there is one
   built : sig.whole ≡ true → (o : Option ℕ) → sig.this ≡ o → (inits : List whole.Init) (s : Scope) (a : Stmt) (body : Stmts) → (InOne a → FineOne a) → body ≡ src.Then a (meaning.construction_ends p (meaning.class_by p o) (meaning.place_or_zero p o)) → In (meaning.construction p (meaning.class_by p o) (meaning.place_or_zero p o) inits s body) → Fine (meaning.construction p (meaning.class_by p o) (meaning.place_or_zero p o) inits s body)
   built whole None this inits s a body h e w = subst Fine (sym e) (h (λ c i. subst In e w c (inl i)), tt)
@@ -714,18 +731,19 @@ module _ (p : Program) (few : Few) (class : ℕ → Option ℕ) (formed : IsForm
       by None at body e w = subst Fine (sym e) (h (λ c i. subst In e w c (inl i)), tt)
       by (Some c) at body e w =
           let m = may_be whole i this c at in
-          construction i c at m inits s body (λ k. subst Fine (sym e) (h (λ x y. subst In e k x (inl y)), construction_ends i c at m)) w
+          let x = executing whole i this c at in
+          construction i c at m x inits s body (λ k. subst Fine (sym e) (h (λ x y. subst In e k x (inl y)), construction_ends i c at m x)) w
 
   built_alone : sig.whole ≡ true → (i : ℕ) → sig.this ≡ Some i → In (meaning.construction p (class_at p i) i [] (meaning.nowhere p) (meaning.construction_ends p (class_at p i) i)) → Fine (meaning.construction p (class_at p i) i [] (meaning.nowhere p) (meaning.construction_ends p (class_at p i) i))
   built_alone whole i this w = by (class_at p i) refl w
     where
       by : (o : Option Class) → class_at p i ≡ o → In (meaning.construction p o i [] (meaning.nowhere p) (meaning.construction_ends p o i)) → Fine (meaning.construction p o i [] (meaning.nowhere p) (meaning.construction_ends p o i))
       by None at w = tt
-      by (Some c) at w = let m = may_be whole i this c at in construction i c at m [] (meaning.nowhere p) (meaning.construction_ends p (Some c) i) (λ k. construction_ends i c at m) w
+      by (Some c) at w = let m = may_be whole i this c at in let x = executing whole i this c at in construction i c at m x [] (meaning.nowhere p) (meaning.construction_ends p (Some c) i) (λ k. construction_ends i c at m x) w
 
   destroyed : sig.whole ≡ true → (i : ℕ) → sig.this ≡ Some i → (o : Option Class) → class_at p i ≡ o → (body : Stmts) → (In body → Fine body) → In (meaning.destruction p o i body) → Fine (meaning.destruction p o i body)
   destroyed whole i this None at body h w = h w
-  destroyed whole i this (Some c) at body h w = destruction i c at (may_be whole i this c at) body h w
+  destroyed whole i this (Some c) at body h w = destruction i c at (may_be whole i this c at) (executing whole i this c at) body h w
 
   destroyed_by : sig.whole ≡ true → (o : Option ℕ) → sig.this ≡ o → (body : Stmts) → (In body → Fine body) → In (meaning.destruction p (meaning.class_by p o) (meaning.place_or_zero p o) body) → Fine (meaning.destruction p (meaning.class_by p o) (meaning.place_or_zero p o) body)
   destroyed_by whole None this body h w = h w
@@ -745,7 +763,7 @@ module _ (p : Program) (few : Few) (class : ℕ → Option ℕ) (formed : IsForm
   all_in : (x : Routine) → slice_get (source_of p).routines r ≡ Some x → In x.body
   all_in x e = λ c i. subst (InRoutine c) (sym e) i
 
-  routine : (o : Option Routine) → slice_get (source_of p).routines r ≡ o → SitedRoutine (telling_of p few class) r o
+  routine : (o : Option Routine) → slice_get (source_of p).routines r ≡ o → SitedRoutine (telling_by p few class naming) r o
   routine None e = tt
   routine (Some x) e = by (in_step p r x e)
     where
@@ -762,4 +780,4 @@ module _ (p : Program) (few : Few) (class : ℕ → Option ℕ) (formed : IsForm
           subst (λ (z : Routine). Fine z.body) (sym q) (unwritten_body y.role y.class (ap (λ (g : Sig). g.whole) same) (ap (λ (g : Sig). g.this) same) (subst (λ (z : Routine). In z.body) q (all_in x e)))
 
 pub law_sited : LawSited
-law_sited p formed accepted few class n = routine p few class formed accepted n (slice_get (source_of p).routines n) refl
+law_sited p formed accepted few class naming n = routine p few class naming formed accepted n (slice_get (source_of p).routines n) refl

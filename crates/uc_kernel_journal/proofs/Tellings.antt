@@ -65,6 +65,11 @@ own_now : (k : EntryKind) (e : Entry) (n : ℕ) → cond (dispatches k e e.task)
 own_now kind.Dispatch e n = let s = self_test e.task in simp s (omega arith)
 own_now k e n = let s = self_test e.task in simp s
 
+-- an entry that is no dispatch and has no ticks
+pub spent_none : (k : EntryKind) (e : Entry) (n : ℕ) → (k ≡ kind.Dispatch → ⊥) → e.ticks ≡ 0 → spent_after k e n ≡ n
+spent_none kind.Dispatch e n h z = absurd (h refl)
+spent_none k e n h z = omega (arith, z)
+
 less_push : (d : Bool) (t : Bool) (n k all : ℕ) → n ≤ all → cond d 0 n + cond t k 0 ≤ all + k
 less_push true true n k all h = omega arith
 less_push true false n k all h = omega arith

@@ -9,6 +9,7 @@ ghost use Rattle.uc_acts.specs.Answers.{answer_to};
 ghost use Rattle.uc_kernel_journal.specs.EntryAnswers.{IsSayable};
 ghost use Rattle.uc_kernel_journal.specs.JournalSums.{AreShort, told_more, with_journal};
 
+use crate::answers::Answers;
 use crate::notes::{note_answers, note_bytes, note_ended, note_failed, note_spent};
 use std::alloc::{AllocError, Global};
 use std::marker::Model;
@@ -30,7 +31,7 @@ pub struct KernelJournal {
     // Ticks of each task since its last dispatch.
     spent: Table<u64>,
     // What each task is told to go on with.
-    answers: Table<Option<Answer>>,
+    answers: Answers,
     // Bytes of the input that reads have taken.
     bytes: u32,
     // Whether a read has failed.
@@ -247,11 +248,11 @@ fn begin_entry(opts: &Options) -> Entry
 }
 
 // Task 0 is told to go on.
-fn first_answers(alloc: Global, tasks: u32) -> Result<Table<Option<Answer>>, AllocError>
+fn first_answers(alloc: Global, tasks: u32) -> Result<Answers, AllocError>
     requires { 1 ≤ tasks }
     ensures { IfOk result (λ t. t ≡ slice_set (replicate tasks None) 0 (Some answer.Go)) }
 {
-    let mut answers = Table::new(alloc, tasks, None)?;
+    let mut answers = Answers::new(alloc, tasks)?;
     answers.set(0, Some(Answer::Go));
     Ok(answers)
 }

@@ -11,6 +11,7 @@ ghost use Rattle.uc_tree.specs.declared.limits.TheConstants.{CLAUSES, DESTRUCTOR
 ghost use Rattle.uc_kernel_journal.specs.EntryAnswers.{says, takes_up, IsSayable, answers_after, spent_after};
 ghost use Rattle.uc_kernel_journal.specs.JournalSums.{AreShort};
 
+use crate::answers::Answers;
 use uc_entry::entry::{Entry, EntryKind};
 use uc_entry::request::Answer;
 use uc_table::Table;
@@ -190,7 +191,7 @@ fn takes_up(kind: EntryKind) -> bool
 
 /// Notes the answers of an entry.
 #[inline(always)]
-pub fn note_answers(answers: &mut Table<Option<Answer>>, sites: &Vec<Site>, e: &Entry)
+pub fn note_answers(answers: &mut Answers, sites: &Vec<Site>, e: &Entry)
     requires short { AreShort sites.now.items }
     requires task { e.now.task < length answers.old }
     requires sayable { IsSayable (length answers.old) e.now.kind e.now }
@@ -206,6 +207,7 @@ pub fn note_answers(answers: &mut Table<Option<Answer>>, sites: &Vec<Site>, e: &
 }
 
 /// Notes the ticks of an entry: those of a task count from its last dispatch.
+#[inline(always)]
 pub fn note_spent(spent: &mut Table<u64>, e: &Entry)
     requires task { e.now.task < length spent.old }
     requires room { slice_index_or spent.old e.now.task 0 + e.now.ticks < 18446744073709551616 }
@@ -214,10 +216,13 @@ pub fn note_spent(spent: &mut Table<u64>, e: &Entry)
 {
     let ticks = u64::from(e.ticks);
     let task = e.task as usize;
-    if e.kind == EntryKind::Dispatch {
-        spent.set(task, ticks);
-    } else {
-        spent.set(task, spent.get(task) + ticks);
+    match e.kind {
+        EntryKind::Dispatch => spent.set(task, ticks),
+        _ => {
+            if ticks > 0 {
+                spent.set(task, spent.get(task) + ticks);
+            }
+        }
     }
 }
 

@@ -30,7 +30,7 @@ is_cluster Clu = inr (λ e. absurd (cc))
 is_cluster Pro = inr (λ e. absurd (cc))
 
 -- a binding has no parts
-within_cell : (t : Table) (w : Value) (b : Ty) (v : Value) (d : Ty) → Within t w (Cell b) v d → (v ≡ w) × (d ≡ Cell b)
+pub within_cell : (t : Table) (w : Value) (b : Ty) (v : Value) (d : Ty) → Within t w (Cell b) v d → (v ≡ w) × (d ≡ Cell b)
 within_cell t w b v d itself = (refl, refl)
 within_cell t w b v d (field {v = u} {c} h i f) = let e = within_cell t w b u (Obj c) h in absurd (cc)
 within_cell t w b v d (element {v = u} {m} {b = x} h j l) = let e = within_cell t w b u (Row m x) h in absurd (cc)

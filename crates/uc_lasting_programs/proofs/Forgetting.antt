@@ -10,6 +10,7 @@ use Rattle.uc_meaning.specs.Runs.{World, Runs}
 use Rattle.uc_resolve.specs.Resolve.{source_of}
 use Rattle.uc_rules.specs.Breaks.{breaks_of}
 use Rattle.uc_state_laws.specs.Fitting.{RunFits}
+use Rattle.uc_state_laws.specs.Limits.{IsWithinLimits}
 use Rattle.uc_state_laws.specs.Opens.{RunMeets}
 use Rattle.uc_sound.specs.SoundFormed.{IsFormed}
 use Rattle.uc_sound.specs.Tables.{table_of}
@@ -32,14 +33,14 @@ use Rattle.uc_lasting_programs.proofs.Finding.{law_finding}
 use Rattle.uc_lasting_programs.proofs.Sparing.{run_spares}
 
 pub law_forgets_programs : LawForgetsPrograms
-law_forgets_programs p formed ok few places zero input opts range j w r fits on alone below first met nowhere x =
+law_forgets_programs p formed ok within few many places zero input opts range j w r fits on alone below first met nowhere x =
     let found = law_finding.runs p formed ok input opts range j w r fits alone in
     let calls = law_calls_runs.runs p formed ok few places input opts range j w r fits below first met x.fair in
-    law_forgets_this (table_of p) few (source_of p) input opts j w r range fits on places zero (law_finding.runs_bind p formed ok few input opts range j w r fits x.fair) found.calls found.finds (run_leaves p formed ok input opts range r fits alone) (run_spares p formed ok few input opts range r fits alone x.fair x.reads) (law_runs.runs p formed ok few input opts range j w r fits x.fair) calls.0 calls.2 nowhere (law_finding.owed p formed ok input opts range j w r fits alone)
+    law_forgets_this (table_of p) few (source_of p) input opts j w r range fits on places zero (law_finding.runs_bind p formed ok few input opts range j w r fits x.fair) found.calls found.finds (run_leaves p formed ok input opts range r fits alone) (run_spares p formed ok within few many input opts range r fits alone x.fair x.homes) (law_runs.runs p formed ok few input opts range j w r fits x.fair) calls.0 calls.2 nowhere (law_finding.owed p formed ok input opts range j w r fits alone)
 
 -- nor is any activation of it
-pub run_nobodys : (p : Program) → IsFormed p → breaks_of p ≡ [] → (few : Few) → ((n : Exec) (w : Value) (b : Ty) → Base few n w b → IsPlace w) → ((n : Exec) → Belongs few n (few.home 0) → ⊥) → (input : List ℕ) (opts : Options) → InRange opts → (j : Journal) (w : World) (r : Runs (source_of p) input opts j w) → RunFits (source_of p) input opts j w r → is_over j ≡ false → RunAlone (source_of p) input opts j w r → PassesBelow few opts j → MainPasses (table_of p) few ((table_of p).routine (source_of p).main).this 0 → RunMeets (Meets (table_of p) few) (source_of p) input opts j w r → RunGoes (IsLeftNowhere (table_of p) few) (source_of p) input opts r → IsLeftOf p few input opts j w r → RunGoes IsNobodys (source_of p) input opts r
-run_nobodys p formed ok few places zero input opts range j w r fits on alone below first met nowhere x =
+pub run_nobodys : (p : Program) → IsFormed p → breaks_of p ≡ [] → IsWithinLimits p → (few : Few) (many : ℕ) → ((n : Exec) (w : Value) (b : Ty) → Base few n w b → IsPlace w) → ((n : Exec) → Belongs few n (few.home 0) → ⊥) → (input : List ℕ) (opts : Options) → InRange opts → (j : Journal) (w : World) (r : Runs (source_of p) input opts j w) → RunFits (source_of p) input opts j w r → is_over j ≡ false → RunAlone (source_of p) input opts j w r → PassesBelow few opts j → MainPasses (table_of p) few ((table_of p).routine (source_of p).main).this 0 → RunMeets (Meets (table_of p) few) (source_of p) input opts j w r → RunGoes (IsLeftNowhere (table_of p) few) (source_of p) input opts r → IsLeftOf p few many input opts j w r → RunGoes IsNobodys (source_of p) input opts r
+run_nobodys p formed ok within few many places zero input opts range j w r fits on alone below first met nowhere x =
     let found = law_finding.runs p formed ok input opts range j w r fits alone in
     let calls = law_calls_runs.runs p formed ok few places input opts range j w r fits below first met x.fair in
-    law_nobodys (table_of p) few (source_of p) input opts j w r range fits on zero (law_finding.runs_bind p formed ok few input opts range j w r fits x.fair) found.calls found.finds (run_leaves p formed ok input opts range r fits alone) (run_spares p formed ok few input opts range r fits alone x.fair x.reads) (law_runs.runs p formed ok few input opts range j w r fits x.fair) calls.0 calls.2 nowhere (law_finding.owed p formed ok input opts range j w r fits alone)
+    law_nobodys (table_of p) few (source_of p) input opts j w r range fits on zero (law_finding.runs_bind p formed ok few input opts range j w r fits x.fair) found.calls found.finds (run_leaves p formed ok input opts range r fits alone) (run_spares p formed ok within few many input opts range r fits alone x.fair x.homes) (law_runs.runs p formed ok few input opts range j w r fits x.fair) calls.0 calls.2 nowhere (law_finding.owed p formed ok input opts range j w r fits alone)

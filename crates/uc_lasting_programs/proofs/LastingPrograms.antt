@@ -1,5 +1,5 @@
 -- What a program asks is not gone, and of a task where it is to be, as far as no law gives that.
-use Rattle.std.proofs.Common.{◌≡◌, ℕ, ℤ, ◌<◌, ◌⊎◌, inl, inr, ◌++◌, ◌||◌, ◌∙◌, Bool, true, false, List, [], ◌∷◌, refl, sym, subst, arith}
+use Rattle.std.proofs.Common.{◌≡◌, ℕ, ℤ, ◌<◌, ◌⊎◌, inl, inr, ◌++◌, ◌∙◌, Bool, true, false, List, [], ◌∷◌, refl, sym, subst, arith}
 use Rattle.uc_tree.specs.Programs.{Program}
 use Rattle.uc_tree.specs.Source.{Source}
 use Rattle.uc_entry.specs.declared.entry.Entry.{Entry}
@@ -34,7 +34,7 @@ use Rattle.uc_life_laws.specs.Things.{Few, Base}
 use Rattle.uc_life_laws.specs.Lives.{LivesState}
 use Rattle.uc_life_laws.specs.Knowing.{KnowsState}
 use Rattle.uc_life_laws.specs.KnownAnswers.{MainPasses}
-use Rattle.uc_life_laws.specs.Marks.{Puts}
+use Rattle.uc_life_laws.specs.Marks.{LoneState, Puts}
 use Rattle.uc_life_laws.specs.KnownRuns.{PassesBelow, Meets, NamesMade}
 use Rattle.uc_life_laws.specs.Belonging.{Belongs}
 use Rattle.uc_life_laws.specs.Homes.{home_of}
@@ -47,8 +47,9 @@ use Rattle.uc_life_laws.specs.Lasting.{lasting, RunForgets}
 use Rattle.uc_life_laws.proofs.Called.{law_called}
 use Rattle.uc_life_laws.proofs.Lasting.{law_raised}
 use Rattle.uc_putting_laws.specs.PuttingLaws.{setting_of, Fair}
-use Rattle.uc_homed_ends.specs.HomesLeft.{Told}
+use Rattle.uc_homed_ends.specs.HomesLeft.{KnowsReads, Told}
 use Rattle.uc_homed_ends.specs.Elements.{no_fields}
+use Rattle.uc_homed_ends.proofs.BoundRuns.{ride_zip, run_zip}
 use Rattle.uc_homed_ends.proofs.EndHomes.{run_with, ride_with}
 use Rattle.uc_homed_ends.proofs.Found.{law_found}
 use Rattle.uc_life_laws.specs.HomedStates.{Opens}
@@ -56,34 +57,26 @@ use Rattle.uc_request_laws.specs.ApartRuns.{StepApart}
 use Rattle.uc_request_laws.specs.Lasting.{IsLasting}
 use Rattle.uc_request_laws.proofs.ApartLemmas.{law_apart_runs}
 use Rattle.uc_request_laws.proofs.LastingLemmas.{names_made, law_lasting}
-use Rattle.uc_owner_laws.proofs.OwnerRuns.{law_owner_runs}
+use Rattle.uc_life_laws.proofs.UnmarkedWorlds.{law_runs as law_lone_runs}
 use Rattle.uc_putting_laws.proofs.PuttingRuns.{law_runs as law_puts}
 use Rattle.uc_running_laws.proofs.RunningLemmas.{run_leaves}
-use Rattle.uc_rooted_runs.specs.Makers.{Makers}
-use Rattle.uc_rooted_runs.specs.OutlastRuns.{with_homes}
 use Rattle.uc_rooted_runs.specs.UnmarkedRuns.{RunLeft}
 use Rattle.uc_rooted_runs.proofs.UnmarkedRuns.{law_unmarked_runs}
-use Rattle.uc_making_laws.specs.NoOthers.{NoThis}
 use Rattle.uc_making_laws.specs.OwnThis.{ThisState, FindsThis}
-use Rattle.uc_making_laws.specs.LettingGo.{LetsState, FindsTold}
-use Rattle.uc_making_laws.proofs.LettingRuns.{law_letting_runs}
-use Rattle.uc_making_laws.proofs.NoOthers.{law_no_others}
 use Rattle.uc_homed_ends.specs.Ended.{is_variable, IsEntered}
 use Rattle.uc_homed_ends.proofs.Ended.{law_ended}
-use Rattle.uc_making_laws.specs.BeforeRides.{RootedOnWay, RootedOnWayBy, RaisesUpwards, RaisesUpwardsBy}
+use Rattle.uc_making_laws.specs.BeforeRides.{ElsewhereOnWay, ElsewhereOnWayBy}
 use Rattle.uc_making_laws.specs.ForgetsThis.{RunGoes, IsLeftNowhere}
-use Rattle.uc_running_laws.specs.OtherNames.{ReadsOthers}
 use Rattle.uc_lasting_programs.specs.Forgetting.{IsLeftOf}
 use Rattle.uc_lasting_programs.specs.LastingPrograms.{IsLeftFor, LawLastingPrograms}
 use Rattle.uc_lasting_programs.specs.Meeting.{RunHoldsAt}
-use Rattle.uc_lasting_programs.specs.NumberReads.{ReadsNumbers}
+use Rattle.uc_lasting_programs.specs.Bases.{unbarred, based}
 use Rattle.uc_lasting_programs.specs.Seats.{ride_seats, run_seats, seated}
 use Rattle.uc_lasting_programs.specs.Telling.{main_class, is_main_home, few_of, IsTelling}
-use Rattle.uc_making_laws.specs.Upheld.{way_makers}
-use Rattle.uc_lasting_programs.specs.Ways.{IsKeptTo, RunKeepsTo}
+use Rattle.uc_lasting_programs.specs.Ways.{RunHoldsOnWay}
 use Rattle.uc_lasting_programs.proofs.Asking.{law_asked_at}
-use Rattle.uc_lasting_programs.proofs.Finding.{ride_map, run_map}
-use Rattle.uc_lasting_programs.proofs.NumberReads.{numbers_others}
+use Rattle.uc_lasting_programs.specs.Sparing.{KnowsHomes}
+use Rattle.uc_lasting_programs.proofs.Finding.{ride_map}
 use Rattle.uc_lasting_programs.proofs.CallsRuns.{law_calls_runs}
 use Rattle.uc_lasting_programs.proofs.Forgetting.{law_forgets_programs, run_nobodys}
 use Rattle.uc_lasting_programs.proofs.Telling.{law_telling}
@@ -93,10 +86,11 @@ use Rattle.uc_lasting_programs.proofs.Meeting.{tells_made, ride_outside, run_out
 use Rattle.uc_lasting_programs.proofs.Numbers.{passes}
 use Rattle.uc_lasting_programs.proofs.PresentRides.{EntersClear, Began}
 use Rattle.uc_lasting_programs.proofs.PresentRuns.{began}
+use Rattle.uc_lasting_programs.proofs.Bases.{ways_elsewhere, way_elsewhere, BarsNone, bars_none, holds_none}
 use Rattle.uc_lasting_programs.proofs.Seats.{left_true, right_true, Seats, ride_has, run_has}
 use Rattle.uc_lasting_programs.proofs.Remaining.{ride_remains, last_whole, run_remains}
 use Rattle.uc_lasting_programs.proofs.Owning.{first_owned}
-use Rattle.uc_lasting_programs.proofs.Unowing.{none_of_it}
+use Rattle.uc_lasting_programs.proofs.Raising.{not_raised}
 
 -- what holds at the states of a ride in two ways, and on the way to one
 
@@ -144,7 +138,6 @@ telling numbers home base = record { numbers = numbers; home = home; base = base
 
 -- what is left of a run, in which that is told of homes which a run tells in the end that makes so many objects
 record IsLeftKnown (p : Program) (few : Few) (many : ℕ) (input : List ℕ) (opts : Options) (j : Journal) (w : World) (r : Runs (source_of p) input opts j w) : Type 0 where
-  reads : RunMeets (ReadsOthers few) (source_of p) input opts j w r
   homes : (o : ℕ) → o < object_count j → few.home o ≡ home_of (source_of p) input opts j w r o
   told : RunMeets (Told p few many) (source_of p) input opts j w r
 
@@ -153,7 +146,7 @@ module _ (p : Program) (formed : IsFormed p) (ok : breaks_of p ≡ []) (within :
   these = telling numbers home base
 
   abbrev Left : (j : Journal) (w : World) → Runs (source_of p) input opts j w → Type 0
-  Left j w r = RunKeepsTo (table_of p) these (source_of p) input opts r × IsLeftKnown p these many input opts j w r
+  Left j w r = RunHoldsOnWay (λ j w u v. ElsewhereOnWay (table_of p) these j w u v (source_of p)) (source_of p) input opts r × IsLeftKnown p these many input opts j w r
 
   -- what one act less had made is told as it was
   fewer : (j : Journal) (w : World) (a : List Entry) (v : World) (r : Runs (source_of p) input opts j w) (on : is_over j ≡ false) (m : May (source_of p) opts input j w a v) → ((o : ℕ) → o < object_count (j ++ a) → home o ≡ home_of (source_of p) input opts (j ++ a) v (more r on m) o) → (o : ℕ) → o < object_count j → home o ≡ home_of (source_of p) input opts j w r o
@@ -162,19 +155,21 @@ module _ (p : Program) (formed : IsFormed p) (ok : breaks_of p ≡ []) (within :
       tells o (omega (arith, lt, le)) ∙ law_once (source_of p) input opts j w a v m (λ i. home_of (source_of p) input opts j w r i) o lt
 
   shorter : (j : Journal) (w : World) (a : List Entry) (v : World) (r : Runs (source_of p) input opts j w) (on : is_over j ≡ false) (m : May (source_of p) opts input j w a v) → Left (j ++ a) v (more r on m) → Left j w r
-  shorter j w a v r on m x = (x.0.0, record { reads = x.1.reads.0; homes = fewer j w a v r on m x.1.homes; told = x.1.told.0 })
+  shorter j w a v r on m x = (x.0.0, record { homes = fewer j w a v r on m x.1.homes; told = x.1.told.0 })
 
   -- all is known where each step found what it was to find
-  left_so : (j : Journal) (w : World) (r : Runs (source_of p) input opts j w) → RunFits (source_of p) input opts j w r → PassesBelow these opts j → RunMeets (Meets (table_of p) these) (source_of p) input opts j w r → IsLeftKnown p these many input opts j w r → IsLeftOf p these input opts j w r
-  left_so j w r f below met x = record {
-    reads = x.reads;
-    fair = law_found.runs p formed ok within these many input opts range j w r f x.told (run_reads p formed ok numbers home base raws places main input opts range r f below met);
-  }
+  left_so : (j : Journal) (w : World) (r : Runs (source_of p) input opts j w) → RunFits (source_of p) input opts j w r → PassesBelow these opts j → RunMeets (Meets (table_of p) these) (source_of p) input opts j w r → IsLeftKnown p these many input opts j w r → IsLeftOf p these many input opts j w r
+  left_so j w r f below met x =
+      let known = run_reads p formed ok numbers home base within raws places main input opts range r f below met in
+      record {
+        homes = run_zip (Told p these many) (KnowsReads (table_of p) these) (KnowsHomes p these many) (λ v a b. (a, b)) r x.told known;
+        fair = law_found.runs p formed ok within these many input opts range j w r f x.told known;
+      }
 
   apart_so : (j : Journal) (w : World) (r : Runs (source_of p) input opts j w) → RunFits (source_of p) input opts j w r → is_over j ≡ false → PassesBelow these opts j → RunMeets (Meets (table_of p) these) (source_of p) input opts j w r → Left j w r → RunMeets (StepApart (table_of p) these (source_of p)) (source_of p) input opts j w r × RunGoes (IsLeftNowhere (table_of p) these) (source_of p) input opts r
   apart_so j w r f on below met x =
       let l = left_so j w r f below met x.1 in
-      law_ways.runs p formed ok these places zero input opts range j w r f on below main met l.fair l.reads x.0
+      law_ways.runs p formed ok within these many places zero input opts range j w r f on below main met l.fair l.homes x.0
 
   shown : (j : Journal) (w : World) (r : Runs (source_of p) input opts j w) → RunFits (source_of p) input opts j w r → is_over j ≡ false → PassesBelow these opts j → RunMeets (Meets (table_of p) these) (source_of p) input opts j w r → Left j w r → Shown p formed ok numbers home base input opts j w r
   shown j w r f on below met x =
@@ -182,20 +177,19 @@ module _ (p : Program) (formed : IsFormed p) (ok : breaks_of p ≡ []) (within :
       let lone = law_apart_runs.runs p formed ok these input opts range j w r f below main met so.0 in
       let l = left_so j w r f below met x.1 in
       record {
-        forgets = law_forgets_programs p formed ok these places zero input opts range j w r f on lone below main met so.1 l;
+        forgets = law_forgets_programs p formed ok within these many places zero input opts range j w r f on lone below main met so.1 l;
         alone = lone;
-        nobodys = run_nobodys p formed ok these places zero input opts range j w r f on lone below main met so.1 l;
+        nobodys = run_nobodys p formed ok within these many places zero input opts range j w r f on lone below main met so.1 l;
         homes = x.1.homes;
       }
 
   -- what is entered again to be destroyed is not at hand of who enters it
-  clear_of : (makers : Makers) (j : Journal) (w : World) (u : ℕ) (v : State) → RootedOnWay (table_of p) these makers j w u v (source_of p) → EntersClear p these v
-  clear_of makers j w u v h = λ k m r todo e. subst (RootedOnWayBy (table_of p) these makers j w u v (source_of p)) e h k
+  clear_of : (j : Journal) (w : World) (u : ℕ) (v : State) → ElsewhereOnWay (table_of p) these j w u v (source_of p) → EntersClear p these v
+  clear_of j w u v h = λ k m r todo e. subst (ElsewhereOnWayBy (table_of p) these j w u v (source_of p)) e h k
 
-  clears : (j : Journal) (w : World) (r : Runs (source_of p) input opts j w) (q n k : ℕ) (s : State) (asked : Asked) (d : AsksIn (source_of p) opts j w q n k s asked) → IsKeptTo (table_of p) these (source_of p) input opts j w r q n k s asked d → RideMeets (EntersClear p these) (source_of p) (answered (source_of p) d.given (drawn j w n)) (left opts j n) s k asked d.rides
+  clears : (j : Journal) (w : World) (r : Runs (source_of p) input opts j w) (q n k : ℕ) (s : State) (asked : Asked) (d : AsksIn (source_of p) opts j w q n k s asked) → RideMeets (λ v. ElsewhereOnWay (table_of p) these j w n v (source_of p)) (source_of p) (answered (source_of p) d.given (drawn j w n)) (left opts j n) s k asked d.rides → RideMeets (EntersClear p these) (source_of p) (answered (source_of p) d.given (drawn j w n)) (left opts j n) s k asked d.rides
   clears j w r q n k s asked d h =
-      let makers : Makers = with_homes (home_of (source_of p) input opts j w r) (way_makers (source_of p) input opts r d) in
-      ride_map (λ v. RootedOnWay (table_of p) these makers j w n v (source_of p)) (EntersClear p these) (clear_of makers j w n) d.rides h.rooted
+      ride_map (λ v. ElsewhereOnWay (table_of p) these j w n v (source_of p)) (EntersClear p these) (clear_of j w n) d.rides h
 
 module _ (p : Program) (formed : IsFormed p) (ok : breaks_of p ≡ []) (within : IsWithinLimits p) (input : List ℕ) (opts : Options) (range : InRange opts) (j : Journal) (w : World) (r : Runs (source_of p) input opts j w) (f : RunFits (source_of p) input opts j w r) (on : is_over j ≡ false) (q t n : ℕ) (s : State) (asked : Asked) (d : AsksIn (source_of p) opts j w q t n s asked) (x : IsLeftFor p input opts j w r q t n s asked d) where
   abbrev source : Source
@@ -205,7 +199,7 @@ module _ (p : Program) (formed : IsFormed p) (ok : breaks_of p ≡ []) (within :
   start = answered source d.given (drawn j w t)
 
   abbrev few : Few
-  few = few_of p input opts j w r (seated p input opts r d x.base)
+  few = few_of p input opts j w r (based p input opts r d)
 
   abbrev all : ℕ
   all = object_count j
@@ -213,13 +207,6 @@ module _ (p : Program) (formed : IsFormed p) (ok : breaks_of p ≡ []) (within :
   -- homes are those that the run tells
   told_here : RunMeets (Told p few all) source input opts j w r
   told_here = law_found.told p formed ok within few input opts range j w r f (λ o. refl)
-
-  -- an execution is read for a number alone
-  reads_here : RunMeets (ReadsOthers few) source input opts j w r
-  reads_here = run_map (ReadsNumbers (table_of p) few) (ReadsOthers few) (λ v h. numbers_others (table_of p) few v h) r x.reads
-
-  reads_now : RideMeets (ReadsOthers few) source start (left opts j t) s n asked d.rides
-  reads_now = ride_map (ReadsNumbers (table_of p) few) (ReadsOthers few) (λ v h. numbers_others (table_of p) few v h) d.rides x.reads_now
 
   told_next : RideMeets (Told p few all) source start (left opts j t) s n asked d.rides
   told_next = law_found.told_next p formed ok within few input opts range j w r f (λ o. refl) on q t n s asked d
@@ -229,10 +216,10 @@ module _ (p : Program) (formed : IsFormed p) (ok : breaks_of p ≡ []) (within :
   Opened v = Opens (table_of p) no_fields few v
 
   left_here : IsLeftKnown p few all input opts j w r
-  left_here = record { reads = reads_here; homes = λ o lt. refl; told = told_here }
+  left_here = record { homes = λ o lt. refl; told = told_here }
 
   tells : IsTelling p few opts j
-  tells = law_telling p formed ok input opts j w r (seated p input opts r d x.base)
+  tells = law_telling p formed ok input opts j w r (based p input opts r d)
 
   -- numbers of what is not gone
   raws_last : (i : Journal) → RawsPass (lasting few i)
@@ -241,16 +228,23 @@ module _ (p : Program) (formed : IsFormed p) (ok : breaks_of p ≡ []) (within :
   abbrev Here : Journal → ℕ → State → Type 0
   Here i n v = BuiltHere p formed ok few.numbers few.home few.base i n v
 
+  abbrev Homes : ℕ → Value
+  Homes o = home_of source input opts j w r o
+
+  -- what the ways are asked is shown of all that is told but seats
+  ways_here : RunHoldsOnWay (λ j w u v. ElsewhereOnWay (table_of p) few j w u v source) source input opts r
+  ways_here = ways_elsewhere p formed ok input opts range j w r f on q t n s asked d x.ways
+
+  way_here : RideMeets (λ v. ElsewhereOnWay (table_of p) few j w t v source) source start (left opts j t) s n asked d.rides
+  way_here = way_elsewhere p formed ok input opts range j w r f on q t n s asked d x.way_now
+
   -- executions have the objects for which they were made
-  has_seat : (n : Exec) (v : Value) (b : Ty) → IsPlace v → seated p input opts r d x.base n v b ≡ true → Base few n v b
-  has_seat n (Place o l) b i h = right_true (is_main_home (main_class p) n o l b) (seated p input opts r d x.base n (Place o l) b) h
+  has_seat : (n : Exec) (v : Value) (b : Ty) → IsPlace v → seated p input opts r d n v b ≡ true → Base few n v b
+  has_seat n (Place o l) b i h = right_true (is_main_home (main_class p) n o l b) (based p input opts r d n (Place o l) b) (left_true (seated p input opts r d n (Place o l) b) (unbarred Homes source input opts r d n (Place o l)) h)
   has_seat n (Number z) b i h = absurd i
   has_seat n (Running m) b i h = absurd i
   has_seat n (Object o) b i h = absurd i
   has_seat n Nothing b i h = absurd i
-
-  abbrev Homes : ℕ → Value
-  Homes o = home_of source input opts j w r o
 
   abbrev so_far : Exec → Value → Ty → Bool
   so_far n v b = run_seats (table_of p) Homes source input opts r n v b
@@ -260,11 +254,11 @@ module _ (p : Program) (formed : IsFormed p) (ok : breaks_of p ≡ []) (within :
 
   seats_so_far : RunMeets (Seats (table_of p) few.home (Base few)) source input opts j w r
   seats_so_far =
-      run_has (table_of p) few.home (Base few) source input opts r (λ n v b i h. has_seat n v b i (left_true (so_far n v b || on_ride n v b) (x.base n v b) (left_true (so_far n v b) (on_ride n v b) h)))
+      run_has (table_of p) few.home (Base few) source input opts r (λ n v b i h. has_seat n v b i (left_true (so_far n v b) (on_ride n v b) h))
 
   seats_next : RideMeets (Seats (table_of p) few.home (Base few)) source start (left opts j t) s n asked d.rides
   seats_next =
-      ride_has (table_of p) few.home (Base few) d.rides (λ n v b i h. has_seat n v b i (left_true (so_far n v b || on_ride n v b) (x.base n v b) (right_true (so_far n v b) (on_ride n v b) h)))
+      ride_has (table_of p) few.home (Base few) d.rides (λ n v b i h. has_seat n v b i (right_true (so_far n v b) (on_ride n v b) h))
 
   met_so_far : RunHoldsAt Here source input opts j w r
   met_so_far = run_remains p formed ok within input opts range few raws_last (λ c o h. h) r f tells.below (run_with (Told p few all) Opened (λ v h. h.1) r told_here) x.met seats_so_far
@@ -286,47 +280,49 @@ module _ (p : Program) (formed : IsFormed p) (ok : breaks_of p ≡ []) (within :
   clears_of j w r on q n k s asked d l = clears p formed ok within all few.numbers few.home few.base tells.raws tells.main tells.places tells.nobodys input opts range j w r q n k s asked d l.0.1
 
   so : HasMet p formed ok few.numbers few.home few.base input opts j w r
-  so = run_met p formed ok few.numbers few.home few.base tells.raws tells.places tells.main input opts range LeftOf shorter_of shown_of clears_of r f tells.below met_so_far (x.ways, left_here)
+  so = run_met p formed ok few.numbers few.home few.base within tells.raws tells.places tells.main input opts range LeftOf shorter_of shown_of clears_of r f tells.below met_so_far (ways_here, left_here)
 
-  left_of : IsLeftOf p few input opts j w r
+  left_of : IsLeftOf p few all input opts j w r
   left_of = left_so p formed ok within all few.numbers few.home few.base tells.raws tells.main tells.places tells.nobodys input opts range j w r f tells.below so.all left_here
 
   shows : Shown p formed ok few.numbers few.home few.base input opts j w r
-  shows = shown_of j w r f on tells.below so (x.ways, left_here)
+  shows = shown_of j w r f on tells.below so (ways_here, left_here)
 
   forgets : RunForgets (table_of p) few source input opts j w r
   forgets = shows.forgets
 
   -- what is so as this ride begins
   clear_now : RideMeets (EntersClear p few) source start (left opts j t) s n asked d.rides
-  clear_now = clears p formed ok within all few.numbers few.home few.base tells.raws tells.main tells.places tells.nobodys input opts range j w r q t n s asked d x.way_now
+  clear_now = clears p formed ok within all few.numbers few.home few.base tells.raws tells.main tells.places tells.nobodys input opts range j w r q t n s asked d way_here
 
   begins : Began p few j start
   begins =
-      began p formed ok input opts range j w r f on shows.alone (run_present p formed ok few.numbers few.home few.base tells.raws tells.places tells.main input opts range LeftOf shorter_of shown_of clears_of r f on tells.below so (x.ways, left_here)) few (homed p formed ok few.numbers few.home few.base tells.raws tells.places tells.main input opts range j w r f tells.below so shows.homes) q t n s asked d
+      began p formed ok input opts range j w r f on shows.alone (run_present p formed ok few.numbers few.home few.base within tells.raws tells.places tells.main input opts range LeftOf shorter_of shown_of clears_of r f on tells.below so (ways_here, left_here)) few (homed p formed ok few.numbers few.home few.base within tells.raws tells.places tells.main input opts range j w r f tells.below so shows.homes) q t n s asked d
 
   lasts_now : RideMeets (Meets (table_of p) (lasting few j)) source start (left opts j t) s n asked d.rides
-  lasts_now = ride_lasts p formed ok few.numbers few.home few.base tells.raws tells.places tells.main input opts range j w r f on tells.below forgets so q t n s asked d met_next clear_now begins
+  lasts_now = ride_lasts p formed ok few.numbers few.home few.base within tells.raws tells.places tells.main input opts range j w r f on tells.below forgets shows.homes so q t n s asked d met_next clear_now begins
 
   met_now : RideMeets (Meets (table_of p) few) source start (left opts j t) s n asked d.rides
-  met_now = ride_all p formed ok few.numbers few.home few.base tells.raws tells.places tells.main input opts range j w r f on tells.below forgets so q t n s asked d met_next clear_now begins
+  met_now = ride_all p formed ok few.numbers few.home few.base within tells.raws tells.places tells.main input opts range j w r f on tells.below forgets shows.homes so q t n s asked d met_next clear_now begins
+
+  known_now : RideMeets (KnowsReads (table_of p) few) source start (left opts j t) s n asked d.rides
+  known_now = ride_reads p formed ok few.numbers few.home few.base within tells.raws tells.places tells.main input opts range j w r f on tells.below so.all q t n s asked d met_now
 
   fair_now : RideMeets (Fair (setting_of p few)) source start (left opts j t) s n asked d.rides
   fair_now =
-      law_found.rides p formed ok within few all input opts range j w r f told_here (run_reads p formed ok few.numbers few.home few.base tells.raws tells.places tells.main input opts range r f tells.below so.all) on q t n s asked d told_next (ride_reads p formed ok few.numbers few.home few.base tells.raws tells.places tells.main input opts range j w r f on tells.below so.all q t n s asked d met_now)
+      law_found.rides p formed ok within few all input opts range j w r f told_here (run_reads p formed ok few.numbers few.home few.base within tells.raws tells.places tells.main input opts range r f tells.below so.all) on q t n s asked d told_next known_now
 
-  -- where an event is raised what executions have of others stands upwards
-  abbrev Upwards : State → Type 0
-  Upwards v = RaisesUpwards (table_of p) few (way_makers (source_of p) input opts r d).rank j w t v
+  homes_now : RideMeets (KnowsHomes p few all) source start (left opts j t) s n asked d.rides
+  homes_now = ride_zip (Told p few all) (KnowsReads (table_of p) few) (KnowsHomes p few all) (λ v a b. (a, b)) d.rides told_next known_now
 
-  on_way : RideMeets (StepApart (table_of p) few source) source start (left opts j t) s n asked d.rides × RideMeets Upwards source start (left opts j t) s n asked d.rides
-  on_way = law_ways.rides p formed ok few tells.places tells.nobodys input opts range j w r f on tells.below tells.main so.all left_of.fair reads_here x.ways q t n s asked d met_now fair_now reads_now x.way_now
+  on_way : RideMeets (StepApart (table_of p) few source) source start (left opts j t) s n asked d.rides
+  on_way = law_ways.rides p formed ok within few all tells.places tells.nobodys input opts range j w r f on tells.below tells.main so.all left_of.fair left_of.homes ways_here q t n s asked d met_now fair_now homes_now way_here
 
   -- nobody else has at hand what is let go of, so far and in this ride
   apart : RunMeets (StepApart (table_of p) few source) source input opts j w r × RideMeets (StepApart (table_of p) few source) source start (left opts j t) s n asked d.rides
   apart = (
-    (apart_so p formed ok within all few.numbers few.home few.base tells.raws tells.main tells.places tells.nobodys input opts range j w r f on tells.below so.all (x.ways, left_here)).0,
-    on_way.0,
+    (apart_so p formed ok within all few.numbers few.home few.base tells.raws tells.main tells.places tells.nobodys input opts range j w r f on tells.below so.all (ways_here, left_here)).0,
+    on_way,
   )
 
   abbrev Lasts : State → Type 0
@@ -335,26 +331,27 @@ module _ (p : Program) (formed : IsFormed p) (ok : breaks_of p ≡ []) (within :
   abbrev Known : State → Type 0
   Known v = Meets (table_of p) few v
 
-  -- objects are at home where they are bound and loaded, what is in scope holds what is not gone, and what executions have of others stands upwards where
-  -- an event is raised
-  abbrev Ends : State → Type 0
-  Ends v = Fair (setting_of p few) v × (LivesState (table_of p) (lasting few j) v × Upwards v)
+  -- objects are at home where they are bound and loaded, and what is in scope holds what is not gone
+  abbrev Free : State → Type 0
+  Free v = BarsNone p formed ok input opts range j w r f on q t n s asked d v
 
-  -- the objects of calls are had, and told of
+  abbrev Ends : State → Type 0
+  Ends v = Fair (setting_of p few) v × (LivesState (table_of p) (lasting few j) v × Free v)
+
+  -- the objects of calls are had
   abbrev Calls : State → Type 0
-  Calls v = FindsThis (table_of p) few source v × FindsTold (table_of p) few source v
+  Calls v = FindsThis (table_of p) few source v
 
   abbrev All : State → Type 0
   All v = Lasts v × (Known v × (Calls v × Ends v))
 
   ends_now : RideMeets Ends source start (left opts j t) s n asked d.rides
   ends_now =
-      ride_both (Fair (setting_of p few)) (λ v. LivesState (table_of p) (lasting few j) v × Upwards v) source d.rides fair_now (ride_both (LivesState (table_of p) (lasting few j)) Upwards source d.rides (ride_lives p formed ok few.numbers few.home few.base tells.raws tells.places tells.main input opts range j w r f on tells.below forgets so q t n s asked d met_next clear_now begins) on_way.1)
+      ride_both (Fair (setting_of p few)) (λ v. LivesState (table_of p) (lasting few j) v × Free v) source d.rides fair_now (ride_both (LivesState (table_of p) (lasting few j)) Free source d.rides (ride_lives p formed ok few.numbers few.home few.base within tells.raws tells.places tells.main input opts range j w r f on tells.below forgets shows.homes so q t n s asked d met_next clear_now begins) (bars_none p formed ok input opts range j w r f on q t n s asked d))
 
   calls_now : RideMeets Calls source start (left opts j t) s n asked d.rides
   calls_now =
-      let k = law_calls_runs.rides p formed ok few tells.places input opts range j w r f on tells.below tells.main so.all left_of.fair q t n s asked d met_now fair_now in
-      ride_both (FindsThis (table_of p) few source) (FindsTold (table_of p) few source) source d.rides k.0 k.1
+      (law_calls_runs.rides p formed ok few tells.places input opts range j w r f on tells.below tells.main so.all left_of.fair q t n s asked d met_now fair_now).0
 
   all_meet : RideMeets All source start (left opts j t) s n asked d.rides
   all_meet =
@@ -368,7 +365,7 @@ module _ (p : Program) (formed : IsFormed p) (ok : breaks_of p ≡ []) (within :
   left_behind : RunLeft (table_of p) few source input opts j w r
   left_behind =
       let alone = law_apart_runs.runs p formed ok few input opts range j w r f tells.below tells.main so.all apart.0 in
-      law_unmarked_runs (table_of p) few source input opts j w r range f on (run_leaves p formed ok input opts range r f alone) (run_spares p formed ok few input opts range r f alone left_of.fair reads_here) puts
+      law_unmarked_runs (table_of p) few source input opts j w r range f on (run_leaves p formed ok input opts range r f alone) (run_spares p formed ok within few all input opts range r f alone left_of.fair left_of.homes) puts
 
   module _ (a : AsksAt All source start asked.request s) where
     abbrev comes : Comes source j w t a.state
@@ -391,18 +388,17 @@ module _ (p : Program) (formed : IsFormed p) (ok : breaks_of p ≡ []) (within :
 
     this_there : ThisState (table_of p) few a.state
     this_there =
-        (law_calls_runs.runs p formed ok few tells.places input opts range j w r f tells.below tells.main so.all left_of.fair).1.comes on t a.state comes (leads_map All (FindsThis (table_of p) few source) source (λ v h. h.1.1.0.0) a.leads a.meets)
+        (law_calls_runs.runs p formed ok few tells.places input opts range j w r f tells.below tells.main so.all left_of.fair).1.comes on t a.state comes (leads_map All (FindsThis (table_of p) few source) source (λ v h. h.1.1.0) a.leads a.meets)
 
-    lets_there : LetsState (table_of p) few a.state
-    lets_there =
-        (law_letting_runs (table_of p) few source input opts j w r (law_calls_runs.runs p formed ok few tells.places input opts range j w r f tells.below tells.main so.all left_of.fair).2).comes on t a.state comes (leads_map All (FindsTold (table_of p) few source) source (λ v h. h.1.1.0.1) a.leads a.meets)
+    lone_there : LoneState (table_of p) few a.state
+    lone_there = (law_lone_runs (table_of p) few source input opts j w r puts).comes t a.state comes puts_there
 
     known_there : KnowsState (table_of p) few [] a.state
     known_there = (law_known_runs p formed ok few input opts range j w r f on tells.below tells.main so.all).comes t a.state comes meets_there
 
     made : NamesMade opts j asked.request
     made =
-        names_made (table_of p) few opts j (tells_made p input opts j w r (seated p input opts r d x.base)) asked.request ((law_known_runs p formed ok few input opts range j w r f on tells.below tells.main so.all).names t a.state comes meets_there a.here.1.0 asked.request s a.asks)
+        names_made (table_of p) few opts j (tells_made p input opts j w r (based p input opts r d)) asked.request ((law_known_runs p formed ok few input opts range j w r f on tells.below tells.main so.all).names t a.state comes meets_there a.here.1.0 asked.request s a.asks)
 
     -- what is entered to be destroyed is not gone: it was loaded for that from a variable, or that is left to show
     ends : (k i : ℕ) (todo : List Todo) → a.state.run.control ≡ EnterNow k i ∷ todo → ((table_of p).routine i).whole ≡ true → (o m : ℕ) → quiet source a.state ≡ Asks (ask.Call o m) s → is_gone o j ≡ false
@@ -428,15 +424,12 @@ module _ (p : Program) (formed : IsFormed p) (ok : breaks_of p ≡ []) (within :
     raises : (o event : ℕ) (y z : ℤ) → quiet source a.state ≡ Asks (ask.Raise o event y z) s → NamesMade opts j (ask.Raise o event y z) → IsLasting j (ask.Raise o event y z)
     raises o event y z e m =
         let c = law_asked_at source a.state (ask.Raise o event y z) s e in
-        let there = law_raised p formed ok few input opts range j w r f on tells.below tells.main so.lasts forgets t a.state comes lasts_there a.here.0 o event y z s e in
-        let g = x.raised a.state o event y z e in
-        let up = subst (RaisesUpwardsBy (table_of p) few (way_makers (source_of p) input opts r d).rank j w t a.state) c.1 a.here.1.1.1.1.1 in (
+        let there = law_raised p formed ok few input opts range j w r f on tells.below tells.main so.lasts forgets t a.state comes lasts_there a.here.0 o event y z s e in (
           there,
           λ none.
-              let found = law_owner_runs p formed ok few tells.places input opts range j w r f on puts t a.state comes puts_there (way_makers (source_of p) input opts r d).rank known_there c.0 c.1 o c.2 (up o c.2 none m there) (g.scope none m there) in
-              let builds : NoThis o (a.state.run ∷ a.state.callers) → ⊥ = λ h. law_no_others.making (table_of p) few o known_there.sigs (a.state.run ∷ a.state.callers) h found.1.0 found.1.1 in
+              let g = x.raised a.state o event y z e none m there in
               let zero : o ≡ 0 → ⊥ = λ z. first_owned source input opts r (subst (λ k. owner k j ≡ []) z none) in
-              builds (law_no_others.none (table_of p) few o a.state.env.exec (a.state.run ∷ a.state.callers) this_there.stack zero (λ h. builds (none_of_it (table_of p) few o a.state.env.exec a.state.run a.state.callers c.0 c.1 lets_there.stack zero found.0 (g.apart none m there h))) found.0),
+              not_raised (table_of p) few tells.places a.state known_there lone_there.stack this_there.stack o zero g.foreign (holds_none p formed ok input opts range j w r f on q t n s asked d a.state a.here.1.1.1.1.1 c.0 o c.1 c.2 none m there g.unheld) c.0 c.1 c.2,
         )
 
     last : (q : Request) → quiet source a.state ≡ Asks q s → NamesMade opts j q → IsLasting j q
@@ -457,16 +450,16 @@ law_lasting_programs p formed ok within input opts range h =
     let x = h j w r f on q t n s asked d in
     let a = apart p formed ok within input opts range j w r f on q t n s asked d x in
     let m = so p formed ok within input opts range j w r f on q t n s asked d x in
-    let l = law_telling p formed ok input opts j w r (seated p input opts r d x.base) in (
+    let l = law_telling p formed ok input opts j w r (based p input opts r d) in (
       lasts p formed ok within input opts range j w r f on q t n s asked d x,
       record {
-        few = few_of p input opts j w r (seated p input opts r d x.base);
+        few = few_of p input opts j w r (based p input opts r d);
         raws = l.raws;
         below = l.below;
-        tells = tells_made p input opts j w r (seated p input opts r d x.base);
+        tells = tells_made p input opts j w r (based p input opts r d);
         main = l.main;
-        met = run_outside (table_of p) (few_of p input opts j w r (seated p input opts r d x.base)) (source_of p) r m.all;
-        meets = ride_outside (table_of p) (few_of p input opts j w r (seated p input opts r d x.base)) (source_of p) 0 d.rides (met_now p formed ok within input opts range j w r f on q t n s asked d x);
+        met = run_outside (table_of p) (few_of p input opts j w r (based p input opts r d)) (source_of p) r m.all;
+        meets = ride_outside (table_of p) (few_of p input opts j w r (based p input opts r d)) (source_of p) 0 d.rides (met_now p formed ok within input opts range j w r f on q t n s asked d x);
         was_apart = a.0;
         apart = a.1;
       },

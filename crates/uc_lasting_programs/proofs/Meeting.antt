@@ -26,6 +26,7 @@ use Rattle.uc_rules.specs.Breaks.{breaks_of}
 use Rattle.uc_sound.specs.SoundFormed.{IsFormed}
 use Rattle.uc_sound.specs.Tables.{table_of}
 use Rattle.uc_state_laws.specs.Fitting.{RunFits}
+use Rattle.uc_state_laws.specs.Limits.{IsWithinLimits}
 use Rattle.uc_state_laws.specs.RoomRuns as rooms
 use Rattle.uc_state_laws.specs.RoomRuns.{Leads}
 use Rattle.uc_state_laws.specs.Endings.{still_reading, RideHolds, RunHolds}
@@ -47,6 +48,7 @@ use Rattle.uc_life_laws.proofs.Endings as endings
 use Rattle.uc_life_laws.proofs.Endings.{goes_on, ticks_on, goes_met, ticks_met}
 use Rattle.uc_life_laws.proofs.Lasting.{law_lasting}
 use Rattle.uc_request_laws.specs.Lasting.{TellsMade}
+use Rattle.uc_cell_laws.specs.OwnCells.{owns_of}
 use Rattle.uc_homed_ends.specs.HomesLeft.{KnowsReads}
 use Rattle.uc_building_laws.specs.Building.{heads_of}
 use Rattle.uc_building_laws.specs.BuildingStates.{Built, BuiltState}
@@ -56,6 +58,7 @@ use Rattle.uc_building_laws.proofs.BuiltEndings.{built_met}
 use Rattle.uc_building_laws.proofs.BuiltLasting.{law_built_lasting}
 use Rattle.uc_building_laws.proofs.Worlds.{lives}
 use Rattle.uc_lasting_programs.specs.Meeting.{RunHoldsAt}
+use Rattle.uc_lasting_programs.proofs.OwnScopes.{Owned, leads_led, owned_on}
 use Rattle.uc_lasting_programs.specs.Telling.{few_of}
 use Rattle.uc_making_laws.specs.ForgetsThis.{RunGoes}
 use Rattle.uc_making_laws.specs.LettingGo.{LetsState, LetsAsked}
@@ -142,13 +145,35 @@ module _ (p : Program) (formed : IsFormed p) (ok : breaks_of p ≡ []) (numbers 
     pub nobodys : RunGoes IsNobodys source input opts r
     pub homes : (o : ℕ) → o < object_count j → home o ≡ home_of source input opts j w r o
 
-  -- a step finds what it is to find where the object at hand is not gone
-  abbrev pub BuiltHere : Journal → ℕ → State → Type 0
-  BuiltHere i n v = IsPresent few.home i v → BuiltOutside p (lasting few i) n v
+  -- own mutex objects are at home where scopes open
+  abbrev OwnsHome : State → Type 0
+  OwnsHome v = Owned t (owns_of p) few.home v
 
-  module _ (raws : RawsPass few) (places : (n : Exec) (w : Value) (b : Ty) → Base few n w b → IsPlace w) (main : MainPasses t few (t.routine source.main).this 0) (input : List ℕ) (opts : Options) (range : InRange opts) where
+  -- a step finds what it is to find where the object at hand is not gone, and such are at home
+  abbrev pub BuiltHere : Journal → ℕ → State → Type 0
+  BuiltHere i n v = IsPresent few.home i v → OwnsHome v → BuiltOutside p (lasting few i) n v
+
+  module _ (within : IsWithinLimits p) (raws : RawsPass few) (places : (n : Exec) (w : Value) (b : Ty) → Base few n w b → IsPlace w) (main : MainPasses t few (t.routine source.main).this 0) (input : List ℕ) (opts : Options) (range : InRange opts) where
+    -- all is known then in each state, so each step finds what it reads
+
+    module _ (j : Journal) (w : World) (r : Runs source input opts j w) (f : RunFits source input opts j w r) (on : is_over j ≡ false) (below : PassesBelow few opts j) (met : RunMeets (Meets t few) source input opts j w r) where
+      all_known : AllIsKnown t few source j w
+      all_known = law_known_runs p formed ok few input opts range j w r f on below main met
+
+      pub ride_reads : (q n k : ℕ) (s : State) (asked : Asked) (d : AsksIn source opts j w q n k s asked) → RideMeets (Meets t few) source (answered source d.given (drawn j w n)) (left opts j n) s k asked d.rides → RideMeets (KnowsReads t few) source (answered source d.given (drawn j w n)) (left opts j n) s k asked d.rides
+      ride_reads q n k s asked d h =
+          ride_turned (Meets t few) (KnowsReads t few) source (answered source d.given (drawn j w n)) (λ v l m h. let x = h (all_known.lives n v (record { given = d.given; processor = q; runs = d.runs; told = d.told; leads = l }) m) in (plain t few (Lives t few) [] v x.0.0, x.1.0)) rooms.stays tt d.rides h
+
+    pub run_reads : {j : Journal} {w : World} (r : Runs source input opts j w) → RunFits source input opts j w r → PassesBelow few opts j → RunMeets (Meets t few) source input opts j w r → RunMeets (KnowsReads t few) source input opts j w r
+    run_reads begun f below h = tt
+    run_reads (more {j} {w} {a} r on (gives q n s le)) f below h = (run_reads r f.0 (earlier few opts j a below) h.0, tt)
+    run_reads (more {j} {w} {a} r on (no_room q n s le)) f below h = (run_reads r f.0 (earlier few opts j a below) h.0, tt)
+    run_reads (more {j} {w} {a} r on (acts q n k s asked d)) f below h =
+        let e = earlier few opts j a below in
+        (run_reads r f.0 e h.0, ride_reads j w r f.0 on e h.0 q n k s asked d h.1)
+
     -- of a run in which nobody has at hand what has gone
-    module _ (j : Journal) (w : World) (r : Runs source input opts j w) (f : RunFits source input opts j w r) (on : is_over j ≡ false) (below : PassesBelow few opts j) (forgets : RunForgets t few source input opts j w r) (so : HasMet input opts j w r) where
+    module _ (j : Journal) (w : World) (r : Runs source input opts j w) (f : RunFits source input opts j w r) (on : is_over j ≡ false) (below : PassesBelow few opts j) (forgets : RunForgets t few source input opts j w r) (homes : (o : ℕ) → o < object_count j → home o ≡ home_of source input opts j w r o) (so : HasMet input opts j w r) where
       known : AllIsKnown t (lasting few j) source j w
       known = law_lasting p formed ok few input opts range j w r f on below main so.lasts forgets
 
@@ -168,17 +193,22 @@ module _ (p : Program) (formed : IsFormed p) (ok : breaks_of p ≡ []) (numbers 
             let x = plain t (lasting few j) (Built t (heads_of p) (lasting few j)) [] v (built_at v l m).0 in
             (x, knows_all t numbers home base j v x)
 
+        -- own mutex objects are at home where the next scope opens
+        owned_at : (v : State) (l : Leads source start v) → LeadsMeet Finds_built source start v l → OwnsHome v
+        owned_at v l m =
+            owned_on p formed ok within few input opts range j w r f homes (run_reads r f below so.all) on n v (record { given = d.given; processor = q; runs = d.runs; told = d.told; leads = l }) (leads_led Finds_built (λ v. KnowsState t few [] v) source start (λ v l m. (known_at v l m).1) rooms.stays tt l m)
+
         -- where what is entered again to be destroyed is not at hand, and the object at hand is told of
         module _ (h : RideHolds (BuiltHere j) source 0 start (left opts j n) s k asked d.rides) (clear : RideMeets (EntersClear p few) source start (left opts j n) s k asked d.rides) (b : Began p few j start) where
           abbrev Finds_once : State → Type 0
-          Finds_once v = Once p formed ok few places j start b Finds_built known_at v
+          Finds_once v = Once p formed ok few places j start b Finds_built known_at OwnsHome owned_at v
 
           ride_once : RideMeets Finds_once source start (left opts j n) s k asked d.rides
           ride_once =
-              endings.ride_met t (lasting few j) source (λ c o h. raws c o (passes t numbers home base j c o h)) Finds_once (λ m v. EntersClear p few v × BuiltHere j m v) (λ m v x e. (x.0, λ g. built_met p formed ok (lasting few j) m v (x.1 g) e)) start (λ v l m. lives p formed ok (lasting few j) v (built_at v l (led p formed ok few places j start b Finds_built known_at rooms.stays tt b.stood l m))) rooms.stays tt 0 d.rides (with_clear (BuiltHere j) (EntersClear p few) source 0 d.rides h clear) tt
+              endings.ride_met t (lasting few j) source (λ c o h. raws c o (passes t numbers home base j c o h)) Finds_once (λ m v. EntersClear p few v × BuiltHere j m v) (λ m v x e. (x.0, λ g o. built_met p formed ok (lasting few j) m v (x.1 g o) e)) start (λ v l m. lives p formed ok (lasting few j) v (built_at v l (led p formed ok few places j start b Finds_built known_at OwnsHome owned_at rooms.stays tt b.stood l m))) rooms.stays tt 0 d.rides (with_clear (BuiltHere j) (EntersClear p few) source 0 d.rides h clear) tt
 
           pub ride_built : RideMeets Finds_built source start (left opts j n) s k asked d.rides
-          ride_built = rode p formed ok few places j start b Finds_built known_at rooms.stays tt b.stood d.rides ride_once
+          ride_built = rode p formed ok few places j start b Finds_built known_at OwnsHome owned_at rooms.stays tt b.stood d.rides ride_once
 
           pub ride_lasts : RideMeets (Meets t (lasting few j)) source start (left opts j n) s k asked d.rides
           ride_lasts =
@@ -194,25 +224,7 @@ module _ (p : Program) (formed : IsFormed p) (ok : breaks_of p ≡ []) (numbers 
 
         -- what goes on at the end of a ride that is met
         ends : RideMeets (EntersClear p few) source start (left opts j n) s k asked d.rides → Began p few j start → RideMeets Finds_built source start (left opts j n) s k asked d.rides → LetsState t (there (λ o. is_gone o j)) s × LetsAsked t (there (λ o. is_gone o j)) asked.request s
-        ends clear b m = ended p formed ok few places j start b Finds_built known_at rooms.stays tt b.stood d.rides clear m
-
-    -- all is known then in each state, so each step finds what it reads
-
-    module _ (j : Journal) (w : World) (r : Runs source input opts j w) (f : RunFits source input opts j w r) (on : is_over j ≡ false) (below : PassesBelow few opts j) (met : RunMeets (Meets t few) source input opts j w r) where
-      all_known : AllIsKnown t few source j w
-      all_known = law_known_runs p formed ok few input opts range j w r f on below main met
-
-      pub ride_reads : (q n k : ℕ) (s : State) (asked : Asked) (d : AsksIn source opts j w q n k s asked) → RideMeets (Meets t few) source (answered source d.given (drawn j w n)) (left opts j n) s k asked d.rides → RideMeets (KnowsReads t few) source (answered source d.given (drawn j w n)) (left opts j n) s k asked d.rides
-      ride_reads q n k s asked d h =
-          ride_turned (Meets t few) (KnowsReads t few) source (answered source d.given (drawn j w n)) (λ v l m h. let x = h (all_known.lives n v (record { given = d.given; processor = q; runs = d.runs; told = d.told; leads = l }) m) in (plain t few (Lives t few) [] v x.0.0, x.1.0)) rooms.stays tt d.rides h
-
-    pub run_reads : {j : Journal} {w : World} (r : Runs source input opts j w) → RunFits source input opts j w r → PassesBelow few opts j → RunMeets (Meets t few) source input opts j w r → RunMeets (KnowsReads t few) source input opts j w r
-    run_reads begun f below h = tt
-    run_reads (more {j} {w} {a} r on (gives q n s le)) f below h = (run_reads r f.0 (earlier few opts j a below) h.0, tt)
-    run_reads (more {j} {w} {a} r on (no_room q n s le)) f below h = (run_reads r f.0 (earlier few opts j a below) h.0, tt)
-    run_reads (more {j} {w} {a} r on (acts q n k s asked d)) f below h =
-        let e = earlier few opts j a below in
-        (run_reads r f.0 e h.0, ride_reads j w r f.0 on e h.0 q n k s asked d h.1)
+        ends clear b m = ended p formed ok few places j start b Finds_built known_at OwnsHome owned_at rooms.stays tt b.stood d.rides clear m
 
     -- what was made is at home at a place
     pub homed : (j : Journal) (w : World) (r : Runs source input opts j w) → RunFits source input opts j w r → PassesBelow few opts j → HasMet input opts j w r → ((o : ℕ) → o < object_count j → home o ≡ home_of source input opts j w r o) → (o : ℕ) → o < object_count j → IsPlace (home o)
@@ -234,7 +246,7 @@ module _ (p : Program) (formed : IsFormed p) (ok : breaks_of p ≡ []) (numbers 
           let had = run_present r f.0 o e so_far l in
           let g = shows j w r f.0 o e so_far l in
           let b = began p formed ok input opts range j w r f.0 o g.alone had few (homed j w r f.0 e so_far g.homes) q n k s asked d in
-          let y = ends j w r f.0 o e g.forgets so_far q n k s asked d (clears j w r o q n k s asked d x) b so.built.1 in
+          let y = ends j w r f.0 o e g.forgets g.homes so_far q n k s asked d (clears j w r o q n k s asked d x) b so.built.1 in
           present_acted t source input opts j w q n k s asked d on had y.0 y.1 (shows (j ++ a) v (more r o (acts q n k s asked d)) f on below so x).nobodys.1
 
       pub run_met : {j : Journal} {w : World} (r : Runs source input opts j w) → RunFits source input opts j w r → PassesBelow few opts j → RunHoldsAt BuiltHere source input opts j w r → Left j w r → HasMet input opts j w r
@@ -253,8 +265,8 @@ module _ (p : Program) (formed : IsFormed p) (ok : breaks_of p ≡ []) (numbers 
           let c = clears j w r on q n k s asked d x in
           let b = began p formed ok input opts range j w r f.0 on g.alone (run_present r f.0 on e so l) few (homed j w r f.0 e so g.homes) q n k s asked d in
           record {
-            all = (so.all, ride_all j w r f.0 on e g.forgets so q n k s asked d h.1 c b);
-            lasts = (so.lasts, ride_lasts j w r f.0 on e g.forgets so q n k s asked d h.1 c b);
-            lives = (so.lives, ride_lives j w r f.0 on e g.forgets so q n k s asked d h.1 c b);
-            built = (so.built, ride_built j w r f.0 on e g.forgets so q n k s asked d h.1 c b);
+            all = (so.all, ride_all j w r f.0 on e g.forgets g.homes so q n k s asked d h.1 c b);
+            lasts = (so.lasts, ride_lasts j w r f.0 on e g.forgets g.homes so q n k s asked d h.1 c b);
+            lives = (so.lives, ride_lives j w r f.0 on e g.forgets g.homes so q n k s asked d h.1 c b);
+            built = (so.built, ride_built j w r f.0 on e g.forgets g.homes so q n k s asked d h.1 c b);
           }

@@ -1,15 +1,17 @@
--- Where the scope of a mutex object that is a variable opens, or of an array of such, each holds what is known, if it is at home there and has such a number.
-use Rattle.std.proofs.Common.{◌≡◌, ℕ, ◌<◌, ◌⊎◌, inl, inr, Bool, true, false, List, refl, sym, ◌∙◌, subst}
+-- Where the scope of a mutex object that is a variable opens, or of an array of such, each holds what is known, if it is at home there and has such a number; and
+-- so does an own mutex object of a thing.
+use Rattle.std.proofs.Common.{◌≡◌, ℕ, ◌<◌, ◌⊎◌, inl, inr, Bool, true, List, refl, sym, ◌∙◌, subst}
 use Rattle.std.specs.Prelude.{slice_index_or}
 use Rattle.uc_machine.specs.declared.exec.Exec.{Exec}
 use Rattle.uc_machine.specs.declared.exec.Owner.{Owner}
-use Rattle.uc_machine.specs.Pieces.{Link, At, Value, Place, Object, nought, address, further}
-use Rattle.uc_typing.specs.Typing.{Ty, Num, Cell, Obj, Raw, Row, Clu, Pro, Table, element_shape}
-use Rattle.uc_typing.specs.States.{IsObjectBy}
+use Rattle.uc_machine.specs.Pieces.{Link, At, Value, Number, Place, Running, Object, Nothing, nought, address, further}
+use Rattle.uc_typing.specs.Typing.{Ty, Cell, Obj, Row, Table, element_shape}
+use Rattle.uc_typing.specs.States.{IsNumbered, IsObjectBy}
 use Rattle.uc_life_laws.specs.Things.{Few, IsMutex, Within, itself, field, element, Stands, lies, inside, Holds, IsFew, LiesIn, Known}
-use Rattle.uc_life_laws.specs.HomedStates.{Inside, all_of_it, own_element, HoldsHome}
+use Rattle.uc_life_laws.specs.HomedStates.{Owns, Inside, all_of_it, own_element, HoldsHome}
 use Rattle.uc_homed_ends.specs.Elements.{no_fields}
-use Rattle.uc_lasting_programs.specs.Remaining.{IsMutexCells}
+use Rattle.uc_cell_laws.proofs.CellPlaces.{inside_within}
+use Rattle.uc_lasting_programs.specs.Remaining.{IsOne, HoldsLeft}
 
 cell_of : (b c : Ty) → Cell b ≡ Cell c → b ≡ c
 cell_of b c e = cc
@@ -20,40 +22,20 @@ many_of m n a b e = cc
 type_of : (m n : ℕ) (a b : Ty) → Row m a ≡ Row n b → a ≡ b
 type_of m n a b e = cc
 
+numbered : (v : Value) → IsNumbered v → (o : ℕ) × (v ≡ Object o)
+numbered (Number z) h = absurd h
+numbered (Place o p) h = absurd h
+numbered (Running e) h = absurd h
+numbered (Object o) h = (o, refl)
+numbered Nothing h = absurd h
+
+-- a variable that is a mutex object, or an array of such
+abbrev pub IsMutexCells : Table → Ty → Type 0
+IsMutexCells t (Cell b) = IsMutex t b
+IsMutexCells t (Row n (Cell b)) = IsMutex t b
+IsMutexCells t a = ⊥
+
 module _ (t : Table) where
-  -- whether it is such a variable
-
-  is_mutex : (b : Ty) → IsMutex t b ⊎ (IsMutex t b → ⊥)
-  is_mutex (Obj c) = by (t.mutex c) refl
-    where
-      by : (b : Bool) → t.mutex c ≡ b → (t.mutex c ≡ true) ⊎ (t.mutex c ≡ true → ⊥)
-      by true e = inl e
-      by false e = inr (λ h. cc)
-  is_mutex Num = inr (λ h. h)
-  is_mutex (Cell a) = inr (λ h. h)
-  is_mutex (Raw c) = inr (λ h. h)
-  is_mutex (Row n a) = inr (λ h. h)
-  is_mutex Clu = inr (λ h. h)
-  is_mutex Pro = inr (λ h. h)
-
-  are_mutex : (n : ℕ) (a : Ty) → IsMutexCells t (Row n a) ⊎ (IsMutexCells t (Row n a) → ⊥)
-  are_mutex n (Cell b) = is_mutex b
-  are_mutex n Num = inr (λ h. h)
-  are_mutex n (Obj c) = inr (λ h. h)
-  are_mutex n (Raw c) = inr (λ h. h)
-  are_mutex n (Row m a) = inr (λ h. h)
-  are_mutex n Clu = inr (λ h. h)
-  are_mutex n Pro = inr (λ h. h)
-
-  pub is_mutex_cells : (a : Ty) → IsMutexCells t a ⊎ (IsMutexCells t a → ⊥)
-  is_mutex_cells (Cell b) = is_mutex b
-  is_mutex_cells (Row n a) = are_mutex n a
-  is_mutex_cells Num = inr (λ h. h)
-  is_mutex_cells (Obj c) = inr (λ h. h)
-  is_mutex_cells (Raw c) = inr (λ h. h)
-  is_mutex_cells Clu = inr (λ h. h)
-  is_mutex_cells Pro = inr (λ h. h)
-
   -- nothing but itself lies within a binding, and within an array of such nothing but itself and its elements
 
   abbrev One : Value → Ty → Value → Ty → Type 0
@@ -124,3 +106,18 @@ module _ (t : Table) where
         let x = part a m w (Place o p) b i in
         let z = h p b x.1 x.0 in
         at_home b (slice_index_or vs (address p) nought) (Place o p) x.0 (lies k i) z.0 z.1 (same z.0 ∙ z.2) (f p b i)
+
+    -- and so does each binding within a thing that holds what is left, where own mutex objects are at home in what the thing lies in
+    module _ (owns : Owns) (o : Owner) (vs : List Value) (u : Value) (c : Ty) (k : K u c) (homed : (x : List Link) (d : ℕ) → t.mutex d ≡ true → Inside t owns u c (Place o x) (Cell (Obj d)) → (q : ℕ) → slice_index_or vs (address x) nought ≡ Object q → few.home q ≡ Place o x) where
+      own : (b : Ty) (p : List Link) → IsMutex t b → Inside t owns u c (Place o p) (Cell b) → IsOne t owns few n K o vs b (slice_index_or vs (address p) nought) → Known t few n K b (slice_index_or vs (address p) nought)
+      own (Obj d) p m i one =
+          let q = numbered (slice_index_or vs (address p) nought) one.0 in
+          at_home (Obj d) (slice_index_or vs (address p) nought) (Place o p) m (lies k (inside_within t owns i)) q.0 q.1 (homed p d m i q.0 q.1) one.1
+      own b p m i one = absurd m
+
+      pub left_holds : (w : Value) (a : Ty) → HoldsLeft t owns few n K o vs u c w a → Holds t few n K o vs w a
+      left_holds w a h p b i y = by (h p b i y)
+        where
+          by : Known t few n K b (slice_index_or vs (address p) nought) ⊎ (IsMutex t b × Inside t owns u c (Place o p) (Cell b) × IsOne t owns few n K o vs b (slice_index_or vs (address p) nought)) → Known t few n K b (slice_index_or vs (address p) nought)
+          by (inl z) = z
+          by (inr z) = own b p z.0 z.1 z.2

@@ -62,7 +62,7 @@ module _ (gone : ℕ → Bool) where
   not_gone Nothing o h e = absurd (cc)
 
 -- nothing is told of others
-abbrev alone : Few
+abbrev pub alone : Few
 alone = record { numbers = λ a o. true; home = λ o. Object o; base = λ n w a. false }
 
 module _ (t : Table) (gone : ℕ → Bool) where
@@ -73,7 +73,7 @@ module _ (t : Table) (gone : ℕ → Bool) where
   pub told_there : (n : Exec) (cs : List Active) (o : ℕ) → gone o ≡ false → IsTold t (there gone) n cs o
   told_there n cs o h = inr (inl (0, lies (base_hand n cs o (Cell (Obj 0)) h) itself))
 
-  no_place : (n : Exec) (w : Value) (b : Ty) → Base alone n w b → IsPlace w
+  pub no_place : (n : Exec) (w : Value) (b : Ty) → Base alone n w b → IsPlace w
   no_place n w b h = let e : false ≡ true = h in absurd (cc)
 
   -- that alone has an object at hand

@@ -1,8 +1,9 @@
 -- Along a ride activations go on to be told of objects that have not gone, as the task is as deep in objects as it owes them; as far as each step that enters
 -- an object again to be destroyed finds its own execution clear of that.
-use Rattle.std.proofs.Common.{◌≡◌, ℕ, ◌<◌, suc, Bool, true, false, List, [], ◌∷◌, refl, sym, ap, ◌∙◌, subst, arith}
-use Rattle.std.specs.Prelude.{if◌then◌else◌}
+use Rattle.std.proofs.Common.{◌≡◌, ℕ, ◌<◌, inl, inr, suc, ◌||◌, Bool, true, false, List, [], ◌∷◌, Some, refl, sym, ap, ◌∙◌, subst, arith}
+use Rattle.std.specs.Prelude.{if◌then◌else◌, nat_eq}
 use Rattle.uc_tree.specs.Programs.{Program}
+use Rattle.uc_entry.specs.Keyed.{find}
 use Rattle.uc_entry.specs.declared.request.Asked.{Asked}
 use Rattle.uc_entry.specs.declared.request.Request.{Request}
 use Rattle.uc_acts.specs.Journal.{Journal}
@@ -13,7 +14,7 @@ use Rattle.uc_machine.specs.declared.exec.Home.TheVariants as home
 use Rattle.uc_machine.specs.Insides.{is_held_up}
 use Rattle.uc_machine.specs.Monitors.{this_object}
 use Rattle.uc_machine.specs.Pieces as piece
-use Rattle.uc_machine.specs.Pieces.{Value, Object, Todo, State, Step, Goes, Ticks, Asks}
+use Rattle.uc_machine.specs.Pieces.{Value, Object, Todo, State, Members, Step, Goes, Ticks, Asks}
 use Rattle.uc_machine.specs.Quiet.{quiet, act_todo}
 use Rattle.uc_machine.specs.Rides.{Rides, slices, goes_on, ticks, asks}
 use Rattle.uc_resolve.specs.Resolve.{source_of}
@@ -29,6 +30,8 @@ use Rattle.uc_state_laws.specs.Opens.{RideMeets, LeadsMeet}
 use Rattle.uc_state_laws.specs.Deep as deep
 use Rattle.uc_state_laws.specs.Deep.{deep_in}
 use Rattle.uc_state_laws.proofs.HandWalk.{walk}
+use Rattle.uc_step_laws.specs.Hands.{keys}
+use Rattle.uc_step_laws.specs.Holding.{StepHolding}
 use Rattle.uc_typing.specs.Typing.{Ty, Obj}
 use Rattle.uc_depth_laws.specs.Entering.{Aspect, Other, EnteredSource}
 use Rattle.uc_depth_laws.specs.Owing.{Tests, marks, AloneAt, Alone, Deep, DeepStep, IsInside}
@@ -46,16 +49,20 @@ use Rattle.uc_life_laws.specs.Lasting.{lasting}
 use Rattle.uc_life_laws.specs.Rooted.{IsPlace}
 use Rattle.uc_life_laws.proofs.Aparts.{law_apart}
 use Rattle.uc_life_laws.proofs.Endings as endings
+use Rattle.uc_life_laws.proofs.OwnRides.{Settled}
 use Rattle.uc_apart_laws.specs.Clear.{IsClearAt}
 use Rattle.uc_apart_laws.proofs.Clear.{law_clear}
 use Rattle.uc_making_laws.specs.LettingGo.{LetsState, LetsAsked, LetsStep}
 use Rattle.uc_making_laws.proofs.LettingWalk.{law_letting}
+use Rattle.uc_making_laws.proofs.Upheld.{settled_next}
 use Rattle.uc_lasting_programs.proofs.Presence.{there, this_present, tells}
 
--- the object of an activation that does more than to come to its end is not gone behind this journal; and where its task is spawned it is at home at a place
+-- the object of an activation that does more than to come to its end is not gone behind this journal; and where its task is spawned it is at home at a place,
+-- as is what is in hand
 pub record IsPresent (homes : ℕ → Value) (j : Journal) (s : State) : Type 0 where
   pub not_gone : (o : ℕ) → s.run.this ≡ Object o → (AllSilent s.run.control → ⊥) → is_gone o j ≡ false
   pub placed : (r : ℕ) (todo : List Todo) → s.run.control ≡ piece.SpawnNow r ∷ todo → IsPlace (homes (this_object s))
+  pub in_hand : (o : ℕ) (m : Members) → find o s.env.hand ≡ Some m → IsPlace (homes o)
 
 -- what is entered again to be destroyed is not at hand of who enters it
 abbrev pub EntersClear : (p : Program) → Few → State → Type 0
@@ -63,12 +70,13 @@ EntersClear p few s = (k : KnowsState (table_of p) few [] s) (m r : ℕ) (todo :
     s.run.control ≡ piece.EnterNow m r ∷ todo →
     IsClearAt (table_of p) few (source_of p) s k (piece.EnterNow m r ∷ todo)
 
--- a task with this own object that is as deep as it owes, in just these objects, and is told of what has not gone
-pub record Stood (p : Program) (j : Journal) (own : ℕ) (news : Tests) (ks : List ℕ) (s : State) : Type 0 where
+-- a task with this own object that is as deep as it owes, in just these objects, has those in hand, and is told of what has not gone
+pub record Stood (p : Program) (j : Journal) (own : ℕ) (news : Tests) (ks hs : List ℕ) (s : State) : Type 0 where
   pub deep : Deep (source_of p) news s
   pub stands : StandsState (part_of p) (source_of p) own s
   pub lets : LetsState (table_of p) (there (λ o. is_gone o j)) s
   pub keys : deep_in s ≡ ks
+  pub settled : Settled hs s
 
 -- as a ride begins; these objects are made and not gone, nor is object 0, and what was made is at home at places
 pub record Began (p : Program) (few : Few) (j : Journal) (start : State) : Type 0 where
@@ -78,10 +86,25 @@ pub record Began (p : Program) (few : Few) (j : Journal) (start : State) : Type 
   pub other : (h : Home) (q : ℕ) → (own ≡ q → ⊥) → (h ≡ home.Object q → ⊥) → news h Other q ≡ true
   pub away : (h : Home) (k : Aspect) (q : ℕ) → news h k q ≡ true → h ≡ home.Object q → ⊥
   pub ks : List ℕ
+  pub hs : List ℕ
+  pub made : (o : ℕ) → has hs o ≡ true → o < object_count j
   pub held : (o : ℕ) → has ks o ≡ true → (o < object_count j) × (is_gone o j ≡ false)
   pub homed : (o : ℕ) → o < object_count j → IsPlace (few.home o)
   pub first : is_gone 0 j ≡ false
-  pub stood : Stood p j own news ks start
+  pub stood : Stood p j own news ks hs start
+
+-- what is found in a hand is among its keys
+hand_some : (o : ℕ) (m : Members) (ps : List (ℕ × Members)) → find o ps ≡ Some m → has (keys ps) o ≡ true
+hand_some o m [] h = cc
+hand_some o m (p ∷ ps) h = by (nat_eq p.0 o) (hand_some o m ps) h
+  where
+    by : (b : Bool) → (find o ps ≡ Some m → has (keys ps) o ≡ true) → (if b then Some p.1 else find o ps) ≡ Some m → (b || has (keys ps) o) ≡ true
+    by true ih h = refl
+    by false ih h = ih h
+
+settled_keys : (hs : List ℕ) (s : State) → Settled hs s → keys s.env.hand ≡ hs
+settled_keys hs s (inl h) = h.env.keys_are
+settled_keys hs s (inr h) = h.env.keys_are
 
 -- what asks does not go on
 asks_one : (b : Bool) (q r : Request) (x y : State) → ((a : Request) (u : State) → (if b then Asks q x else Asks r y) ≡ Asks a u → ⊥) → ⊥
@@ -122,7 +145,7 @@ module _ (p : Program) (formed : IsFormed p) (ok : breaks_of p ≡ []) (few : Fe
 
   module _ (start : State) (b : Began p few j start) where
     abbrev Here : State → Type 0
-    Here s = Stood p j b.own b.news b.ks s
+    Here s = Stood p j b.own b.news b.ks b.hs s
 
     made : (s : State) → Here s → (o : ℕ) → IsInside o s.env → (o < object_count j) × (is_gone o j ≡ false)
     made s h o i = b.held o (ap (λ l. has l o) (sym h.keys) ∙ found_some o (suc i.0) s.env.depths i.1)
@@ -136,6 +159,8 @@ module _ (p : Program) (formed : IsFormed p) (ok : breaks_of p ≡ []) (few : Fe
       placed = λ r todo e.
           let one : 0 < marks s.run.control = subst (λ l. 0 < marks l) (sym e) (omega (arith)) in
           b.homed (this_object s) (made s h (this_object s) (law_inside.marked (source_of p) b.news s h.deep 0 s.run refl one)).0;
+      in_hand = λ o m e.
+          b.homed o (b.made o (ap (λ l. has l o) (sym (settled_keys b.hs s h.settled)) ∙ hand_some o m s.env.hand e));
     }
 
     lets_on : (s : State) → KnowsState (table_of p) (lasting few j) [] s → Here s → LetsStep (table_of p) (there (λ o. is_gone o j)) (quiet (source_of p) s)
@@ -157,6 +182,7 @@ module _ (p : Program) (formed : IsFormed p) (ok : breaks_of p ≡ []) (few : Fe
           stands = subst (StandsStep (part_of p) (source_of p) b.own s) e (stand s h);
           lets = subst (LetsStep (table_of p) (there (λ o. is_gone o j))) e (lets_on s k h);
           keys = subst (deep.DeepStep b.ks) e (walk b.ks (source_of p) s h.keys);
+          settled = inl (subst (StepHolding b.hs) e (settled_next (source_of p) b.hs s h.settled));
         }
 
     ticked : (s u : State) → KnowsState (table_of p) (lasting few j) [] s → KnowsState (table_of p) few [] s → EntersClear p few s → Here s → quiet (source_of p) s ≡ Ticks u → Here u
@@ -167,36 +193,37 @@ module _ (p : Program) (formed : IsFormed p) (ok : breaks_of p ≡ []) (few : Fe
           stands = subst (StandsStep (part_of p) (source_of p) b.own s) e (stand s h);
           lets = subst (LetsStep (table_of p) (there (λ o. is_gone o j))) e (lets_on s k h);
           keys = subst (deep.DeepStep b.ks) e (walk b.ks (source_of p) s h.keys);
+          settled = inl (subst (StepHolding b.hs) e (settled_next (source_of p) b.hs s h.settled));
         }
 
     -- along the way, where all is known in each state before which steps found what they were to find
-    module _ (G : State → Type 0) (known : (s : State) (l : Leads (source_of p) start s) → LeadsMeet G (source_of p) start s l → KnowsState (table_of p) (lasting few j) [] s × KnowsState (table_of p) few [] s) where
-      -- a step finds that where the object at hand is present
+    module _ (G : State → Type 0) (known : (s : State) (l : Leads (source_of p) start s) → LeadsMeet G (source_of p) start s l → KnowsState (table_of p) (lasting few j) [] s × KnowsState (table_of p) few [] s) (Also : State → Type 0) (also : (s : State) (l : Leads (source_of p) start s) → LeadsMeet G (source_of p) start s l → Also s) where
+      -- a step finds that where the object at hand is present, and where else what follows from all that was found holds
       abbrev pub Once : State → Type 0
-      Once s = EntersClear p few s × (IsPresent few.home j s → G s)
+      Once s = EntersClear p few s × (IsPresent few.home j s → Also s → G s)
 
       pub led : {s u : State} (m : Leads (source_of p) start s) → LeadsMeet G (source_of p) start s m → Here s → (l : Leads (source_of p) s u) → LeadsMeet Once (source_of p) s u l → LeadsMeet G (source_of p) s u l
       led m g h way.stays f = tt
       led {s} m g h (way.goes {u = v} e l) f =
-          let here : G s = f.0.1 (present_at s h) in
+          let here : G s = f.0.1 (present_at s h) (also s m g) in
           let k = known s m g in
           (here, led (endings.goes_on G (source_of p) m e) (endings.goes_met G (source_of p) m e g here) (goes s v k.0 k.1 f.0.0 h e) l f.1)
       led {s} m g h (way.ticks {u = v} e l) f =
-          let here : G s = f.0.1 (present_at s h) in
+          let here : G s = f.0.1 (present_at s h) (also s m g) in
           let k = known s m g in
           (here, led (endings.ticks_on G (source_of p) m e) (endings.ticks_met G (source_of p) m e g here) (ticked s v k.0 k.1 f.0.0 h e) l f.1)
 
       pub rode : {s u : State} {q k : ℕ} {a : Asked} (m : Leads (source_of p) start s) → LeadsMeet G (source_of p) start s m → Here s → (r : Rides (source_of p) s q u k a) → RideMeets Once (source_of p) s q u k a r → RideMeets G (source_of p) s q u k a r
       rode m g h slices f = tt
       rode m g h (goes_on {s} {t = v} e r) f =
-          let here : G s = f.0.1 (present_at s h) in
+          let here : G s = f.0.1 (present_at s h) (also s m g) in
           let k = known s m g in
           (here, rode (endings.goes_on G (source_of p) m e) (endings.goes_met G (source_of p) m e g here) (goes s v k.0 k.1 f.0.0 h e) r f.1)
       rode m g h (ticks {s} {t = v} e r) f =
-          let here : G s = f.0.1 (present_at s h) in
+          let here : G s = f.0.1 (present_at s h) (also s m g) in
           let k = known s m g in
           (here, rode (endings.ticks_on G (source_of p) m e) (endings.ticks_met G (source_of p) m e g here) (ticked s v k.0 k.1 f.0.0 h e) r f.1)
-      rode m g h (asks {s} e) f = f.1 (present_at s h)
+      rode m g h (asks {s} e) f = f.1 (present_at s h) (also s m g)
 
       -- and at its end
       pub ended : {s u : State} {q k : ℕ} {a : Asked} (m : Leads (source_of p) start s) → LeadsMeet G (source_of p) start s m → Here s → (r : Rides (source_of p) s q u k a) → RideMeets (EntersClear p few) (source_of p) s q u k a r → RideMeets G (source_of p) s q u k a r → LetsState (table_of p) (there (λ o. is_gone o j)) u × LetsAsked (table_of p) (there (λ o. is_gone o j)) a.request u

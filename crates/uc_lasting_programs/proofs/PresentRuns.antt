@@ -57,6 +57,7 @@ use Rattle.uc_life_laws.proofs.Cells.{either, tested}
 use Rattle.uc_life_laws.proofs.Fewer.{both_env, both_members}
 use Rattle.uc_life_laws.proofs.KindsLemmas.{env_less, members_less}
 use Rattle.uc_life_laws.proofs.NewNumbers.{spawned_object}
+use Rattle.uc_life_laws.proofs.OwnRides.{start as own_start}
 use Rattle.uc_life_laws.proofs.Parked.{found_hand}
 use Rattle.uc_life_laws.proofs.Spawning.{Spawned, spawner}
 use Rattle.uc_making_laws.specs.ForgetsThis.{GoesBy}
@@ -65,6 +66,7 @@ use Rattle.uc_making_laws.specs.NoOthers.{NoThis}
 use Rattle.uc_making_laws.specs.Nobodys.{NoneBy, NoneEx, IsNobodys}
 use Rattle.uc_making_laws.proofs.LettingRuns.{hand_rests, or_rests, bare_rests}
 use Rattle.uc_making_laws.proofs.LettingWalk.{law_letting}
+use Rattle.uc_making_laws.proofs.Upheld.{ride_keys}
 use Rattle.uc_lasting_programs.proofs.Presence.{there, told_there, stands_there}
 use Rattle.uc_lasting_programs.proofs.PresentRides.{Began}
 
@@ -309,6 +311,11 @@ module _ (p : Program) (formed : IsFormed p) (ok : breaks_of p ≡ []) (input : 
       let rests = run_rests (source_of p) input opts range r f on in
       let deeps = deep_run (source_of p) input opts range r f on in
       let y = both_run (part_of p) (source_of p) entered inner law_steps law_free law_drawn input opts range r f alone on in
+      let e = own_start (source_of p) input opts range rests on u d.given d.told in
+      let made : (o : ℕ) → has (deep_in (answered (source_of p) d.given (drawn j w u))) o ≡ true → (o < object_count j) × (is_gone o j ≡ false) = λ o h.
+      let hand = (asks_with (source_of p) input opts range rests on q u k s asked d).hand in
+      let there_is : has (held u j) o ≡ true = ap (λ l. has l o) (sym hand) ∙ (sym (deep_in_hand (source_of p) input opts range rests on deeps q u k s asked d o) ∙ h) in
+      (counted_run opts (source_of p).sites input rests.kernel).of_made o (law_made opts (source_of p).sites input j rests.kernel on u o there_is) in
       record {
         own = own_object u j;
         news = told_for u j;
@@ -316,10 +323,10 @@ module _ (p : Program) (formed : IsFormed p) (ok : breaks_of p ≡ []) (input : 
         other = told_other u j;
         away = told_away u j;
         ks = deep_in (answered (source_of p) d.given (drawn j w u));
-        held = λ o h.
-            let hand = (asks_with (source_of p) input opts range rests on q u k s asked d).hand in
-            let there_is : has (held u j) o ≡ true = ap (λ l. has l o) (sym hand) ∙ (sym (deep_in_hand (source_of p) input opts range rests on deeps q u k s asked d o) ∙ h) in
-            (counted_run opts (source_of p).sites input rests.kernel).of_made o (law_made opts (source_of p).sites input j rests.kernel on u o there_is);
+        hs = e.hand;
+        made = λ o h.
+            (made o (deep_in_hand (source_of p) input opts range rests on deeps q u k s asked d o ∙ (ap (λ l. has l o) (ride_keys (source_of p) e.hand d.rides e.settled) ∙ h))).0;
+        held = made;
         homed = homed;
         first = x.first;
         stood = record {
@@ -327,6 +334,7 @@ module _ (p : Program) (formed : IsFormed p) (ok : breaks_of p ≡ []) (input : 
           stands = standing_start (part_of p) (source_of p) inner entered.ends input opts range rests on deeps y.standing q u k s asked d;
           lets = law_letting.told (table_of p) (there (λ o. is_gone o j)) (source_of p) d.given (drawn j w u) (told_drawn (law_alive opts (source_of p).sites input j rests.kernel on q u d.runs));
           keys = refl;
+          settled = e.settled;
         };
       }
     where

@@ -1,11 +1,12 @@
 -- A state in order tells of the object at hand that it has the number of one that is whole, where it is, or is not gone; of a cluster that is a variable the
 -- run does, and of a plain object its constructor.
-use Rattle.std.proofs.Common.{◌≡◌, ℕ, zero, suc, ◌<◌, ◌⊎◌, inl, inr, ⊎_elim, Bool, true, false, List, [], ◌∷◌, Option, Some, refl, sym, ap, ◌∙◌, subst}
+use Rattle.std.proofs.Common.{◌≡◌, ℕ, zero, suc, ◌<◌, inl, inr, ⊎_elim, Bool, true, false, List, [], ◌∷◌, Option, Some, refl, sym, ap, ◌∙◌, subst}
 use Rattle.std.specs.Prelude.{nat_lt, if◌then◌else◌}
 use Rattle.std.proofs.lemmas.Bool.{ltb-true}
 use Rattle.uc_tree.specs.Programs.{Program}
 use Rattle.uc_tree.specs.Source as src
 use Rattle.uc_tree.specs.Source.{Expr, ObjectExpr, Source, CleanUp, Stmts}
+use Rattle.uc_entry.specs.Keyed.{find}
 use Rattle.uc_entry.specs.declared.entry.Options.{Options}
 use Rattle.uc_entry.specs.declared.request.Answer.{Answer}
 use Rattle.uc_entry.specs.declared.request.Asked.{Asked}
@@ -17,11 +18,11 @@ use Rattle.uc_acts.specs.Serves.{left}
 use Rattle.uc_acts.specs.KernelRuns.{InRange}
 use Rattle.uc_machine.specs.declared.exec.Exec.{Exec}
 use Rattle.uc_machine.specs.declared.exec.Owner.TheVariants.{Frame}
-use Rattle.uc_machine.specs.Executions.{others}
+use Rattle.uc_machine.specs.Executions.{members_at, others}
 use Rattle.uc_machine.specs.Switches.{new_exec}
 use Rattle.uc_machine.specs.Monitors.{this_object}
 use Rattle.uc_machine.specs.Pieces as piece
-use Rattle.uc_machine.specs.Pieces.{Slot, FieldAt, Value, Number, Place, Running, Object, Nothing, Todo, State, Goes, at, further}
+use Rattle.uc_machine.specs.Pieces.{Slot, FieldAt, Value, Number, Place, Running, Object, Nothing, Todo, State, Members, Goes, at, further, top, variable_at}
 use Rattle.uc_machine.specs.Quiet.{quiet, act_todo, home_at}
 use Rattle.uc_typing.specs.Pieces.{Ok}
 use Rattle.uc_machine.specs.Answering.{answered}
@@ -37,6 +38,7 @@ use Rattle.uc_state_laws.specs.Limits.{IsWithinLimits}
 use Rattle.uc_state_laws.specs.RoomRuns as rooms
 use Rattle.uc_state_laws.specs.RoomRuns.{Leads, Comes}
 use Rattle.uc_state_laws.specs.Opens as there
+use Rattle.uc_state_laws.specs.There as standing
 use Rattle.uc_state_laws.specs.Opens.{HasAddresses, RideMeets, RunMeets}
 use Rattle.uc_state_laws.specs.Endings.{still_reading, RideHolds}
 use Rattle.uc_place_laws.proofs.OpenRuns.{law_opens, law_there}
@@ -46,11 +48,11 @@ use Rattle.uc_building_laws.specs.Building.{heads_of}
 use Rattle.uc_building_laws.specs.BuildingStates.{Built, BuiltState}
 use Rattle.uc_building_laws.specs.BuiltEndings.{BuiltOutside}
 use Rattle.uc_building_laws.specs.BuiltReads.{reads_bound}
-use Rattle.uc_building_laws.proofs.Building.{whole_built}
+use Rattle.uc_building_laws.proofs.Building.{whole_built, where_bound}
 use Rattle.uc_building_laws.proofs.BuiltReads.{law_built_reads}
 use Rattle.uc_building_laws.proofs.Constructors.{fair}
 use Rattle.uc_building_laws.proofs.Kept.{law_kept}
-use Rattle.uc_typing.specs.Typing.{Ty, Num, Cell, Obj, Raw, Row, Clu, Pro, Name, Sig, Table, CleansAt, object_ty}
+use Rattle.uc_typing.specs.Typing.{Ty, Num, Cell, Obj, Raw, Row, Clu, Name, Sig, Table, CleansAt, object_ty}
 use Rattle.uc_life_laws.specs.Things.{Few, Base, itself, lies, inside, IsField, Holds, IsFew, LiesIn, Known}
 use Rattle.uc_life_laws.specs.HomedStates.{OpensAt, Opens}
 use Rattle.uc_life_laws.specs.LifeStates.{Outwards, frame_at, OpensAtBy}
@@ -58,18 +60,23 @@ use Rattle.uc_life_laws.specs.Lives.{OutwardsOrMade}
 use Rattle.uc_life_laws.specs.Lasting.{lasting}
 use Rattle.uc_life_laws.specs.Silent.{AllSilent}
 use Rattle.uc_life_laws.specs.KnownRuns.{PassesBelow}
-use Rattle.uc_life_laws.specs.Knowing.{AtHand, KnownThis, HasObject, IsStill, main_of, FindsObject, FindsExpr, Finds}
+use Rattle.uc_life_laws.specs.Knowing.{AtHand, KnownThis, HasObject, ReadsKnown, IsStill, main_of, FindsObject, FindsExpr, Finds}
 use Rattle.uc_life_laws.specs.Endings.{RawsPass}
 use Rattle.uc_life_laws.specs.Rooted.{IsPlace}
 use Rattle.uc_life_laws.proofs.Endings.{goes_on, ticks_on}
 use Rattle.uc_life_laws.proofs.KindsLemmas.{plain}
 use Rattle.uc_life_laws.proofs.KnownWorlds.{earlier}
 use Rattle.uc_life_laws.proofs.OpenedRuns.{good_counted}
+use Rattle.uc_cell_laws.specs.OwnCells.{owns_of}
 use Rattle.uc_homed_ends.specs.Elements.{no_fields}
 use Rattle.uc_lasting_programs.specs.Meeting.{RunHoldsAt}
-use Rattle.uc_lasting_programs.specs.Remaining.{ObjectLeft, ExprLeft, FindsLeft, IsMutexCells, OpensLeftAt, LeftOutside}
+use Rattle.uc_lasting_programs.specs.Remaining.{ReadsLeft, ObjectLeft, ExprLeft, FindsLeft, IsNumberCells, OpensLeftAt, LeftOutside}
 use Rattle.uc_lasting_programs.proofs.Clusters.{is_cluster, cluster_holds}
-use Rattle.uc_lasting_programs.proofs.MutexScopes.{is_mutex_cells, mutex_holds}
+use Rattle.uc_lasting_programs.proofs.MutexScopes.{mutex_holds, left_holds}
+use Rattle.uc_lasting_programs.proofs.OwnScopes.{IsKind, OwnedAt, OwnedBy, Owned}
+use Rattle.uc_lasting_programs.proofs.Resources.{number_kind, resource_holds}
+use Rattle.uc_lasting_programs.proofs.LettingStates.{is_mutex}
+use Rattle.uc_lasting_programs.proofs.Presence.{alone, no_place}
 use Rattle.uc_lasting_programs.proofs.PresentRides.{IsPresent}
 use Rattle.uc_lasting_programs.proofs.Seats.{HasSeat, SeatsAt, Seats}
 
@@ -88,16 +95,6 @@ whole_few t few n K g o v w h c e =
     let l : Known t few n K (Obj c) v = subst (λ b. Known t few n K (object_ty b c) v) w k in
     l.passes
 
--- whether a type is that of a plain object
-is_object : (a : Ty) → ((i : ℕ) × (a ≡ Obj i)) ⊎ ((i : ℕ) → a ≡ Obj i → ⊥)
-is_object (Obj c) = inl (c, refl)
-is_object Num = inr (λ i e. absurd (cc))
-is_object (Cell a) = inr (λ i e. absurd (cc))
-is_object (Raw c) = inr (λ i e. absurd (cc))
-is_object (Row n a) = inr (λ i e. absurd (cc))
-is_object Clu = inr (λ i e. absurd (cc))
-is_object Pro = inr (λ i e. absurd (cc))
-
 -- the object at hand has the number of one that is whole, where one that is not has it
 abbrev IsThere : (t : Table) (few : Few) (s : State) → Type 0
 IsThere t few s = (c : ℕ) → IsFew t few s.env.exec (Raw c) s.run.this → IsFew t few s.env.exec (Obj c) s.run.this
@@ -111,37 +108,52 @@ module _ (t : Table) (few : Few) (raws : RawsPass few) (gs : List Sig) (g : Sig)
       by false w = λ c e.
           ((λ f. whole_few t few s.env.exec (AtHand t few s.env.exec (others gs) s.callers) g g.this s.run.this w this c e), (λ f. raw_few t few raws s.env.exec c s.run.this f))
 
+  reads : (a : Ty) (v : Value) → ReadsLeft t few gs g sc s a v → ReadsKnown t few gs s a v
+  reads Num v h = record { untracked = λ r z. tt; seated = λ r l. tt; foreign = λ o. tt; field = λ w b o i. tt; making = λ w c k i. tt }
+  reads (Raw c) v h = record { untracked = λ r z. h; seated = λ r l. h; foreign = λ o. h; field = λ w b o i. h; making = λ w d k i. h }
+  reads a v h = h
+
   object : (AllSilent s.run.control → ⊥) → (o : ObjectExpr) (a : Ty) → ObjectLeft t few gs g sc s o a → FindsObject t few gs g sc s o a
   object busy src.This a h = still busy
-  object busy (src.GetOwn k i) a h = h
+  object busy (src.GetOwn k i) a h = reads a (further (FieldAt k i) s.run.this) h
   object busy o a h = tt
 
   expr : (AllSilent s.run.control → ⊥) → (e : Expr) (a : Ty) → ExprLeft t few gs g sc s e a → FindsExpr t few gs g sc s e a
   expr busy (src.OfObject o) a h = object busy o a h
   expr busy e a h = tt
 
-  -- a new execution has its object, which stands there
-  seat_lies : (n : Exec) (c : ℕ) (v : Value) → s.run.this ≡ v → HasSeat t few.home (Base few) n c v → ((o : ℕ) → s.run.this ≡ Object o → LiesIn t few n (Base few n) (Obj c) s.run.this) → LiesIn t few n (Base few n) (Obj c) s.run.this
-  seat_lies n c (Number z) e h f = subst (LiesIn t few n (Base few n) (Obj c)) (sym e) tt
-  seat_lies n c (Place o p) e h f = subst (LiesIn t few n (Base few n) (Obj c)) (sym e) (inl (lies h itself))
-  seat_lies n c (Running x) e h f = subst (LiesIn t few n (Base few n) (Obj c)) (sym e) tt
-  seat_lies n c (Object o) e h f = f o e
-  seat_lies n c Nothing e h f = subst (LiesIn t few n (Base few n) (Obj c)) (sym e) tt
+  -- what is known as an object and has a number is a mutex object
+  numbered_mutex : (b : Bool) (c o : ℕ) → Known t few s.env.exec (AtHand t few s.env.exec (others gs) s.callers) (object_ty b c) (Object o) → t.mutex c ≡ true
+  numbered_mutex true c o k = is_mutex t alone (no_place t (λ i. false)) c o k.is
+  numbered_mutex false c o k = is_mutex t alone (no_place t (λ i. false)) c o k.is
+
+  this_mutex : (c o : ℕ) → g.this ≡ Some c → s.run.this ≡ Object o → t.mutex c ≡ true
+  this_mutex c o f e =
+      numbered_mutex g.whole c o (subst (Known t few s.env.exec (AtHand t few s.env.exec (others gs) s.callers) (object_ty g.whole c)) e (subst (λ i. KnownThis t few s.env.exec (AtHand t few s.env.exec (others gs) s.callers) g i s.run.this) f this))
+
+  -- a new execution has its object, which stands there, or is at home there
+  seat_lies : (n : Exec) (c : ℕ) → g.this ≡ Some c → (v : Value) → s.run.this ≡ v → HasSeat t few.home (Base few) n c v → ((o : ℕ) → v ≡ Object o → IsPlace (few.home o)) → LiesIn t few n (Base few n) (Obj c) s.run.this
+  seat_lies n c i (Number z) e h f = subst (LiesIn t few n (Base few n) (Obj c)) (sym e) tt
+  seat_lies n c i (Place o p) e h f = subst (LiesIn t few n (Base few n) (Obj c)) (sym e) (inl (lies h itself))
+  seat_lies n c i (Running x) e h f = subst (LiesIn t few n (Base few n) (Obj c)) (sym e) tt
+  seat_lies n c i (Object o) e h f =
+      subst (LiesIn t few n (Base few n) (Obj c)) (sym e) (inl (inside (this_mutex c o i e) (lies (h (f o refl)) itself) itself))
+  seat_lies n c i Nothing e h f = subst (LiesIn t few n (Base few n) (Obj c)) (sym e) tt
 
   -- so has a task
   task_has : (i : Option ℕ) (c : ℕ) → i ≡ Some c → t.mutex c ≡ true → (o : ℕ) → Base few (main_of o) (few.home o) (Cell (Obj c)) → HasObject t few i o
   task_has i c e m o h = subst (λ x. HasObject t few x o) (sym e) (inl (inside m (lies h itself) itself))
 
-  finds : (l : List Todo) → s.run.control ≡ l → (own : List Ty) (base : List Name) → Ok t g base sc l own → SeatsAt t few.home (Base few) l s → ((r : ℕ) (todo : List Todo) → s.run.control ≡ piece.SpawnNow r ∷ todo → IsPlace (few.home (this_object s))) → FindsLeft t few gs g sc s l own → Finds t few gs g sc s l own
-  finds (piece.Eval e ∷ todo) q own base ok seats placed h = λ a y. expr (λ z. subst AllSilent q z) e a (h a y)
-  finds (piece.LoadNow ∷ todo) q (Cell a ∷ tys) base ok seats placed h = h
-  finds (piece.SetUpNow r ∷ todo) q own base ok seats placed h = λ m e.
-      (still (λ z. subst AllSilent q z), λ c f. seat_lies (new_exec (home_at s.run.this s.env) s.env) c s.run.this refl (seats c (ok.0.0 ∙ f)) (λ o i. h m e c o f i))
-  finds (piece.SpawnNow r ∷ todo) q own base ok seats placed h =
+  finds : (l : List Todo) → s.run.control ≡ l → (own : List Ty) (base : List Name) → Ok t g base sc l own → SeatsAt t few.home (Base few) l s → ((r : ℕ) (todo : List Todo) → s.run.control ≡ piece.SpawnNow r ∷ todo → IsPlace (few.home (this_object s))) → ((o : ℕ) (m : Members) → find o s.env.hand ≡ Some m → IsPlace (few.home o)) → FindsLeft t few gs g sc s l own → Finds t few gs g sc s l own
+  finds (piece.Eval e ∷ todo) q own base ok seats placed homed h = λ a y. expr (λ z. subst AllSilent q z) e a (h a y)
+  finds (piece.LoadNow ∷ todo) q (Cell a ∷ tys) base ok seats placed homed h = reads a (top s.run.operands) h
+  finds (piece.SetUpNow r ∷ todo) q own base ok seats placed homed h = λ m e.
+      (still (λ z. subst AllSilent q z), λ c f. seat_lies (new_exec (home_at s.run.this s.env) s.env) c f s.run.this refl (seats c (ok.0.0 ∙ f)) (λ o i. homed o m (subst (λ v. members_at (home_at v s.env) s.env ≡ Some m) i e)))
+  finds (piece.SpawnNow r ∷ todo) q own base ok seats placed homed h =
       let at = ok.1 in
       let e : (t.routine r).this ≡ Some at.0 = ok.0.0 ∙ at.1 in
       task_has (t.routine r).this at.0 e at.2 (this_object s) (seats at.0 e (placed r todo q))
-  finds l q own base ok seats placed h = tt
+  finds l q own base ok seats placed homed h = tt
 
 -- so each step finds all, in a run and on a ride, where clusters that were made pass
 
@@ -153,12 +165,12 @@ module _ (p : Program) (formed : IsFormed p) (ok : breaks_of p ≡ []) (within :
   t = table_of p
 
   -- what constructors have bound is known where they read it
-  finds_there : (few : Few) → RawsPass few → (s : State) (x : BuiltState t (heads_of p) few [] s) → ((AllSilent s.run.control → ⊥) → IsThere t few s) → Seats t few.home (Base few) s → ((r : ℕ) (todo : List Todo) → s.run.control ≡ piece.SpawnNow r ∷ todo → IsPlace (few.home (this_object s))) → (reads_bound t (heads_of p) x.0.run.sig s ≡ false → FindsLeft t few x.0.sigs x.0.run.sig x.0.run.scope s s.run.control x.0.run.own) → Finds t few x.0.sigs x.0.run.sig x.0.run.scope s s.run.control x.0.run.own
-  finds_there few raws s x there seats placed h = by (reads_bound t (heads_of p) x.0.run.sig s) refl
+  finds_there : (few : Few) → RawsPass few → (s : State) (x : BuiltState t (heads_of p) few [] s) → ((AllSilent s.run.control → ⊥) → IsThere t few s) → Seats t few.home (Base few) s → ((r : ℕ) (todo : List Todo) → s.run.control ≡ piece.SpawnNow r ∷ todo → IsPlace (few.home (this_object s))) → ((o : ℕ) (m : Members) → find o s.env.hand ≡ Some m → IsPlace (few.home o)) → (reads_bound t (heads_of p) x.0.run.sig s ≡ false → FindsLeft t few x.0.sigs x.0.run.sig x.0.run.scope s s.run.control x.0.run.own) → Finds t few x.0.sigs x.0.run.sig x.0.run.scope s s.run.control x.0.run.own
+  finds_there few raws s x there seats placed homed h = by (reads_bound t (heads_of p) x.0.run.sig s) refl
     where
       by : (b : Bool) → reads_bound t (heads_of p) x.0.run.sig s ≡ b → Finds t few x.0.sigs x.0.run.sig x.0.run.scope s s.run.control x.0.run.own
       by true e = law_built_reads p formed ok few s x e
-      by false e = finds t few raws x.0.sigs x.0.run.sig x.0.run.scope s x.0.run.this there s.run.control refl x.0.run.own x.0.run.base x.0.run.ok seats placed (h e)
+      by false e = finds t few raws x.0.sigs x.0.run.sig x.0.run.scope s x.0.run.this there s.run.control refl x.0.run.own x.0.run.base x.0.run.ok seats placed homed (h e)
 
   -- who runs in a journal, told its answer
   module _ (few : Few) (raws : RawsPass few) (j : Journal) (wholes : (c o : ℕ) → is_gone o j ≡ false → few.numbers (Raw c) o ≡ true → few.numbers (Obj c) o ≡ true) (w : World) (r : Runs source input opts j w) (f : RunFits source input opts j w r) (on : is_over j ≡ false) (clusters : (n : ℕ) → n < cluster_count j → few.numbers Clu n ≡ true) (homes : Few) (same : (o : ℕ) → few.home o ≡ homes.home o) (u processor : ℕ) (given : Answer) (runs_on : running processor j ≡ u ∷ []) (told : answer_to source.sites u j ≡ Some given) where
@@ -194,50 +206,73 @@ module _ (p : Program) (formed : IsFormed p) (ok : breaks_of p ≡ []) (within :
       abbrev Holds_at : CleanUp → List Todo → ℕ → Ty → Type 0
       Holds_at c todo k a = Holds t few s.env.exec (Behind c todo) (Frame s.env.exec s.run.frame) (frame_at s.run.frame s.env.frames) (Place (Frame s.env.exec s.run.frame) (Slot k ∷ [])) a
 
-      object_holds : (c : CleanUp) (rest : Stmts) (todo : List Todo) → s.run.control ≡ piece.Rest (src.Scoped c rest) ∷ todo → OpensLeftAt t (heads_of p) few (OutwardsOrMade x.0.sigs) (piece.Rest (src.Scoped c rest) ∷ todo) s → (k i : ℕ) → CleansAt t (Obj i) (src.Variable k) c → Holds_at c todo k (Obj i)
-      object_holds c rest todo e h k i d = whole_built t (heads_of p) few x.0.sigs s.env.exec s.env.frames s.run.frame (Place (Frame s.env.exec s.run.frame) (Slot k ∷ [])) i (Behind c todo) (λ m f. each m f (heads_of p i m) refl)
-        where
-          each : (m : ℕ) → IsField t i m → (b : Bool) → heads_of p i m ≡ b → Holds t few s.env.exec (Behind c todo) (Frame s.env.exec s.run.frame) (frame_at s.run.frame s.env.frames) (further (FieldAt (t.shape i) m) (Place (Frame s.env.exec s.run.frame) (Slot k ∷ []))) (t.fields i m)
-          each m f true q = law_kept.opens t (heads_of p) few s x c rest todo e k i d m f q
-          each m f false q = h.1 k i d m f q
+      -- what a scope is of is known
+      there_is : (c : CleanUp) (todo : List Todo) (k : ℕ) (a : Ty) → CleansAt t a (src.Variable k) c → Behind c todo (variable_at k s) a
+      there_is c todo k a y = inl (inl (inl (inl (k, y, refl))))
 
-      -- a mutex object holds what is at home there, and so does each element of an array of such
-      mutex_opens : (c : CleanUp) (rest : Stmts) (todo : List Todo) → s.run.control ≡ piece.Rest (src.Scoped c rest) ∷ todo → Opened s → OpensLeftAt t (heads_of p) few (OutwardsOrMade x.0.sigs) (piece.Rest (src.Scoped c rest) ∷ todo) s → (k : ℕ) (a : Ty) → CleansAt t a (src.Variable k) c → IsMutexCells t a → Holds_at c todo k a
-      mutex_opens c rest todo e z h k a y m = mutex_holds t few s.env.exec (Behind c todo) (Frame s.env.exec s.run.frame) (frame_at s.run.frame s.env.frames) (Place (Frame s.env.exec s.run.frame) (Slot k ∷ [])) a m (inl (inl (inl (inl (k, y, refl))))) homes same (subst (λ control. OpensAt t no_fields homes control s) e z k a y) (h.2 k a y m)
+      module _ (c : CleanUp) (rest : Stmts) (todo : List Todo) (e : s.run.control ≡ piece.Rest (src.Scoped c rest) ∷ todo) (own : OwnedAt t (owns_of p) few.home c s) (h : OpensLeftAt t (owns_of p) (heads_of p) few (OutwardsOrMade x.0.sigs) (piece.Rest (src.Scoped c rest) ∷ todo) s) where
+        abbrev here : List Value
+        here = frame_at s.run.frame s.env.frames
 
-      opens : Leads source start s → Opened s → (control : List Todo) → s.run.control ≡ control → OpensLeftAt t (heads_of p) few (OutwardsOrMade x.0.sigs) control s → OpensAtBy t few (OutwardsOrMade x.0.sigs) control s
-      opens l z (piece.Rest (src.Scoped c rest) ∷ todo) e h =
+        object_holds : (k i : ℕ) → CleansAt t (Obj i) (src.Variable k) c → Holds_at c todo k (Obj i)
+        object_holds k i d = whole_built t (heads_of p) few x.0.sigs s.env.exec s.env.frames s.run.frame (variable_at k s) i (Behind c todo) (λ m f. each m f (heads_of p i m) refl)
+          where
+            each : (m : ℕ) → IsField t i m → (b : Bool) → heads_of p i m ≡ b → Holds t few s.env.exec (Behind c todo) (Frame s.env.exec s.run.frame) here (further (FieldAt (t.shape i) m) (variable_at k s)) (t.fields i m)
+            each m f true q = law_kept.opens t (heads_of p) few s x c rest todo e k i d m f q
+            each m f false q =
+                where_bound t few s.env.exec (Behind c todo) (Frame s.env.exec s.run.frame) here (further (FieldAt (t.shape i) m) (variable_at k s)) (t.fields i m) (λ bound. left_holds t few s.env.exec (Behind c todo) (owns_of p) (Frame s.env.exec s.run.frame) here (variable_at k s) (Obj i) (there_is c todo k (Obj i) d) (own.objects k i d) (further (FieldAt (t.shape i) m) (variable_at k s)) (t.fields i m) (h.1 k i d m f q bound))
+
+        array_holds : (k m i : ℕ) → CleansAt t (Row m (Obj i)) (src.Variable k) c → Holds_at c todo k (Row m (Obj i))
+        array_holds k m i d =
+            where_bound t few s.env.exec (Behind c todo) (Frame s.env.exec s.run.frame) here (variable_at k s) (Row m (Obj i)) (λ bound. left_holds t few s.env.exec (Behind c todo) (owns_of p) (Frame s.env.exec s.run.frame) here (variable_at k s) (Row m (Obj i)) (there_is c todo k (Row m (Obj i)) d) (own.arrays k m i d) (variable_at k s) (Row m (Obj i)) (h.0 k m i d bound))
+
+        -- a mutex object holds what is at home there, and so does each element of an array of such; a processor, and what elements are of clusters and processors, is
+        -- there behind that step
+        number_holds : Opened s → standing.IsThere here c → (k : ℕ) (a : Ty) → CleansAt t a (src.Variable k) c → IsNumberCells t a → (a ≡ Cell Clu → ⊥) → Holds_at c todo k a
+        number_holds z q k a y n other =
+            ⊎_elim (λ m. mutex_holds t few s.env.exec (Behind c todo) (Frame s.env.exec s.run.frame) here (variable_at k s) a m (there_is c todo k a y) homes same (subst (λ control. OpensAt t no_fields homes control s) e z k a y) (h.2 k a y n other)) (λ r. resource_holds t few s.env.exec (Behind c todo) (Frame s.env.exec s.run.frame) here k a c r y q (h.2 k a y n other)) (number_kind t a n)
+
+        kind_holds : Opened s → standing.IsThere here c → (k : ℕ) (a : Ty) → CleansAt t a (src.Variable k) c → (a ≡ Cell Clu → ⊥) → IsKind t (owns_of p) few.home a → Holds_at c todo k a
+        kind_holds z q k a y other (inl i) =
+            subst (λ a. Holds_at c todo k a) (sym i.1) (object_holds k i.0 (subst (λ a. CleansAt t a (src.Variable k) c) i.1 y))
+        kind_holds z q k a y other (inr (inl i)) =
+            subst (λ a. Holds_at c todo k a) (sym i.2) (array_holds k i.0 i.1 (subst (λ a. CleansAt t a (src.Variable k) c) i.2 y))
+        kind_holds z q k a y other (inr (inr n)) = number_holds z q k a y n other
+
+      opens : Leads source start s → Opened s → Owned t (owns_of p) few.home s → (control : List Todo) → s.run.control ≡ control → OpensLeftAt t (owns_of p) (heads_of p) few (OutwardsOrMade x.0.sigs) control s → OpensAtBy t few (OutwardsOrMade x.0.sigs) control s
+      opens l z o (piece.Rest (src.Scoped c rest) ∷ todo) e h =
           let goes : quiet source s ≡ Goes (at (piece.Rest rest ∷ (piece.Clean c ∷ todo)) s.run.operands s) = ap (λ control. act_todo source control s) e in
           let behind = law_there.comes p formed ok within input opts range j w r f on u (at (piece.Rest rest ∷ (piece.Clean c ∷ todo)) s.run.operands s) (comes (at (piece.Rest rest ∷ (piece.Clean c ∷ todo)) s.run.operands s) (goes_on (λ v. Unit {0}) source l goes)) in
           let counted = good_counted rest c todo (λ n. nat_lt n (cluster_count j)) s.run.operands s behind in
           let room : HasAddresses s = subst (λ control. there.OpensAt source control s) e (law_opens.comes p formed ok within input opts range j w r f on u s (comes s l)) in
-          λ k a y. ⊎_elim (λ q. subst (λ a. Holds_at c todo k a) (sym q) (cluster_holds t few (λ n. nat_lt n (cluster_count j)) (λ n l. clusters n (ltb-true n (cluster_count j) l)) s.env.exec (Behind c todo) (Frame s.env.exec s.run.frame) (frame_at s.run.frame s.env.frames) k room c (subst (λ a. CleansAt t a (src.Variable k) c) q y) counted.0 counted.1)) (λ other. ⊎_elim (λ q. subst (λ a. Holds_at c todo k a) (sym q.1) (object_holds c rest todo e h k q.0 (subst (λ a. CleansAt t a (src.Variable k) c) q.1 y))) (λ no_object. ⊎_elim (λ m. mutex_opens c rest todo e z h k a y m) (λ no_mutex. h.0 k a y other no_object no_mutex) (is_mutex_cells t a)) (is_object a)) (is_cluster a)
-      opens l z control e h = tt
+          let own = subst (λ control. OwnedBy t (owns_of p) few.home control s) e o in
+          λ k a y. ⊎_elim (λ q. subst (λ a. Holds_at c todo k a) (sym q) (cluster_holds t few (λ n. nat_lt n (cluster_count j)) (λ n l. clusters n (ltb-true n (cluster_count j) l)) s.env.exec (Behind c todo) (Frame s.env.exec s.run.frame) (frame_at s.run.frame s.env.frames) k room c (subst (λ a. CleansAt t a (src.Variable k) c) q y) counted.0 counted.1)) (λ other. kind_holds c rest todo e own h z counted.0 k a y other (own.kinds k a y)) (is_cluster a)
+      opens l z o control e h = tt
 
     -- what is called where the scope of an object opens next is its constructor
     calls : (s : State) → Leads source start s → IsCalled p source s
     calls s l = called.comes p formed ok input opts range j w r f on u s (comes s l)
 
-    meets : (n : ℕ) (s : State) → Leads source start s → Opened s → LeftOutside t (heads_of p) few n s → Seats t few.home (Base few) s → Present s → BuiltOutside p few n s
-    meets zero s l o h seats there = λ x.
+    meets : (n : ℕ) (s : State) → Leads source start s → Opened s → LeftOutside t (owns_of p) (heads_of p) few n s → Seats t few.home (Base few) s → Present s → Owned t (owns_of p) few.home s → BuiltOutside p few n s
+    meets zero s l o h seats there own = λ x.
         let z = h.finds x in
-        (z.0, finds_there few raws s z.0 (whole s there) seats there.placed z.1.0, opens s z.0 l o s.run.control refl z.1.1, fair p formed ok few s (plain t few (Built t (heads_of p) few) [] s z.0.0) h.anew (calls s l))
-    meets (suc n) s l o h seats there = calls s l
+        (z.0, finds_there few raws s z.0 (whole s there) seats there.placed there.in_hand z.1.0, opens s z.0 l o own s.run.control refl z.1.1, fair p formed ok few s (plain t few (Built t (heads_of p) few) [] s z.0.0) h.anew (calls s l))
+    meets (suc n) s l o h seats there own = calls s l
 
-    ride_on : {s v : State} {q k : ℕ} {a : Asked} → Leads source start s → (n : ℕ) (d : Rides source s q v k a) → RideMeets Opened source s q v k a d → RideHolds (LeftOutside t (heads_of p) few) source n s q v k a d → RideMeets (Seats t few.home (Base few)) source s q v k a d → RideHolds (λ n s. Present s → BuiltOutside p few n s) source n s q v k a d
+    ride_on : {s v : State} {q k : ℕ} {a : Asked} → Leads source start s → (n : ℕ) (d : Rides source s q v k a) → RideMeets Opened source s q v k a d → RideHolds (LeftOutside t (owns_of p) (heads_of p) few) source n s q v k a d → RideMeets (Seats t few.home (Base few)) source s q v k a d → RideHolds (λ n s. Present s → Owned t (owns_of p) few.home s → BuiltOutside p few n s) source n s q v k a d
     ride_on l n rides.slices o h i = tt
     ride_on l n (rides.goes_on {s} e d) o h i = (meets n s l o.0 h.0 i.0, ride_on (goes_on (λ v. Unit {0}) source l e) (still_reading n s.run.control) d o.1 h.1 i.1)
     ride_on l n (rides.ticks {s} e d) o h i = (meets n s l o.0 h.0 i.0, ride_on (ticks_on (λ v. Unit {0}) source l e) (still_reading n s.run.control) d o.1 h.1 i.1)
     ride_on l n (rides.asks {s} e) o h i = meets n s l o h i
 
-  pub ride_remains : (few : Few) → RawsPass few → (j : Journal) → ((c o : ℕ) → is_gone o j ≡ false → few.numbers (Raw c) o ≡ true → few.numbers (Obj c) o ≡ true) → (w : World) (r : Runs source input opts j w) → RunFits source input opts j w r → is_over j ≡ false → ((n : ℕ) → n < cluster_count j → few.numbers Clu n ≡ true) → (homes : Few) → ((o : ℕ) → few.home o ≡ homes.home o) → (q u k : ℕ) (s : State) (asked : Asked) (d : AsksIn source opts j w q u k s asked) → RideMeets (Opens t no_fields homes) source (answered source d.given (drawn j w u)) (left opts j u) s k asked d.rides → RideHolds (LeftOutside t (heads_of p) few) source 0 (answered source d.given (drawn j w u)) (left opts j u) s k asked d.rides → RideMeets (Seats t few.home (Base few)) source (answered source d.given (drawn j w u)) (left opts j u) s k asked d.rides → RideHolds (λ n s. IsPresent few.home j s → BuiltOutside p few n s) source 0 (answered source d.given (drawn j w u)) (left opts j u) s k asked d.rides
+  pub ride_remains : (few : Few) → RawsPass few → (j : Journal) → ((c o : ℕ) → is_gone o j ≡ false → few.numbers (Raw c) o ≡ true → few.numbers (Obj c) o ≡ true) → (w : World) (r : Runs source input opts j w) → RunFits source input opts j w r → is_over j ≡ false → ((n : ℕ) → n < cluster_count j → few.numbers Clu n ≡ true) → (homes : Few) → ((o : ℕ) → few.home o ≡ homes.home o) → (q u k : ℕ) (s : State) (asked : Asked) (d : AsksIn source opts j w q u k s asked) → RideMeets (Opens t no_fields homes) source (answered source d.given (drawn j w u)) (left opts j u) s k asked d.rides → RideHolds (LeftOutside t (owns_of p) (heads_of p) few) source 0 (answered source d.given (drawn j w u)) (left opts j u) s k asked d.rides → RideMeets (Seats t few.home (Base few)) source (answered source d.given (drawn j w u)) (left opts j u) s k asked d.rides → RideHolds (λ n s. IsPresent few.home j s → Owned t (owns_of p) few.home s → BuiltOutside p few n s) source 0 (answered source d.given (drawn j w u)) (left opts j u) s k asked d.rides
   ride_remains few raws j wholes w r f on clusters homes same q u k s asked d o h i = ride_on few raws j wholes w r f on clusters homes same u q d.given d.runs d.told rooms.stays 0 d.rides o h i
 
   -- what is not gone has its number still
   pub last_whole : (few : Few) → ((c o : ℕ) → few.numbers (Raw c) o ≡ true → few.numbers (Obj c) o ≡ true) → (i : Journal) (c o : ℕ) → is_gone o i ≡ false → (lasting few i).numbers (Raw c) o ≡ true → (lasting few i).numbers (Obj c) o ≡ true
   last_whole few whole i c o g h = subst (λ b. (if b then false else few.numbers (Obj c) o) ≡ true) (sym g) (whole c o h)
 
-  pub run_remains : (few : Few) → ((i : Journal) → RawsPass (lasting few i)) → ((c o : ℕ) → few.numbers (Raw c) o ≡ true → few.numbers (Obj c) o ≡ true) → {j : Journal} {w : World} (r : Runs source input opts j w) → RunFits source input opts j w r → PassesBelow few opts j → RunMeets (Opens t no_fields few) source input opts j w r → RunHoldsAt (λ i. LeftOutside t (heads_of p) (lasting few i)) source input opts j w r → RunMeets (Seats t few.home (Base few)) source input opts j w r → RunHoldsAt (λ i n s. IsPresent few.home i s → BuiltOutside p (lasting few i) n s) source input opts j w r
+  pub run_remains : (few : Few) → ((i : Journal) → RawsPass (lasting few i)) → ((c o : ℕ) → few.numbers (Raw c) o ≡ true → few.numbers (Obj c) o ≡ true) → {j : Journal} {w : World} (r : Runs source input opts j w) → RunFits source input opts j w r → PassesBelow few opts j → RunMeets (Opens t no_fields few) source input opts j w r → RunHoldsAt (λ i. LeftOutside t (owns_of p) (heads_of p) (lasting few i)) source input opts j w r → RunMeets (Seats t few.home (Base few)) source input opts j w r → RunHoldsAt (λ i n s. IsPresent few.home i s → Owned t (owns_of p) few.home s → BuiltOutside p (lasting few i) n s) source input opts j w r
   run_remains few raws whole begun f below o h i = tt
   run_remains few raws whole (more {j} {w} {a} r on (gives q n s le)) f below o h i = (run_remains few raws whole r f.0 (earlier few opts j a below) o.0 h.0 i.0, tt)
   run_remains few raws whole (more {j} {w} {a} r on (no_room q n s le)) f below o h i = (run_remains few raws whole r f.0 (earlier few opts j a below) o.0 h.0 i.0, tt)

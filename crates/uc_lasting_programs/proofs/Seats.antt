@@ -26,7 +26,7 @@ use Rattle.uc_lasting_programs.specs.Seats.{same_shape, same_link, same_path, sa
 
 -- truth values
 
-both_true : (a b : Bool) → a ≡ true → b ≡ true → (a && b) ≡ true
+pub both_true : (a b : Bool) → a ≡ true → b ≡ true → (a && b) ≡ true
 both_true a b h k = ap (λ c. c && b) h ∙ k
 
 pub left_true : (a b : Bool) → a ≡ true → (a || b) ≡ true
@@ -52,11 +52,11 @@ link_self (Slot k) = eq-eqb k k refl
 link_self (FieldAt s i) = both_true (nat_eq i i) (same_shape s s) (eq-eqb i i refl) (shape_self s)
 link_self (At s i) = both_true (nat_eq i i) (same_shape s s) (eq-eqb i i refl) (shape_self s)
 
-path_self : (p : List Link) → same_path p p ≡ true
+pub path_self : (p : List Link) → same_path p p ≡ true
 path_self [] = refl
 path_self (l ∷ p) = both_true (same_link l l) (same_path p p) (link_self l) (path_self p)
 
-owner_self : (o : Owner) → same_owner o o ≡ true
+pub owner_self : (o : Owner) → same_owner o o ≡ true
 owner_self (Frame n d) = both_true (exec_eq n n) (nat_eq d d) (exec_self n) (eq-eqb d d refl)
 owner_self (Fields o) = eq-eqb o o refl
 

@@ -1,5 +1,4 @@
--- State by state what is let go of is nowhere in the world, and what executions have of others stands upwards where an event is raised, since no step
--- forgets the running execution.
+-- State by state what is let go of is nowhere in the world, since no step forgets the running execution.
 use Rattle.std.proofs.Common.{◌≡◌, ℕ, ◌⊎◌, inl, inr, false, List, [], ◌∷◌, ◌++◌, refl, sym, ap, ◌∙◌, subst}
 use Rattle.std.specs.Prelude.{pos, slice_get}
 use Rattle.uc_tree.specs.Programs.{Program}
@@ -25,6 +24,7 @@ use Rattle.uc_meaning.specs.Runs.{World, Runs, AsksIn, gives, no_room, acts, beg
 use Rattle.uc_resolve.specs.Resolve.{source_of}
 use Rattle.uc_rules.specs.Breaks.{breaks_of}
 use Rattle.uc_state_laws.specs.Fitting.{RunFits}
+use Rattle.uc_state_laws.specs.Limits.{IsWithinLimits}
 use Rattle.uc_state_laws.proofs.Others.{run_rests}
 use Rattle.uc_state_laws.proofs.Alive.{law_alive}
 use Rattle.uc_state_laws.specs.ScopeFrameRuns.{KeepsFrames}
@@ -46,7 +46,6 @@ use Rattle.uc_life_laws.specs.Rooted.{IsPlace, Lives}
 use Rattle.uc_life_laws.proofs.KnownWorlds.{earlier, law_known_runs}
 use Rattle.uc_life_laws.proofs.Laying.{laid_out}
 use Rattle.uc_letting_laws.specs.AloneRuns.{RunAlone}
-use Rattle.uc_running_laws.specs.OtherNames.{ReadsOthers}
 use Rattle.uc_running_laws.proofs.RunningLemmas.{run_leaves}
 use Rattle.uc_putting_laws.specs.Putting.{Setting, CodeRoutine}
 use Rattle.uc_putting_laws.specs.PuttingLaws.{special_of, setting_of, Fair}
@@ -63,35 +62,22 @@ use Rattle.uc_apart_laws.specs.Before.{world_at, NowhereBefore, BeforeAt, Before
 use Rattle.uc_apart_laws.specs.Clear.{IsNoHome}
 use Rattle.uc_apart_laws.proofs.Before.{apart}
 use Rattle.uc_apart_laws.proofs.Nowhere.{law_nowhere}
-use Rattle.uc_rooted_runs.specs.Makers.{Makers}
 use Rattle.uc_rooted_runs.specs.Binds.{BindsOwn}
 use Rattle.uc_rooted_runs.specs.Mains.{CallsNoMain, FindsAll}
-use Rattle.uc_rooted_runs.specs.OutlastRuns.{run_made}
-use Rattle.uc_rooted_runs.specs.Still.{run_still, way_still}
-use Rattle.uc_rooted_runs.specs.TaskMains.{BeginsNone}
-use Rattle.uc_rooted_runs.proofs.TaskMainRuns.{law_task_mains}
-use Rattle.uc_parts_laws.proofs.PartsRuns.{law_kept_parts, law_parts_runs}
-use Rattle.uc_parts_laws.proofs.Naming.{ride_before, law_naming}
 use Rattle.uc_making_laws.specs.RideWhile.{RideWhile}
-use Rattle.uc_making_laws.specs.BeforeRides.{RaisesUpwards}
 use Rattle.uc_making_laws.specs.ForgetsThis.{GoesBy, RunGoes, IsLeftNowhere}
 use Rattle.uc_making_laws.proofs.BeforeRides.{law_before_rides}
 use Rattle.uc_lasting_programs.specs.Asking.{LetsGoAt}
-use Rattle.uc_life_laws.specs.Homes.{home_of}
-use Rattle.uc_rooted_runs.specs.Births.{MakesLater, RunSpawnsLater}
-use Rattle.uc_making_laws.specs.Upheld.{MadeLaterTo, way_makers}
-use Rattle.uc_making_laws.proofs.Upheld.{law_upheld}
-use Rattle.uc_lasting_programs.specs.Ways.{IsKeptTo, RunKeepsTo, LawWays}
+use Rattle.uc_making_laws.specs.BeforeRides.{ElsewhereOnWay}
+use Rattle.uc_lasting_programs.specs.Ways.{RunHoldsOnWay, LawWays}
 use Rattle.uc_lasting_programs.proofs.CallsRuns.{IsKnownThere, ride_calls, law_calls_runs}
 use Rattle.uc_lasting_programs.proofs.Asking.{law_asked_at}
 use Rattle.uc_lasting_programs.proofs.Behind.{behind}
 use Rattle.uc_lasting_programs.proofs.Finding.{ride_map, ride_found, law_finding}
-use Rattle.uc_lasting_programs.proofs.TaskEnds.{run_ends}
-use Rattle.uc_lasting_programs.proofs.TaskMains.{begins_none}
+use Rattle.uc_lasting_programs.specs.Sparing.{KnowsHomes}
 use Rattle.uc_lasting_programs.proofs.Sparing.{run_spares, ride_spares}
-use Rattle.uc_lasting_programs.proofs.Standings.{run_stands, ride_stands}
 
-module _ (p : Program) (formed : IsFormed p) (ok : breaks_of p ≡ []) (few : Few) (places : (n : Exec) (w : Value) (b : Ty) → Base few n w b → IsPlace w) (zero : (n : Exec) → Belongs few n (few.home 0) → ⊥) where
+module _ (p : Program) (formed : IsFormed p) (ok : breaks_of p ≡ []) (within : IsWithinLimits p) (few : Few) (many : ℕ) (places : (n : Exec) (w : Value) (b : Ty) → Base few n w b → IsPlace w) (zero : (n : Exec) → Belongs few n (few.home 0) → ⊥) where
   abbrev source : Source
   source = source_of p
 
@@ -117,46 +103,26 @@ module _ (p : Program) (formed : IsFormed p) (ok : breaks_of p ≡ []) (few : Fe
   ride_known (ticks {s} e r) m f = (f s way.stays tt, ride_known r m.1 (λ x l y. f x (way.ticks e l) (m.0, y)))
   ride_known (asks {s} e) m f = f s way.stays tt
 
-  ride_begins : {s u : State} {q k : ℕ} {a : Asked} (r : Rides (source_of p) s q u k a) → RideMeets (IsKnownThere p few) (source_of p) s q u k a r → RideMeets (CallsNoMain (source_of p)) (source_of p) s q u k a r → RideMeets (BeginsNone (source_of p)) (source_of p) s q u k a r
-  ride_begins slices h c = tt
-  ride_begins (goes_on {s} e r) h c = (begins_none p formed ok few s h.0.knows c.0, ride_begins r h.1 c.1)
-  ride_begins (ticks {s} e r) h c = (begins_none p formed ok few s h.0.knows c.0, ride_begins r h.1 c.1)
-  ride_begins (asks {s} e) h c = begins_none p formed ok few s h.knows c
-
   module _ (j : Journal) (w : World) (u : ℕ) where
     -- what is told of a state on the way, and what else holds there
-    record Told (Up : State → Type 0) (s : State) : Type 0 where
+    record Told (s : State) : Type 0 where
       before : Before (table_of p) few j w u s (source_of p)
       known : IsKnownThere p few s
-      upwards : Up s
 
-    step : (Up : State → Type 0) (s : State) → Told Up s → StepApart (table_of p) few (source_of p) s
-    step Up s h = apart (table_of p) few (source_of p) places j w u s h.before
+    step : (s : State) → Told s → StepApart (table_of p) few (source_of p) s
+    step s h = apart (table_of p) few (source_of p) places j w u s h.before
 
     -- what is let go of is nowhere, since no step before forgot the running execution
-    ride_told : (Up : State → Type 0) {s x : State} {q k : ℕ} {a : Asked} (r : Rides (source_of p) s q x k a) → RideWhile Spares (λ v. Before (table_of p) few j w u v (source_of p) × Up v) (source_of p) s q x k a r → RideMeets Spares (source_of p) s q x k a r → RideMeets (IsKnownThere p few) (source_of p) s q x k a r → RideMeets (Told Up) (source_of p) s q x k a r
-    ride_told Up slices b f m = tt
-    ride_told Up (goes_on {s} e r) b f m = (record { before = b.0.0; known = m.0; upwards = b.0.1 }, ride_told Up r (b.1 f.0) f.1 m.1)
-    ride_told Up (ticks {s} e r) b f m = (record { before = b.0.0; known = m.0; upwards = b.0.1 }, ride_told Up r (b.1 f.0) f.1 m.1)
-    ride_told Up (asks {s} e) b f m = record { before = b.0; known = m; upwards = b.1 }
-
-  abbrev Upwards : (j : Journal) (w : World) (u : ℕ) (makers : Makers) → State → Type 0
-  Upwards j w u makers v = RaisesUpwards (table_of p) few makers.rank j w u v
+    ride_told : {s x : State} {q k : ℕ} {a : Asked} (r : Rides (source_of p) s q x k a) → RideWhile Spares (λ v. Before (table_of p) few j w u v (source_of p)) (source_of p) s q x k a r → RideMeets Spares (source_of p) s q x k a r → RideMeets (IsKnownThere p few) (source_of p) s q x k a r → RideMeets Told (source_of p) s q x k a r
+    ride_told slices b f m = tt
+    ride_told (goes_on {s} e r) b f m = (record { before = b.0; known = m.0 }, ride_told r (b.1 f.0) f.1 m.1)
+    ride_told (ticks {s} e r) b f m = (record { before = b.0; known = m.0 }, ride_told r (b.1 f.0) f.1 m.1)
+    ride_told (asks {s} e) b f m = record { before = b; known = m }
 
   module _ (input : List ℕ) (opts : Options) (range : InRange opts) (first : MainPasses (table_of p) few ((table_of p).routine (source_of p).main).this 0) where
-    -- no coroutine begins with the main of a task, and none is called
-    run_begins : (j : Journal) (w : World) (r : Runs (source_of p) input opts j w) → RunFits (source_of p) input opts j w r → is_over j ≡ false → PassesBelow few opts j → RunMeets (Meets (table_of p) few) (source_of p) input opts j w r → RunMeets (CallsNoMain (source_of p)) (source_of p) input opts j w r → RunMeets (BeginsNone (source_of p)) (source_of p) input opts j w r
-    run_begins _ _ begun fits on below met calls = tt
-    run_begins _ _ (more {j} {w} {a} r o (gives q u s le)) fits on below met calls = (run_begins j w r fits.0 o (earlier few opts j a below) met.0 calls.0, tt)
-    run_begins _ _ (more {j} {w} {a} r o (no_room q u s le)) fits on below met calls = (run_begins j w r fits.0 o (earlier few opts j a below) met.0 calls.0, tt)
-    run_begins _ _ (more {j} {w} {a} r o (acts q u n s asked d)) fits on below met calls =
-        let before = earlier few opts j a below in
-        let known : AllIsKnown (table_of p) few (source_of p) j w = law_known_runs p formed ok few input opts range j w r fits.0 o before first met.0 in
-        (run_begins j w r fits.0 o before met.0 calls.0, ride_begins d.rides (ride_known d.rides met.1 (λ v l y. let c : way.Comes (source_of p) j w u v = record { given = d.given; processor = q; runs = d.runs; told = d.told; leads = l } in record { knows = known.comes u v c y; life = known.lives u v c y })) calls.1)
-
     -- behind a run in which nobody else has at hand what is let go of
-    told : (j : Journal) (w : World) (r : Runs (source_of p) input opts j w) → RunFits (source_of p) input opts j w r → is_over j ≡ false → PassesBelow few opts j → RunMeets (Meets (table_of p) few) (source_of p) input opts j w r → RunMeets (Fair (setting_of p few)) (source_of p) input opts j w r → RunMeets (ReadsOthers few) (source_of p) input opts j w r → RunMeets (StepApart (table_of p) few (source_of p)) (source_of p) input opts j w r → (q u n : ℕ) (s : State) (asked : Asked) (d : AsksIn (source_of p) opts j w q u n s asked) → RideMeets (Meets (table_of p) few) (source_of p) (answered (source_of p) d.given (drawn j w u)) (left opts j u) s n asked d.rides → RideMeets (Fair (setting_of p few)) (source_of p) (answered (source_of p) d.given (drawn j w u)) (left opts j u) s n asked d.rides → RideMeets (ReadsOthers few) (source_of p) (answered (source_of p) d.given (drawn j w u)) (left opts j u) s n asked d.rides → (k : IsKeptTo (table_of p) few (source_of p) input opts j w r q u n s asked d) → RideMeets (Told j w u (Upwards j w u (way_makers (source_of p) input opts r d))) (source_of p) (answered (source_of p) d.given (drawn j w u)) (left opts j u) s n asked d.rides
-    told j w r fits on below met fair reads apart q u n s asked d meets fairs names k =
+    told : (j : Journal) (w : World) (r : Runs (source_of p) input opts j w) → RunFits (source_of p) input opts j w r → is_over j ≡ false → PassesBelow few opts j → RunMeets (Meets (table_of p) few) (source_of p) input opts j w r → RunMeets (Fair (setting_of p few)) (source_of p) input opts j w r → RunMeets (KnowsHomes p few many) (source_of p) input opts j w r → RunMeets (StepApart (table_of p) few (source_of p)) (source_of p) input opts j w r → (q u n : ℕ) (s : State) (asked : Asked) (d : AsksIn (source_of p) opts j w q u n s asked) → RideMeets (Meets (table_of p) few) (source_of p) (answered (source_of p) d.given (drawn j w u)) (left opts j u) s n asked d.rides → RideMeets (Fair (setting_of p few)) (source_of p) (answered (source_of p) d.given (drawn j w u)) (left opts j u) s n asked d.rides → RideMeets (KnowsHomes p few many) (source_of p) (answered (source_of p) d.given (drawn j w u)) (left opts j u) s n asked d.rides → RideMeets (λ v. ElsewhereOnWay (table_of p) few j w u v (source_of p)) (source_of p) (answered (source_of p) d.given (drawn j w u)) (left opts j u) s n asked d.rides → RideMeets (Told j w u) (source_of p) (answered (source_of p) d.given (drawn j w u)) (left opts j u) s n asked d.rides
+    told j w r fits on below met fair tells apart q u n s asked d meets fairs names k =
         let lone : RunAlone (source_of p) input opts j w r = law_apart_runs.runs p formed ok few input opts range j w r fits below first met apart in
         let rests = run_rests (source_of p) input opts range r fits on in
         let found = law_finding.runs p formed ok input opts range j w r fits lone in
@@ -170,29 +136,17 @@ module _ (p : Program) (formed : IsFormed p) (ok : breaks_of p ≡ []) (few : Fe
         let frames : KeepsFrames p j w = law_frame_runs p ok input opts j w r in
         let begins = put.start p ok few (laid_out p formed ok) main code input opts range rests on (world.0 on) frames q u d.given d.runs d.told in
         let stands = ride_put d.rides fairs begins in
-        let homes : ℕ → Value = home_of (source_of p) input opts j w r in
-        let source : Source = source_of p in
-        let birth = law_upheld.births source input opts j w r range fits on q u n s asked d in
-        let births : MadeLaterTo source input opts j w r q u n s asked d = record {
-          makers = way_makers source input opts r d;
-          made = subst (λ m. RunMeets (MakesLater source m) source input opts j w r) birth.1 birth.0.made;
-          spawned = subst (λ m. RunSpawnsLater m source input opts j w r) birth.1 birth.0.spawned;
-          rides = subst (λ m. RideMeets (MakesLater source m) source (answered source d.given (drawn j w u)) (left opts j u) s n asked d.rides) birth.1 birth.0.rides;
-        } in
-        let before = law_before_rides (table_of p) few (source_of p) input opts j w r range fits on zero (run_leaves p formed ok input opts range r fits lone) (run_spares p formed ok few input opts range r fits lone fair reads) (law_finding.runs_bind p formed ok few input opts range j w r fits fair) found.calls found.finds (law_runs.runs p formed ok few input opts range j w r fits fair) (law_calls_runs.runs p formed ok few places input opts range j w r fits below first met fair).0 q u n s asked d (ride_map (put.Stands p (setting_of p few)) (BindsOwn (source_of p)) (λ v x. law_finding.binds few (source_of p) v (law_own_places.states (setting_of p few) v x.put)) d.rides stands) (ride_map (λ v. FindsAll (source_of p) v × CallsNoMain (source_of p) v) (CallsNoMain (source_of p)) (λ v x. x.1) d.rides finds) (ride_map (λ v. FindsAll (source_of p) v × CallsNoMain (source_of p) v) (FindsAll (source_of p)) (λ v x. x.0) d.rides finds) (ride_map (put.Stands p (setting_of p few)) (Puts (table_of p) few) (λ v x. law_puts (setting_of p few) v x.put) d.rides stands) (ride_map (put.Stands p (setting_of p few)) (LoneObject (table_of p) few (source_of p)) (λ v x. law_lone_objects (setting_of p few) (law_calling p formed ok) v x.put) d.rides stands) (ride_calls p formed ok few places d.rides meets fairs there begins) births homes (law_kept_parts.runs (source_of p) (special_of p) births.makers homes (way_still (source_of p) input opts r d) input opts j w r (law_parts_runs.runs p formed ok homes input opts range j w r fits (λ o. refl)) births.made births.spawned (law_naming.runs p (setting_of p few) births.makers homes input opts j w r q u n s asked d range fits (run_stands p formed ok few input opts range r fits lone fair found.calls) births.made births.spawned k.kept)) (run_ends p formed ok input opts range births.makers homes (way_still (source_of p) input opts r d) r fits lone (law_task_mains.runs (source_of p) input opts j w r (run_begins j w r fits on below met found.calls)) found.finds on births.made births.spawned (λ x e. ride_before (source_of p) (run_still (source_of p) input opts r) d.rides x e)) (law_kept_parts.ride (source_of p) (special_of p) births.makers homes (way_still (source_of p) input opts r d) (run_made (source_of p) input opts r) d.rides (law_parts_runs.rides p formed ok homes input opts range j w r fits (λ o. refl) on q u n s asked d) births.rides (law_naming.ride p (setting_of p few) births.makers homes input opts j w r q u n s asked d range fits on (ride_stands p formed ok few input opts range r fits lone fair found.calls on q u n s asked d fairs (ride_map (λ v. FindsAll (source_of p) v × CallsNoMain (source_of p) v) (CallsNoMain (source_of p)) (λ v x. x.1) d.rides finds)) births.made births.spawned births.rides k.kept k.keeps)) k.rooted in
-        ride_told j w u (Upwards j w u (way_makers (source_of p) input opts r d)) d.rides before (ride_spares p formed ok few input opts range r fits lone fair reads on q u n s asked d fairs names) (ride_known d.rides meets there)
+        let before = law_before_rides (table_of p) few (source_of p) input opts j w r range fits on zero (run_leaves p formed ok input opts range r fits lone) (run_spares p formed ok within few many input opts range r fits lone fair tells) (law_finding.runs_bind p formed ok few input opts range j w r fits fair) found.calls found.finds (law_runs.runs p formed ok few input opts range j w r fits fair) (law_calls_runs.runs p formed ok few places input opts range j w r fits below first met fair).0 q u n s asked d (ride_map (put.Stands p (setting_of p few)) (BindsOwn (source_of p)) (λ v x. law_finding.binds few (source_of p) v (law_own_places.states (setting_of p few) v x.put)) d.rides stands) (ride_map (λ v. FindsAll (source_of p) v × CallsNoMain (source_of p) v) (CallsNoMain (source_of p)) (λ v x. x.1) d.rides finds) (ride_map (λ v. FindsAll (source_of p) v × CallsNoMain (source_of p) v) (FindsAll (source_of p)) (λ v x. x.0) d.rides finds) (ride_map (put.Stands p (setting_of p few)) (Puts (table_of p) few) (λ v x. law_puts (setting_of p few) v x.put) d.rides stands) (ride_map (put.Stands p (setting_of p few)) (LoneObject (table_of p) few (source_of p)) (λ v x. law_lone_objects (setting_of p few) (law_calling p formed ok) v x.put) d.rides stands) (ride_calls p formed ok few places d.rides meets fairs there begins) k in
+        ride_told j w u d.rides before (ride_spares p formed ok within few many input opts range r fits lone fair tells on q u n s asked d fairs names) (ride_known d.rides meets there)
 
-    along : (j : Journal) (w : World) (r : Runs (source_of p) input opts j w) → RunFits (source_of p) input opts j w r → is_over j ≡ false → PassesBelow few opts j → RunMeets (Meets (table_of p) few) (source_of p) input opts j w r → RunMeets (Fair (setting_of p few)) (source_of p) input opts j w r → RunMeets (ReadsOthers few) (source_of p) input opts j w r → RunMeets (StepApart (table_of p) few (source_of p)) (source_of p) input opts j w r → (q u n : ℕ) (s : State) (asked : Asked) (d : AsksIn (source_of p) opts j w q u n s asked) → RideMeets (Meets (table_of p) few) (source_of p) (answered (source_of p) d.given (drawn j w u)) (left opts j u) s n asked d.rides → RideMeets (Fair (setting_of p few)) (source_of p) (answered (source_of p) d.given (drawn j w u)) (left opts j u) s n asked d.rides → RideMeets (ReadsOthers few) (source_of p) (answered (source_of p) d.given (drawn j w u)) (left opts j u) s n asked d.rides → (k : IsKeptTo (table_of p) few (source_of p) input opts j w r q u n s asked d) → RideMeets (StepApart (table_of p) few (source_of p)) (source_of p) (answered (source_of p) d.given (drawn j w u)) (left opts j u) s n asked d.rides × RideMeets (Upwards j w u (way_makers (source_of p) input opts r d)) (source_of p) (answered (source_of p) d.given (drawn j w u)) (left opts j u) s n asked d.rides
-    along j w r fits on below met fair reads apart q u n s asked d meets fairs names k =
-        let all = told j w r fits on below met fair reads apart q u n s asked d meets fairs names k in (
-          ride_map (Told j w u (Upwards j w u (way_makers (source_of p) input opts r d))) (StepApart (table_of p) few (source_of p)) (step j w u (Upwards j w u (way_makers (source_of p) input opts r d))) d.rides all,
-          ride_map (Told j w u (Upwards j w u (way_makers (source_of p) input opts r d))) (Upwards j w u (way_makers (source_of p) input opts r d)) (λ v h. h.upwards) d.rides all,
-        )
+    along : (j : Journal) (w : World) (r : Runs (source_of p) input opts j w) → RunFits (source_of p) input opts j w r → is_over j ≡ false → PassesBelow few opts j → RunMeets (Meets (table_of p) few) (source_of p) input opts j w r → RunMeets (Fair (setting_of p few)) (source_of p) input opts j w r → RunMeets (KnowsHomes p few many) (source_of p) input opts j w r → RunMeets (StepApart (table_of p) few (source_of p)) (source_of p) input opts j w r → (q u n : ℕ) (s : State) (asked : Asked) (d : AsksIn (source_of p) opts j w q u n s asked) → RideMeets (Meets (table_of p) few) (source_of p) (answered (source_of p) d.given (drawn j w u)) (left opts j u) s n asked d.rides → RideMeets (Fair (setting_of p few)) (source_of p) (answered (source_of p) d.given (drawn j w u)) (left opts j u) s n asked d.rides → RideMeets (KnowsHomes p few many) (source_of p) (answered (source_of p) d.given (drawn j w u)) (left opts j u) s n asked d.rides → RideMeets (λ v. ElsewhereOnWay (table_of p) few j w u v (source_of p)) (source_of p) (answered (source_of p) d.given (drawn j w u)) (left opts j u) s n asked d.rides → RideMeets (StepApart (table_of p) few (source_of p)) (source_of p) (answered (source_of p) d.given (drawn j w u)) (left opts j u) s n asked d.rides
+    along j w r fits on below met fair tells apart q u n s asked d meets fairs names k =
+        ride_map (Told j w u) (StepApart (table_of p) few (source_of p)) (step j w u) d.rides (told j w r fits on below met fair tells apart q u n s asked d meets fairs names k)
 
     -- behind an act by which an object goes
-    module _ (j : Journal) (w : World) (r : Runs (source_of p) input opts j w) (fits : RunFits (source_of p) input opts j w r) (on : is_over j ≡ false) (q u n : ℕ) (s : State) (asked : Asked) (d : AsksIn (source_of p) opts j w q u n s asked) (going : is_over (j ++ act opts (source_of p).sites input j q u n asked) ≡ false) (Up : State → Type 0) where
+    module _ (j : Journal) (w : World) (r : Runs (source_of p) input opts j w) (fits : RunFits (source_of p) input opts j w r) (on : is_over j ≡ false) (q u n : ℕ) (s : State) (asked : Asked) (d : AsksIn (source_of p) opts j w q u n s asked) (going : is_over (j ++ act opts (source_of p).sites input j q u n asked) ≡ false) where
       abbrev TellsAll : State → Type 0
-      TellsAll v = Told j w u Up v
+      TellsAll v = Told j w u v
 
       no_spawn : (o : ℕ) → asked.request ≡ ask.Gone o → (z : ℕ) → spawns (act opts (source_of p).sites input j q u n asked) z ≡ false
       no_spawn o e z =
@@ -210,7 +164,7 @@ module _ (p : Program) (formed : IsFormed p) (ok : breaks_of p ≡ []) (few : Fe
       left_nowhere : (v : State) (o : ℕ) (e : asked.request ≡ ask.Gone o) → TellsAll v → LetsGoAt o v s → IsLeftNowhere (table_of p) few j (act opts (source_of p).sites input j q u n asked) (world_after (source_of p) (act opts (source_of p).sites input j q u n asked) w u s) u o
       left_nowhere v o e h lets =
           let before = nowhere v o lets.todo lets.lets_go h in
-          let there : (m : Exec) (cs : List Active) → Lives j (world_at w u v) m cs → IsNoHome (table_of p) few o (Things (table_of p) few m cs) = subst (λ (o : ℕ). (m : Exec) (cs : List Active) → Lives j (world_at w u v) m cs → IsNoHome (table_of p) few o (Things (table_of p) few m cs)) (sym lets.object) (λ m cs i. law_nowhere.lives (table_of p) few j (world_at w u v) before.rank (this_object v) before.nowhere m cs i) in
+          let there : (m : Exec) (cs : List Active) → Lives j (world_at w u v) m cs → IsNoHome (table_of p) few o (Things (table_of p) few m cs) = subst (λ (o : ℕ). (m : Exec) (cs : List Active) → Lives j (world_at w u v) m cs → IsNoHome (table_of p) few o (Things (table_of p) few m cs)) (sym lets.object) (λ m cs i. law_nowhere.lives (table_of p) few j (world_at w u v) (this_object v) before.nowhere m cs i) in
           record { nowhere = behind (table_of p) few (source_of p) j w u v s (act opts (source_of p).sites input j q u n asked) o lets alive (no_spawn o e) there }
 
     -- what is told of the state in which the last is asked
@@ -220,34 +174,34 @@ module _ (p : Program) (formed : IsFormed p) (ok : breaks_of p ≡ []) (few : Fe
     last_at P (ticks e r) h = last_at P r h.1
     last_at P (asks {s} e) h = inr (s, h, e)
 
-    goes_by : (j : Journal) (w : World) (r : Runs (source_of p) input opts j w) → RunFits (source_of p) input opts j w r → is_over j ≡ false → PassesBelow few opts j → RunMeets (Meets (table_of p) few) (source_of p) input opts j w r → RunMeets (Fair (setting_of p few)) (source_of p) input opts j w r → RunMeets (ReadsOthers few) (source_of p) input opts j w r → RunMeets (StepApart (table_of p) few (source_of p)) (source_of p) input opts j w r → (q u n : ℕ) (s : State) (asked : Asked) (d : AsksIn (source_of p) opts j w q u n s asked) → RideMeets (Meets (table_of p) few) (source_of p) (answered (source_of p) d.given (drawn j w u)) (left opts j u) s n asked d.rides → RideMeets (Fair (setting_of p few)) (source_of p) (answered (source_of p) d.given (drawn j w u)) (left opts j u) s n asked d.rides → RideMeets (ReadsOthers few) (source_of p) (answered (source_of p) d.given (drawn j w u)) (left opts j u) s n asked d.rides → IsKeptTo (table_of p) few (source_of p) input opts j w r q u n s asked d → is_over (j ++ act opts (source_of p).sites input j q u n asked) ≡ false → (x : Request) → asked.request ≡ x → GoesBy (IsLeftNowhere (table_of p) few) j (act opts (source_of p).sites input j q u n asked) (world_after (source_of p) (act opts (source_of p).sites input j q u n asked) w u s) u x
-    goes_by j w r fits on below met fair reads apart q u n s asked d meets fairs names k going (ask.Gone o) e =
-        by (last_at (TellsAll j w r fits on q u n s asked d going (Upwards j w u (way_makers (source_of p) input opts r d))) d.rides (told j w r fits on below met fair reads apart q u n s asked d meets fairs names k))
+    goes_by : (j : Journal) (w : World) (r : Runs (source_of p) input opts j w) → RunFits (source_of p) input opts j w r → is_over j ≡ false → PassesBelow few opts j → RunMeets (Meets (table_of p) few) (source_of p) input opts j w r → RunMeets (Fair (setting_of p few)) (source_of p) input opts j w r → RunMeets (KnowsHomes p few many) (source_of p) input opts j w r → RunMeets (StepApart (table_of p) few (source_of p)) (source_of p) input opts j w r → (q u n : ℕ) (s : State) (asked : Asked) (d : AsksIn (source_of p) opts j w q u n s asked) → RideMeets (Meets (table_of p) few) (source_of p) (answered (source_of p) d.given (drawn j w u)) (left opts j u) s n asked d.rides → RideMeets (Fair (setting_of p few)) (source_of p) (answered (source_of p) d.given (drawn j w u)) (left opts j u) s n asked d.rides → RideMeets (KnowsHomes p few many) (source_of p) (answered (source_of p) d.given (drawn j w u)) (left opts j u) s n asked d.rides → RideMeets (λ v. ElsewhereOnWay (table_of p) few j w u v (source_of p)) (source_of p) (answered (source_of p) d.given (drawn j w u)) (left opts j u) s n asked d.rides → is_over (j ++ act opts (source_of p).sites input j q u n asked) ≡ false → (x : Request) → asked.request ≡ x → GoesBy (IsLeftNowhere (table_of p) few) j (act opts (source_of p).sites input j q u n asked) (world_after (source_of p) (act opts (source_of p).sites input j q u n asked) w u s) u x
+    goes_by j w r fits on below met fair tells apart q u n s asked d meets fairs names k going (ask.Gone o) e =
+        by (last_at (TellsAll j w r fits on q u n s asked d going) d.rides (told j w r fits on below met fair tells apart q u n s asked d meets fairs names k))
       where
-        by : (asked.request ≡ ask.Slice) ⊎ ((v : State) × TellsAll j w r fits on q u n s asked d going (Upwards j w u (way_makers (source_of p) input opts r d)) v × (quiet (source_of p) v ≡ Asks asked.request s)) → IsLeftNowhere (table_of p) few j (act opts (source_of p).sites input j q u n asked) (world_after (source_of p) (act opts (source_of p).sites input j q u n asked) w u s) u o
+        by : (asked.request ≡ ask.Slice) ⊎ ((v : State) × TellsAll j w r fits on q u n s asked d going v × (quiet (source_of p) v ≡ Asks asked.request s)) → IsLeftNowhere (table_of p) few j (act opts (source_of p).sites input j q u n asked) (world_after (source_of p) (act opts (source_of p).sites input j q u n asked) w u s) u o
         by (inl f) = let z : ask.Gone o ≡ ask.Slice = sym e ∙ f in absurd (cc)
         by (inr (v, h, f)) =
             let lets : LetsGoAt o v s = law_asked_at (source_of p) v (ask.Gone o) s (f ∙ ap (λ (x : Request). Asks x s) e) in
-            left_nowhere j w r fits on q u n s asked d going (Upwards j w u (way_makers (source_of p) input opts r d)) v o e h lets
-    goes_by j w r fits on below met fair reads apart q u n s asked d meets fairs names k going x e = tt
+            left_nowhere j w r fits on q u n s asked d going v o e h lets
+    goes_by j w r fits on below met fair tells apart q u n s asked d meets fairs names k going x e = tt
 
-    run_apart : (j : Journal) (w : World) (r : Runs (source_of p) input opts j w) → RunFits (source_of p) input opts j w r → is_over j ≡ false → PassesBelow few opts j → RunMeets (Meets (table_of p) few) (source_of p) input opts j w r → RunMeets (Fair (setting_of p few)) (source_of p) input opts j w r → RunMeets (ReadsOthers few) (source_of p) input opts j w r → RunKeepsTo (table_of p) few (source_of p) input opts r → RunMeets (StepApart (table_of p) few (source_of p)) (source_of p) input opts j w r × RunGoes (IsLeftNowhere (table_of p) few) (source_of p) input opts r
-    run_apart _ _ begun fits on below met fair reads k = (tt, tt)
-    run_apart _ _ (more {j} {w} {a} r o (gives q u s le)) fits on below met fair reads k =
-        let h = run_apart j w r fits.0 o (earlier few opts j a below) met.0 fair.0 reads.0 k.0 in ((h.0, tt), (h.1, tt))
-    run_apart _ _ (more {j} {w} {a} r o (no_room q u s le)) fits on below met fair reads k =
-        let h = run_apart j w r fits.0 o (earlier few opts j a below) met.0 fair.0 reads.0 k.0 in ((h.0, tt), (h.1, tt))
-    run_apart _ _ (more {j} {w} {a} r o (acts q u n s asked d)) fits on below met fair reads k =
+    run_apart : (j : Journal) (w : World) (r : Runs (source_of p) input opts j w) → RunFits (source_of p) input opts j w r → is_over j ≡ false → PassesBelow few opts j → RunMeets (Meets (table_of p) few) (source_of p) input opts j w r → RunMeets (Fair (setting_of p few)) (source_of p) input opts j w r → RunMeets (KnowsHomes p few many) (source_of p) input opts j w r → RunHoldsOnWay (λ j w u v. ElsewhereOnWay (table_of p) few j w u v (source_of p)) (source_of p) input opts r → RunMeets (StepApart (table_of p) few (source_of p)) (source_of p) input opts j w r × RunGoes (IsLeftNowhere (table_of p) few) (source_of p) input opts r
+    run_apart _ _ begun fits on below met fair tells k = (tt, tt)
+    run_apart _ _ (more {j} {w} {a} r o (gives q u s le)) fits on below met fair tells k =
+        let h = run_apart j w r fits.0 o (earlier few opts j a below) met.0 fair.0 tells.0 k.0 in ((h.0, tt), (h.1, tt))
+    run_apart _ _ (more {j} {w} {a} r o (no_room q u s le)) fits on below met fair tells k =
+        let h = run_apart j w r fits.0 o (earlier few opts j a below) met.0 fair.0 tells.0 k.0 in ((h.0, tt), (h.1, tt))
+    run_apart _ _ (more {j} {w} {a} r o (acts q u n s asked d)) fits on below met fair tells k =
         let before = earlier few opts j a below in
-        let h = run_apart j w r fits.0 o before met.0 fair.0 reads.0 k.0 in (
-          (h.0, (along j w r fits.0 o before met.0 fair.0 reads.0 h.0 q u n s asked d met.1 fair.1 reads.1 k.1).0),
-          (h.1, goes_by j w r fits.0 o before met.0 fair.0 reads.0 h.0 q u n s asked d met.1 fair.1 reads.1 k.1 on asked.request refl),
+        let h = run_apart j w r fits.0 o before met.0 fair.0 tells.0 k.0 in (
+          (h.0, (along j w r fits.0 o before met.0 fair.0 tells.0 h.0 q u n s asked d met.1 fair.1 tells.1 k.1)),
+          (h.1, goes_by j w r fits.0 o before met.0 fair.0 tells.0 h.0 q u n s asked d met.1 fair.1 tells.1 k.1 on asked.request refl),
         )
 
 pub law_ways : LawWays
 law_ways = record {
-  runs = λ p formed ok few places zero input opts range j w r fits on below first met fair reads k.
-      run_apart p formed ok few places zero input opts range first j w r fits on below met fair reads k;
-  rides = λ p formed ok few places zero input opts range j w r fits on below first met fair reads k q u n s asked d meets fairs names h.
-      along p formed ok few places zero input opts range first j w r fits on below met fair reads (run_apart p formed ok few places zero input opts range first j w r fits on below met fair reads k).0 q u n s asked d meets fairs names h;
+  runs = λ p formed ok within few many places zero input opts range j w r fits on below first met fair tells k.
+      run_apart p formed ok within few many places zero input opts range first j w r fits on below met fair tells k;
+  rides = λ p formed ok within few many places zero input opts range j w r fits on below first met fair tells k q u n s asked d meets fairs names h.
+      along p formed ok within few many places zero input opts range first j w r fits on below met fair tells (run_apart p formed ok within few many places zero input opts range first j w r fits on below met fair tells k).0 q u n s asked d meets fairs names h;
 }

@@ -8,6 +8,7 @@ use Rattle.uc_machine.specs.declared.exec.Exec.{Exec}
 use Rattle.uc_machine.specs.Pieces.{Value}
 use Rattle.uc_meaning.specs.Runs.{World, Runs}
 use Rattle.uc_state_laws.specs.Fitting.{RunFits}
+use Rattle.uc_state_laws.specs.Limits.{IsWithinLimits}
 use Rattle.uc_resolve.specs.Resolve.{source_of}
 use Rattle.uc_rules.specs.Breaks.{breaks_of}
 use Rattle.uc_sound.specs.SoundFormed.{IsFormed}
@@ -21,14 +22,14 @@ use Rattle.uc_life_laws.specs.Lasting.{RunForgets}
 use Rattle.uc_life_laws.specs.Belonging.{Belongs}
 use Rattle.uc_life_laws.specs.Rooted.{IsPlace}
 use Rattle.uc_letting_laws.specs.AloneRuns.{RunAlone}
-use Rattle.uc_running_laws.specs.OtherNames.{ReadsOthers}
 use Rattle.uc_putting_laws.specs.PuttingLaws.{setting_of, Fair}
 use Rattle.uc_making_laws.specs.ForgetsThis.{RunGoes, IsLeftNowhere}
+use Rattle.uc_lasting_programs.specs.Sparing.{KnowsHomes}
 
--- what is left of it: no step reads the name of the running execution in what is not its own; and each step finds what it is to find where objects are
--- bound and destroyed, and where resumptions are raised
-pub record IsLeftOf (p : Program) (few : Few) (input : List ℕ) (opts : Options) (j : Journal) (w : World) (r : Runs (source_of p) input opts j w) : Type 0 where
-  pub reads : RunMeets (ReadsOthers few) (source_of p) input opts j w r
+-- what is left of it: homes are told, of the first so many objects, and all is known; and each step finds what it is to find where objects are bound and
+-- destroyed, and where resumptions are raised
+pub record IsLeftOf (p : Program) (few : Few) (many : ℕ) (input : List ℕ) (opts : Options) (j : Journal) (w : World) (r : Runs (source_of p) input opts j w) : Type 0 where
+  pub homes : RunMeets (KnowsHomes p few many) (source_of p) input opts j w r
   pub fair : RunMeets (Fair (setting_of p few)) (source_of p) input opts j w r
 
 -- then nobody has at hand what has gone, in each run in which all that was asked so far fits and nothing else is owed to what tasks let go of, where
@@ -36,7 +37,7 @@ pub record IsLeftOf (p : Program) (few : Few) (input : List ℕ) (opts : Options
 -- the object was at home
 abbrev pub LawForgetsPrograms : Type 0
 LawForgetsPrograms =
-    (p : Program) → IsFormed p → breaks_of p ≡ [] → (few : Few) →
+    (p : Program) → IsFormed p → breaks_of p ≡ [] → IsWithinLimits p → (few : Few) (many : ℕ) →
     ((n : Exec) (w : Value) (b : Ty) → Base few n w b → IsPlace w) →
     ((n : Exec) → Belongs few n (few.home 0) → ⊥) →
     (input : List ℕ) (opts : Options) → InRange opts →
@@ -45,5 +46,5 @@ LawForgetsPrograms =
     PassesBelow few opts j → MainPasses (table_of p) few ((table_of p).routine (source_of p).main).this 0 →
     RunMeets (Meets (table_of p) few) (source_of p) input opts j w r →
     RunGoes (IsLeftNowhere (table_of p) few) (source_of p) input opts r →
-    IsLeftOf p few input opts j w r →
+    IsLeftOf p few many input opts j w r →
     RunForgets (table_of p) few (source_of p) input opts j w r

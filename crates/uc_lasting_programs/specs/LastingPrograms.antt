@@ -1,5 +1,5 @@
 -- All that is left to show of the runs of a program that breaks no rule, so that all that it asks fits.
-use Rattle.std.specs.Prelude.{◌≡◌, ℕ, ◌+◌, ◌<◌, ℤ, Bool, false, List, [], ◌∷◌, true}
+use Rattle.std.specs.Prelude.{◌≡◌, ℕ, ◌<◌, ℤ, false, List, [], ◌∷◌, true}
 use Rattle.uc_tree.specs.Programs.{Program}
 use Rattle.uc_entry.specs.declared.entry.Options.{Options}
 use Rattle.uc_entry.specs.declared.request.Asked.{Asked}
@@ -8,62 +8,51 @@ use Rattle.uc_acts.specs.Journal.{Journal, is_over}
 use Rattle.uc_acts.specs.Known.{object_count, is_gone, owner}
 use Rattle.uc_acts.specs.Serves.{left}
 use Rattle.uc_acts.specs.KernelRuns.{InRange}
-use Rattle.uc_machine.specs.declared.exec.Exec.{Exec}
-use Rattle.uc_machine.specs.Pieces.{Value, Todo, EnterNow, State}
+use Rattle.uc_machine.specs.Pieces.{Todo, EnterNow, State}
 use Rattle.uc_machine.specs.Quiet.{quiet, Asks}
 use Rattle.uc_machine.specs.Answering.{answered}
 use Rattle.uc_resolve.specs.Resolve.{source_of}
 use Rattle.uc_rules.specs.Breaks.{breaks_of}
 use Rattle.uc_sound.specs.SoundFormed.{IsFormed}
 use Rattle.uc_sound.specs.Tables.{table_of}
-use Rattle.uc_typing.specs.Typing.{Ty}
 use Rattle.uc_meaning.specs.Runs.{World, Runs, AsksIn, drawn}
 use Rattle.uc_meaning.specs.Cuts.{Reentry}
 use Rattle.uc_state_laws.specs.Fitting.{RunFits}
 use Rattle.uc_state_laws.specs.Limits.{IsWithinLimits}
 use Rattle.uc_state_laws.specs.Endings.{RideHolds}
-use Rattle.uc_state_laws.specs.Opens.{RideMeets, RunMeets}
-use Rattle.uc_life_laws.specs.Things.{Few}
+use Rattle.uc_state_laws.specs.Opens.{RideMeets}
+use Rattle.uc_life_laws.specs.Things.{Few, Base}
 use Rattle.uc_life_laws.specs.Belonging.{Belongs}
 use Rattle.uc_life_laws.specs.Lasting.{lasting}
-use Rattle.uc_apart_laws.specs.Before.{world_at}
-use Rattle.uc_owner_laws.specs.Owners.{OutOfScope}
-use Rattle.uc_depth_laws.specs.Owing.{owed_by, owed_waiting}
+use Rattle.uc_apart_laws.specs.Clear.{IsNoHome}
 use Rattle.uc_homed_ends.specs.Ended.{is_variable}
 use Rattle.uc_building_laws.specs.Building.{heads_of}
+use Rattle.uc_cell_laws.specs.OwnCells.{owns_of}
 use Rattle.uc_lasting_programs.specs.Meeting.{RunHoldsAt}
-use Rattle.uc_lasting_programs.specs.NumberReads.{ReadsNumbers}
 use Rattle.uc_lasting_programs.specs.Remaining.{LeftOutside}
 use Rattle.uc_lasting_programs.specs.Seats.{seated}
 use Rattle.uc_lasting_programs.specs.Telling.{few_of}
-use Rattle.uc_lasting_programs.specs.Ways.{IsKeptTo, RunKeepsTo}
+use Rattle.uc_lasting_programs.specs.Bases.{based, seats_of, SeatsElsewhere}
+use Rattle.uc_lasting_programs.specs.Ways.{RunHoldsOnWay}
 
--- in the state in which a task u raises an event at an object that is of no task yet, but was made and is not gone: in the world as it then stands it is out
--- of scope; and where it is at home in what is the own of who raises the event, none of the activations of that is to let go of it, as what builds it is
-pub record IsRaised (p : Program) (few : Few) (j : Journal) (w : World) (u : ℕ) (s : State) (o : ℕ) : Type 0 where
-  pub scope : owner o j ≡ [] → o < object_count j → is_gone o j ≡ false →
-      OutOfScope (table_of p) few j (world_at w u s) o
-  pub apart : owner o j ≡ [] → o < object_count j → is_gone o j ≡ false → Belongs few s.env.exec (few.home o) →
-      owed_by o s.run + owed_waiting o s.callers ≡ 0
+-- where an event is raised at an object: that is not at home in what is the own of who raises the event, nor in the seat of that
+pub record IsRaised (p : Program) (few seats : Few) (s : State) (o : ℕ) : Type 0 where
+  pub foreign : Belongs few s.env.exec (few.home o) → ⊥
+  pub unheld : IsNoHome (table_of p) seats o (Base seats s.env.exec)
 
--- of a run, and of what task t asks in it, by what the run tells, with the objects for which executions were made, and by bases that are places
+-- of a run, and of what task t asks in it, by what the run tells: so what executions have of others too
 pub record IsLeftFor (p : Program) (input : List ℕ) (opts : Options) (j : Journal) (w : World) (r : Runs (source_of p) input opts j w) (q t n : ℕ) (s : State) (asked : Asked) (d : AsksIn (source_of p) opts j w q t n s asked) : Type 0 where
-  pub base : Exec → Value → Ty → Bool
   -- each step finds what it is to find where what is gone has no number any more, but where a clean-up finds and reads the variable that it ends
-  pub met : RunHoldsAt (λ i. LeftOutside (table_of p) (heads_of p) (lasting (few_of p input opts j w r (seated p input opts r d base)) i)) (source_of p) input opts j w r
-  pub met_now : RideHolds (LeftOutside (table_of p) (heads_of p) (lasting (few_of p input opts j w r (seated p input opts r d base)) j)) (source_of p) 0 (answered (source_of p) d.given (drawn j w t)) (left opts j t) s n asked d.rides
-  -- what is left so that on the way to what is asked nobody else has at hand what is let go of, and what executions have of others stands upwards where
-  -- an event is raised
-  pub ways : RunKeepsTo (table_of p) (few_of p input opts j w r (seated p input opts r d base)) (source_of p) input opts r
-  pub way_now : IsKeptTo (table_of p) (few_of p input opts j w r (seated p input opts r d base)) (source_of p) input opts j w r q t n s asked d
-  pub reads_now : RideMeets (ReadsNumbers (table_of p) (few_of p input opts j w r (seated p input opts r d base))) (source_of p) (answered (source_of p) d.given (drawn j w t)) (left opts j t) s n asked d.rides
-  -- what is left so that nobody has at hand what has gone: no step that reads a number reads the name of the running execution in what is not its own
-  pub reads : RunMeets (ReadsNumbers (table_of p) (few_of p input opts j w r (seated p input opts r d base))) (source_of p) input opts j w r
+  pub met : RunHoldsAt (λ i. LeftOutside (table_of p) (owns_of p) (heads_of p) (lasting (few_of p input opts j w r (based p input opts r d)) i)) (source_of p) input opts j w r
+  pub met_now : RideHolds (LeftOutside (table_of p) (owns_of p) (heads_of p) (lasting (few_of p input opts j w r (based p input opts r d)) j)) (source_of p) 0 (answered (source_of p) d.given (drawn j w t)) (left opts j t) s n asked d.rides
+  -- what is left so that on the way to what is asked nobody else has at hand what is let go of: so it is of seats
+  pub ways : RunHoldsOnWay (λ i x u v. SeatsElsewhere (table_of p) (few_of p input opts j w r (based p input opts r d)) (few_of p input opts j w r (seated p input opts r d)) (seats_of p input opts r d) i x u v (source_of p)) (source_of p) input opts r
+  pub way_now : RideMeets (λ v. SeatsElsewhere (table_of p) (few_of p input opts j w r (based p input opts r d)) (few_of p input opts j w r (seated p input opts r d)) (seats_of p input opts r d) j w t v (source_of p)) (source_of p) (answered (source_of p) d.given (drawn j w t)) (left opts j t) s n asked d.rides
   -- what is entered next to be destroyed is not gone, where it is at home in what is the own of who enters it, but at no variable
   pub ended : (v : State) (k i : ℕ) (todo : List Todo) → v.run.control ≡ EnterNow k i ∷ todo → ((table_of p).routine i).whole ≡ true → (o m : ℕ) → quiet (source_of p) v ≡ Asks (ask.Call o m) s →
-      Belongs (few_of p input opts j w r (seated p input opts r d base)) v.env.exec ((few_of p input opts j w r (seated p input opts r d base)).home o) → is_variable ((few_of p input opts j w r (seated p input opts r d base)).home o) ≡ false → is_gone o j ≡ false
-  -- where an event is raised
-  pub raised : (v : State) (o event : ℕ) (x y : ℤ) → quiet (source_of p) v ≡ Asks (ask.Raise o event x y) s → IsRaised p (few_of p input opts j w r (seated p input opts r d base)) j w t v o
+      Belongs (few_of p input opts j w r (based p input opts r d)) v.env.exec ((few_of p input opts j w r (based p input opts r d)).home o) → is_variable ((few_of p input opts j w r (based p input opts r d)).home o) ≡ false → is_gone o j ≡ false
+  -- where an event is raised at what was made, is not gone and is of no task yet
+  pub raised : (v : State) (o event : ℕ) (x y : ℤ) → quiet (source_of p) v ≡ Asks (ask.Raise o event x y) s → owner o j ≡ [] → o < object_count j → is_gone o j ≡ false → IsRaised p (few_of p input opts j w r (based p input opts r d)) (few_of p input opts j w r (seated p input opts r d)) v o
 
 -- then all that a program which breaks no rule and is within its limits asks fits, if that is so of each run in which all that was asked so far fits, and of what is asked next
 abbrev pub LawLastingPrograms : Type 0

@@ -1,11 +1,12 @@
 pub mod Asking
 pub mod Finding
 pub mod CallsRuns
+pub mod Sparing
 pub mod Forgetting
 pub mod Ways
+pub mod Bases
 pub mod Telling
 pub mod Seats
 pub mod Meeting
 pub mod Remaining
-pub mod NumberReads
 pub mod LastingPrograms

@@ -1,24 +1,31 @@
 -- What a step is still to find where all is known, but what a state in order tells; of the object at hand nothing is asked, and a task that is spawned has its
--- object, as the run tells it, and so has an execution that is made, but for a mutex object.
-use Rattle.std.specs.Prelude.{◌≡◌, ℕ, zero, suc, Bool, false, List, [], ◌∷◌, Some, slice_index_or}
+-- object, as the run tells it, and so has an execution that is made.
+use Rattle.std.specs.Prelude.{◌≡◌, ◌⊎◌, ℕ, zero, suc, Bool, false, List, [], ◌∷◌, slice_index_or}
 use Rattle.uc_tree.specs.Source.{Expr, ObjectExpr, Variable, OfObject, GetOwn, Scoped}
+use Rattle.uc_machine.specs.declared.exec.Exec.{Exec}
+use Rattle.uc_machine.specs.declared.exec.Owner.{Owner}
 use Rattle.uc_machine.specs.declared.exec.Owner.TheVariants.{Frame}
-use Rattle.uc_machine.specs.Executions.{members_at}
-use Rattle.uc_machine.specs.Quiet.{home_at}
-use Rattle.uc_machine.specs.Switches.{new_exec}
-use Rattle.uc_machine.specs.Pieces.{Link, Slot, FieldAt, Place, Object, Rest, Todo, Eval, LoadNow, SetUpNow, State, Members, address, further, nought, top}
-use Rattle.uc_typing.specs.Typing.{Ty, Cell, Obj, Row, Clu, Name, Sig, Table, CleansAt, Yields}
-use Rattle.uc_life_laws.specs.Things.{Few, Base, IsField, IsMutex, Within, Holds, IsFew, LiesIn}
+use Rattle.uc_machine.specs.Pieces.{Link, FieldAt, Value, Place, Rest, Todo, Eval, LoadNow, State, address, further, loaded, nought, top, variable_at}
+use Rattle.uc_typing.specs.Typing.{Ty, Num, Cell, Obj, Raw, Row, Clu, Name, Sig, Table, CleansAt, Yields}
+use Rattle.uc_typing.specs.States.{IsNumbered}
+use Rattle.uc_life_laws.specs.Things.{Few, IsField, IsBinding, IsMutex, IsUnbound, Within, IsFew, IsMade, Known}
+use Rattle.uc_life_laws.specs.HomedStates.{Owns, Inside}
 use Rattle.uc_life_laws.specs.LifeStates.{BehindMark, Outwards, frame_at}
 use Rattle.uc_life_laws.specs.Lives.{OutwardsOrMade}
 use Rattle.uc_life_laws.specs.Knowing.{ReadsKnown}
 use Rattle.uc_building_laws.specs.BuildingStates.{BuiltState}
-use Rattle.uc_building_laws.specs.BuildingRuns.{BindsAnew}
+use Rattle.uc_building_laws.specs.BuildingRuns.{BindsAnew, IsByNumber}
 use Rattle.uc_building_laws.specs.BuiltReads.{reads_bound}
 
 module _ (t : Table) (few : Few) (gs : List Sig) (g : Sig) (sc : List Name) (s : State) where
+  -- what is read at a place is known: of a number nothing is asked, and of what is to be destroyed only that it is one with such a number
+  abbrev pub ReadsLeft : Ty → Value → Type 0
+  ReadsLeft Num v = Unit {0}
+  ReadsLeft (Raw c) v = IsMade t few s.env.exec c (loaded v s.env)
+  ReadsLeft a v = ReadsKnown t few gs s a v
+
   abbrev pub ObjectLeft : ObjectExpr → Ty → Type 0
-  ObjectLeft (GetOwn k i) a = ReadsKnown t few gs s a (further (FieldAt k i) s.run.this)
+  ObjectLeft (GetOwn k i) a = ReadsLeft a (further (FieldAt k i) s.run.this)
   ObjectLeft o a = Unit {0}
 
   abbrev pub ExprLeft : Expr → Ty → Type 0
@@ -27,41 +34,51 @@ module _ (t : Table) (few : Few) (gs : List Sig) (g : Sig) (sc : List Name) (s :
 
   abbrev pub FindsLeft : List Todo → List Ty → Type 0
   FindsLeft (Eval e ∷ todo) own = (a : Ty) → Yields t g sc e a → ExprLeft e a
-  FindsLeft (LoadNow ∷ todo) (Cell a ∷ more) = ReadsKnown t few gs s a (top s.run.operands)
-  FindsLeft (SetUpNow r ∷ todo) own = (m : Members) → members_at (home_at s.run.this s.env) s.env ≡ Some m →
-      (c o : ℕ) → g.this ≡ Some c → s.run.this ≡ Object o →
-      LiesIn t few (new_exec (home_at s.run.this s.env) s.env) (Base few (new_exec (home_at s.run.this s.env) s.env)) (Obj c) s.run.this
+  FindsLeft (LoadNow ∷ todo) (Cell a ∷ more) = ReadsLeft a (top s.run.operands)
   FindsLeft todo own = Unit {0}
 
--- a variable that is a mutex object, or an array of such
-abbrev pub IsMutexCells : Table → Ty → Type 0
-IsMutexCells t (Cell b) = IsMutex t b
-IsMutexCells t (Row n (Cell b)) = IsMutex t b
-IsMutexCells t a = ⊥
+-- a variable that is known by its number, a mutex object, a cluster or a processor, or an array of such
+abbrev pub IsNumberCells : Table → Ty → Type 0
+IsNumberCells t (Cell b) = IsByNumber t b
+IsNumberCells t (Row n (Cell b)) = IsByNumber t b
+IsNumberCells t a = ⊥
 
--- where a scope opens, but that of a cluster, of a plain object, of a mutex object or of an array of these that is a variable, what it is of holds what is known;
--- of a plain object the fields of which `heads` does not tell; and mutex objects have such numbers
-abbrev pub OpensLeftAt : Table → (ℕ → ℕ → Bool) → Few → BehindMark → List Todo → State → Type 0
-OpensLeftAt t heads few K (Rest (Scoped c rest) ∷ todo) s =
-    ((k : ℕ) (a : Ty) → CleansAt t a (Variable k) c → (a ≡ Cell Clu → ⊥) → ((i : ℕ) → a ≡ Obj i → ⊥) → (IsMutexCells t a → ⊥) →
-    Holds t few s.env.exec (K (Outwards t few s.env.exec s.run.frame s.run.this s.callers c todo) s.env.exec s.run.frame s.run.this s.callers) (Frame s.env.exec s.run.frame) (frame_at s.run.frame s.env.frames) (Place (Frame s.env.exec s.run.frame) (Slot k ∷ [])) a) ×
+module _ (t : Table) (owns : Owns) (few : Few) (n : Exec) (K : Value → Ty → Type 0) (o : Owner) (vs : List Value) where
+  -- a value is an object with such a number
+  abbrev pub IsOne : Ty → Value → Type 0
+  IsOne b v = IsNumbered v × IsFew t few n b v
+
+  -- each binding within a thing holds what is known, or is an own mutex object of the variable u of the type c, in which the thing lies, and holds one that has
+  -- such a number
+  abbrev pub HoldsLeft : Value → Ty → Value → Ty → Type 0
+  HoldsLeft u c w a = (p : List Link) (b : Ty) → Within t w a (Place o p) (Cell b) → IsBinding b →
+      Known t few n K b (slice_index_or vs (address p) nought) ⊎
+      (IsMutex t b × Inside t owns u c (Place o p) (Cell b) × IsOne b (slice_index_or vs (address p) nought))
+
+-- where the scope of an array of plain objects opens that is a variable, and where that of a plain object does, of the fields of which `heads` does not tell, that
+-- holds what is left, if something is bound in it; and what is known by its number has such a number, but for a cluster that is a variable
+abbrev pub OpensLeftAt : Table → Owns → (ℕ → ℕ → Bool) → Few → BehindMark → List Todo → State → Type 0
+OpensLeftAt t owns heads few K (Rest (Scoped c rest) ∷ todo) s =
+    ((k m i : ℕ) → CleansAt t (Row m (Obj i)) (Variable k) c → (IsUnbound t (Row m (Obj i)) → ⊥) →
+    HoldsLeft t owns few s.env.exec (K (Outwards t few s.env.exec s.run.frame s.run.this s.callers c todo) s.env.exec s.run.frame s.run.this s.callers) (Frame s.env.exec s.run.frame) (frame_at s.run.frame s.env.frames) (variable_at k s) (Row m (Obj i)) (variable_at k s) (Row m (Obj i))) ×
     ((k i : ℕ) → CleansAt t (Obj i) (Variable k) c → (m : ℕ) → IsField t i m → heads i m ≡ false →
-    Holds t few s.env.exec (K (Outwards t few s.env.exec s.run.frame s.run.this s.callers c todo) s.env.exec s.run.frame s.run.this s.callers) (Frame s.env.exec s.run.frame) (frame_at s.run.frame s.env.frames) (further (FieldAt (t.shape i) m) (Place (Frame s.env.exec s.run.frame) (Slot k ∷ []))) (t.fields i m)) ×
-    ((k : ℕ) (a : Ty) → CleansAt t a (Variable k) c → IsMutexCells t a → (p : List Link) (b : Ty) →
-    Within t (Place (Frame s.env.exec s.run.frame) (Slot k ∷ [])) a (Place (Frame s.env.exec s.run.frame) p) (Cell b) →
+    (IsUnbound t (t.fields i m) → ⊥) →
+    HoldsLeft t owns few s.env.exec (K (Outwards t few s.env.exec s.run.frame s.run.this s.callers c todo) s.env.exec s.run.frame s.run.this s.callers) (Frame s.env.exec s.run.frame) (frame_at s.run.frame s.env.frames) (variable_at k s) (Obj i) (further (FieldAt (t.shape i) m) (variable_at k s)) (t.fields i m)) ×
+    ((k : ℕ) (a : Ty) → CleansAt t a (Variable k) c → IsNumberCells t a → (a ≡ Cell Clu → ⊥) → (p : List Link) (b : Ty) →
+    Within t (variable_at k s) a (Place (Frame s.env.exec s.run.frame) p) (Cell b) →
     IsFew t few s.env.exec b (slice_index_or (frame_at s.run.frame s.env.frames) (address p) nought))
-OpensLeftAt t heads few K todo s = Unit {0}
+OpensLeftAt t owns heads few K todo s = Unit {0}
 
 -- a step finds what it is to find: nothing is bound yet at a field of the object at hand where that is to be bound; and in a state in which all is known by
 -- kinds by which variables in scope hold what is known, and so do objects that are built: by some such kinds it finds what is left, but of what
 -- constructors have bound where they read it, and where a scope opens, what that is of holds what is known
-pub record MeetsLeft (t : Table) (heads : ℕ → ℕ → Bool) (few : Few) (s : State) : Type 0 where
+pub record MeetsLeft (t : Table) (owns : Owns) (heads : ℕ → ℕ → Bool) (few : Few) (s : State) : Type 0 where
   pub anew : BindsAnew t heads s s.run.control
   pub finds : BuiltState t heads few [] s → (x : BuiltState t heads few [] s) ×
       ((reads_bound t heads x.0.run.sig s ≡ false → FindsLeft t few x.0.sigs x.0.run.sig x.0.run.scope s s.run.control x.0.run.own) ×
-      OpensLeftAt t heads few (OutwardsOrMade x.0.sigs) s.run.control s)
+      OpensLeftAt t owns heads few (OutwardsOrMade x.0.sigs) s.run.control s)
 
 -- but in the states in which a clean-up finds and reads the variable that it ends
-abbrev pub LeftOutside : Table → (ℕ → ℕ → Bool) → Few → ℕ → State → Type 0
-LeftOutside t heads few zero s = MeetsLeft t heads few s
-LeftOutside t heads few (suc n) s = Unit {0}
+abbrev pub LeftOutside : Table → Owns → (ℕ → ℕ → Bool) → Few → ℕ → State → Type 0
+LeftOutside t owns heads few zero s = MeetsLeft t owns heads few s
+LeftOutside t owns heads few (suc n) s = Unit {0}

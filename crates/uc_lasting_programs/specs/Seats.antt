@@ -90,9 +90,9 @@ module _ (t : Table) (homes : ℕ → Value) where
     run_seats begun n w a = false
     run_seats (more r o m) n w a = run_seats r n w a || may_seats m n w a
 
--- so it is in a run and on the way to what is asked next, beside what else is told
+-- so it is in a run and on the way to what is asked next
 abbrev pub seated : (p : Program) (input : List ℕ) (opts : Options) {j : Journal} {w : World} → Runs (source_of p) input opts j w → {q t k : ℕ} {s : State} {a : Asked} →
-    AsksIn (source_of p) opts j w q t k s a → (Exec → Value → Ty → Bool) → Exec → Value → Ty → Bool
-seated p input opts {j} {w} r d base n v b =
-    (run_seats (table_of p) (λ o. home_of (source_of p) input opts j w r o) (source_of p) input opts r n v b ||
-    ride_seats (table_of p) (λ o. home_of (source_of p) input opts j w r o) d.rides n v b) || base n v b
+    AsksIn (source_of p) opts j w q t k s a → Exec → Value → Ty → Bool
+seated p input opts {j} {w} r d n v b =
+    run_seats (table_of p) (λ o. home_of (source_of p) input opts j w r o) (source_of p) input opts r n v b ||
+    ride_seats (table_of p) (λ o. home_of (source_of p) input opts j w r o) d.rides n v b

@@ -22,7 +22,7 @@ use Rattle.uc_typing.proofs.Frames.{replaced_onto}
 use Rattle.uc_typing.proofs.Control.{left, turn_ok, clean_ok, fill_ok}
 use Rattle.uc_life_laws.specs.Things.{Few, IsFew, Known, LiesIn, Base}
 use Rattle.uc_life_laws.specs.Knowing.{AtHand, KnownAll, KnownFrames, KnownThis, KnowsWaits, ClaimsEx, ClaimsEnv, StepBy, VariablesKnown, Finds, IsStill}
-use Rattle.uc_life_laws.specs.Kinds.{IsKept, BeginsAt, Turned, stays, begins, goes_back, no_sig, Parks, GoesOn, FollowsOn, Claimed, KeepsClaims, IsTold, LawKinds}
+use Rattle.uc_life_laws.specs.Kinds.{Stays, IsKept, BeginsAt, Turned, stays, begins, goes_back, no_sig, Parks, GoesOn, FollowsOn, Claimed, KeepsClaims, IsTold, LawKinds}
 use Rattle.uc_life_laws.proofs.Parked.{Ex}
 use Rattle.uc_life_laws.proofs.Cells.{either}
 use Rattle.uc_life_laws.proofs.Knowns.{kept_tracked, told_declared, newest, rest_of, next, rest_behind, values_drop, values_set, further_field, frames_cleared, lies_more}
@@ -151,8 +151,8 @@ module _ (t : Table) (few : Few) (Q : Exec → List Sig → Ex → Type 0) (kept
   asks given own todo vs o h = run_like given own todo vs s.env s.run.elements refl refl refl refl refl o h
 
   -- behind a write
-  wrote : (v w : Value) (own : List Ty) (todo : List Todo) (vs : List Value) → Ok t g base sc todo own → All todo own vs → FollowsOn Q t few source s sigs [] (at todo vs (in_env (written v w s.env) s))
-  wrote v w own todo vs o h = run_in sc [] own todo vs (written v w s.env) s.run.elements (parking.written_keeps t few Q kept v w s.env env) o h
+  wrote : (v w : Value) (own : List Ty) (todo : List Todo) (vs : List Value) → Stays Q s.env.exec v w → Ok t g base sc todo own → All todo own vs → FollowsOn Q t few source s sigs [] (at todo vs (in_env (written v w s.env) s))
+  wrote v w own todo vs lasts o h = run_in sc [] own todo vs (written v w s.env) s.run.elements (parking.written_keeps t few Q kept v w s.env lasts env) o h
 
   -- cells behind the parameters start anew
   clears : (k m : ℕ) (todo : List Todo) (own : List Ty) → length g.params ≤ k → Ok t g base sc todo own → All todo own s.run.operands → FollowsOn Q t few source s sigs [] (at todo s.run.operands (in_env (pc.cleared k m s) s))
@@ -199,13 +199,13 @@ module _ (t : Table) (few : Few) (Q : Exec → List Sig → Ex → Type 0) (kept
       run_like [] own (pc.Eval e ∷ (pc.DropNow ∷ (pc.Sweep e ∷ todo))) _ s.env n refl refl refl refl refl (f.0, f.1, (f, o)) h
 
   -- coroutines
-  set_up : (c : Option Routine) (r : ℕ) (todo : List Todo) (own : List Ty) → slice_get source.routines r ≡ c → ((m : Members) → members_at (q.home_at s.run.this s.env) s.env ≡ Some m → IsStill t few sigs g sc s × ((c : ℕ) → g.this ≡ Some c → LiesIn t few (sw.new_exec (q.home_at s.run.this s.env) s.env) (Base few (sw.new_exec (q.home_at s.run.this s.env) s.env)) (Obj c) s.run.this)) → IsMain t g r → Ok t g base sc todo own → All todo own s.run.operands → ((x : Routine) → c ≡ Some x → Q (sw.new_exec (q.home_at s.run.this s.env) s.env) (t.routine r ∷ []) (q.fresh x s.run.this)) → After (q.set_up_step c todo s)
+  set_up : (c : Option Routine) (r : ℕ) (todo : List Todo) (own : List Ty) → slice_get source.routines r ≡ c → ((m : Members) → members_at (q.home_at s.run.this s.env) s.env ≡ Some m → IsStill t few sigs g sc s × ((c : ℕ) → g.this ≡ Some c → LiesIn t few (sw.new_exec (q.home_at s.run.this s.env) s.env) (Base few (sw.new_exec (q.home_at s.run.this s.env) s.env)) (Obj c) s.run.this)) → IsMain t g r → Ok t g base sc todo own → All todo own s.run.operands → ((x : Routine) → c ≡ Some x → Q (sw.new_exec (q.home_at s.run.this s.env) s.env) (t.routine r ∷ []) (q.fresh x s.run.this) × Stays Q s.env.exec s.run.this (Running (sw.new_exec (q.home_at s.run.this s.env) s.env))) → After (q.set_up_step c todo s)
   set_up None r todo own e l m o h parks = run sc own todo _ o h
   set_up (Some x) r todo own e l m o h parks =
       let n = sw.new_exec (q.home_at s.run.this s.env) s.env in
-      let known : (h : Members) → members_at (q.home_at s.run.this s.env) s.env ≡ Some h → ClaimsEx t few Q n (q.fresh x s.run.this) = λ h at. parking.fresh_knows t few Q kept n (t.routine r) x s.run.this (sound.routines r x e) m.1 (parking.this_apart t few Q kept s.env.exec n (AtHand t few s.env.exec (others sigs) s.callers) (AtHand t few n [] []) g (t.routine r) s.run.this m.0 this (l h at).0 (λ c q. lies_more t few n (Base few n) (AtHand t few n [] []) (λ w a b. inl b) (Obj c) s.run.this ((l h at).1 c q))) (parks x refl) in
+      let known : (h : Members) → members_at (q.home_at s.run.this s.env) s.env ≡ Some h → ClaimsEx t few Q n (q.fresh x s.run.this) = λ h at. parking.fresh_knows t few Q kept n (t.routine r) x s.run.this (sound.routines r x e) m.1 (parking.this_apart t few Q kept s.env.exec n (AtHand t few s.env.exec (others sigs) s.callers) (AtHand t few n [] []) g (t.routine r) s.run.this m.0 this (l h at).0 (λ c q. lies_more t few n (Base few n) (AtHand t few n [] []) (λ w a b. inl b) (Obj c) s.run.this ((l h at).1 c q))) (parks x refl).0 in
       let born : Keeps t few Q kept s.env (sw.born (q.home_at s.run.this s.env) (q.fresh x s.run.this) s.env) = parking.born_keeps t few Q kept (q.home_at s.run.this s.env) (q.fresh x s.run.this) s.env known env in
-      run_in sc [] own todo _ _ s.run.elements (parking.keeps_both t few Q kept born (parking.written_keeps t few Q kept s.run.this (Running n) _ born.env)) o h
+      run_in sc [] own todo _ _ s.run.elements (parking.keeps_both t few Q kept born (parking.written_keeps t few Q kept s.run.this (Running n) _ (subst (λ m. Stays Q m s.run.this (Running n)) (sym born.exec) (parks x refl).1) born.env)) o h
 
   live : (c : Option Routine) (todo : List Todo) (own : List Ty) → Ok t g base sc todo own → All todo own s.run.operands → After (q.live_step c todo s)
   live None todo own o h = (tt, env)
@@ -258,12 +258,12 @@ module _ (t : Table) (few : Few) (Q : Exec → List Sig → Ex → Type 0) (kept
   makes n r (Some x) todo own more c m o h =
       either After (q.may_call x.written s) _ _ (tt, (c, m.2, m.3, run_like (Raw c ∷ []) own (pc.BindMadeNow n r ∷ todo) _ (inside.build_begun s.env) s.run.elements refl refl refl refl refl (more, c, m, refl, o) h)) (tt, tt)
 
-  binds : (n r : ℕ) (x : Option Routine) (todo : List Todo) (d : ℕ) (own more : List Ty) (c : ℕ) → d ≡ c → slice_get source.routines r ≡ x → Makes t n r own more c → Ok t g base sc todo (onto (t.routine r).params (Raw c ∷ more)) → All todo (Raw d ∷ own) s.run.operands → After (q.bind_step x todo s)
-  binds n r None todo d own more c u e m o h = (tt, env)
-  binds n r (Some x) todo d own more c u e m o h =
+  binds : (n r : ℕ) (x : Option Routine) (todo : List Todo) (d : ℕ) (own more : List Ty) (c : ℕ) → ((y : Routine) → x ≡ Some y → Stays Q s.env.exec (top (drop y.params (below s.run.operands))) (top s.run.operands)) → d ≡ c → slice_get source.routines r ≡ x → Makes t n r own more c → Ok t g base sc todo (onto (t.routine r).params (Raw c ∷ more)) → All todo (Raw d ∷ own) s.run.operands → After (q.bind_step x todo s)
+  binds n r None todo d own more c lasts u e m o h = (tt, env)
+  binds n r (Some x) todo d own more c lasts u e m o h =
       let i : slice_set own x.params (Raw c) ≡ onto (t.routine r).params (Raw c ∷ more) = ap (λ n. slice_set own n (Raw c)) (sound.routines r x e).params ∙ (ap (λ l. slice_set l (length (t.routine r).params) (Raw c)) m.0 ∙ replaced_onto (t.routine r).params more (Cell (Raw c)) (Raw c)) in
       let v : All todo (slice_set own x.params (Raw c)) (slice_set (below s.run.operands) x.params (top s.run.operands)) = values_set t few s.env.exec (With t few s sigs todo) x.params own (below s.run.operands) (Raw c) (top s.run.operands) (rest_of t few s.env.exec (With t few s sigs todo) (Raw d) own s.run.operands h) (subst (λ d. Known t few s.env.exec (With t few s sigs todo) (Raw d) (top s.run.operands)) u (newest t few s.env.exec (With t few s sigs todo) (Raw d) own s.run.operands h)) in
-      wrote (top (drop x.params (below s.run.operands))) (top s.run.operands) (onto (t.routine r).params (Raw c ∷ more)) todo _ o (subst (λ l. All todo l (slice_set (below s.run.operands) x.params (top s.run.operands))) i v)
+      wrote (top (drop x.params (below s.run.operands))) (top s.run.operands) (onto (t.routine r).params (Raw c ∷ more)) todo _ (lasts x refl) o (subst (λ l. All todo l (slice_set (below s.run.operands) x.params (top s.run.operands))) i v)
 
   condition : (k : ℕ) (i : Option ℕ) (todo : List Todo) (own : List Ty) → Ok t g base sc todo (Num ∷ own) → All todo own (below s.run.operands) → After (q.condition_step k i todo s)
   condition k None todo own o h = (tt, tt)
@@ -293,7 +293,7 @@ module _ (t : Table) (few : Few) (Q : Exec → List Sig → Ex → Type 0) (kept
 
   enables : (events cell : ℕ) (todo : List Todo) (own : List Ty) → Ok t g base sc todo own → All todo own s.run.operands → After (q.enable_step events cell todo s)
   enables events cell todo own o h =
-      let k : Keeps t few Q kept s.env (written (variable_at cell s) (Number (signed_64 s.env.links.enabled)) s.env) = parking.written_keeps t few Q kept (variable_at cell s) (Number (signed_64 s.env.links.enabled)) s.env env in
+      let k : Keeps t few Q kept s.env (written (variable_at cell s) (Number (signed_64 s.env.links.enabled)) s.env) = parking.written_keeps t few Q kept (variable_at cell s) (Number (signed_64 s.env.links.enabled)) s.env (parking.number_stays t few Q kept s.env.exec (variable_at cell s) (signed_64 s.env.links.enabled)) env in
       run_in sc [] own todo _ (inside.with_enabled events (written (variable_at cell s) (Number (signed_64 s.env.links.enabled)) s.env)) s.run.elements (parking.keeps_both t few Q kept k (keeps_like t few Q kept k.env refl refl refl refl refl)) o h
 
   polled : (p : Option Pending) (todo : List Todo) (own : List Ty) → Ok t g base sc todo own → All todo own s.run.operands → After (q.quiet_poll p todo s)
@@ -343,13 +343,13 @@ module _ (t : Table) (few : Few) (Q : Exec → List Sig → Ex → Type 0) (kept
   acts pc.DropNow todo _ e l o h parks calm = absurd o
   acts pc.DropBelowNow todo (a ∷ (b ∷ own)) e l o h parks calm = run sc (a ∷ own) todo _ o (newest t few s.env.exec (With t few s sigs todo) a (b ∷ own) s.run.operands h, rest_behind t few s.env.exec (With t few s sigs todo) a b own s.run.operands h)
   acts pc.DropBelowNow todo _ e l o h parks calm = absurd o
-  acts pc.StoreNow todo (Num ∷ (Cell Num ∷ own)) e l o h parks calm = wrote (top (below s.run.operands)) (Number (number (top s.run.operands))) own todo _ o (rest_behind t few s.env.exec (With t few s sigs todo) Num (Cell Num) own s.run.operands h)
+  acts pc.StoreNow todo (Num ∷ (Cell Num ∷ own)) e l o h parks calm = wrote (top (below s.run.operands)) (Number (number (top s.run.operands))) own todo _ (parking.number_stays t few Q kept s.env.exec (top (below s.run.operands)) (number (top s.run.operands))) o (rest_behind t few s.env.exec (With t few s sigs todo) Num (Cell Num) own s.run.operands h)
   acts pc.StoreNow todo _ e l o h parks calm = absurd o
-  acts pc.KeepNow todo (Num ∷ (Cell Num ∷ own)) e l o h parks calm = wrote (top (below s.run.operands)) (Number (number (top s.run.operands))) (Num ∷ own) todo _ o (tt, rest_behind t few s.env.exec (With t few s sigs todo) Num (Cell Num) own s.run.operands h)
+  acts pc.KeepNow todo (Num ∷ (Cell Num ∷ own)) e l o h parks calm = wrote (top (below s.run.operands)) (Number (number (top s.run.operands))) (Num ∷ own) todo _ (parking.number_stays t few Q kept s.env.exec (top (below s.run.operands)) (number (top s.run.operands))) o (tt, rest_behind t few s.env.exec (With t few s sigs todo) Num (Cell Num) own s.run.operands h)
   acts pc.KeepNow todo _ e l o h parks calm = absurd o
-  acts (pc.SetNow k) todo (Num ∷ own) e l o h parks calm = wrote (variable_at k s) (Number (number (top s.run.operands))) (Num ∷ own) todo _ o h
+  acts (pc.SetNow k) todo (Num ∷ own) e l o h parks calm = wrote (variable_at k s) (Number (number (top s.run.operands))) (Num ∷ own) todo _ (parking.number_stays t few Q kept s.env.exec (variable_at k s) (number (top s.run.operands))) o h
   acts (pc.SetNow k) todo _ e l o h parks calm = absurd o
-  acts pc.BindNow todo (a ∷ (Cell b ∷ own)) e l o h parks calm = wrote (top (below s.run.operands)) (top s.run.operands) (a ∷ own) todo _ o.1 (newest t few s.env.exec (With t few s sigs todo) a (Cell b ∷ own) s.run.operands h, rest_behind t few s.env.exec (With t few s sigs todo) a (Cell b) own s.run.operands h)
+  acts pc.BindNow todo (a ∷ (Cell b ∷ own)) e l o h parks calm = wrote (top (below s.run.operands)) (top s.run.operands) (a ∷ own) todo _ parks o.1 (newest t few s.env.exec (With t few s sigs todo) a (Cell b ∷ own) s.run.operands h, rest_behind t few s.env.exec (With t few s sigs todo) a (Cell b) own s.run.operands h)
   acts pc.BindNow todo _ e l o h parks calm = absurd o
   acts (pc.Choose a b) todo (Num ∷ own) e l o h parks calm = run sc own _ _ (choose t g base sc (is_zero (number (top s.run.operands))) b a todo own o.1 o.0 o.2) (rest_of t few s.env.exec (With t few s sigs todo) Num own s.run.operands h)
   acts (pc.Choose a b) todo _ e l o h parks calm = absurd o
@@ -433,7 +433,7 @@ module _ (t : Table) (few : Few) (Q : Exec → List Sig → Ex → Type 0) (kept
   acts (pc.EnterNow m r) todo own e l o h parks calm = enters m r (slice_get source.routines r) todo own o.0 o.1 refl o.2 o.3 o.4 h
   acts pc.LeaveNow todo own e l o h parks calm = leaves (inside.is_last (find (this_object s) s.env.depths)) (this_object s) todo own o.1 h
   acts (pc.MakeNow n r) todo own e l o h parks calm = makes n r (slice_get source.routines r) todo own o.0 o.1 o.2 o.3 h
-  acts (pc.BindMadeNow n r) todo (Raw d ∷ own) e l o h parks calm = binds n r (slice_get source.routines r) todo d own o.0 o.1 o.3 refl o.2 o.4 h
+  acts (pc.BindMadeNow n r) todo (Raw d ∷ own) e l o h parks calm = binds n r (slice_get source.routines r) todo d own o.0 o.1 parks o.3 refl o.2 o.4 h
   acts (pc.BindMadeNow n r) todo _ e l o h parks calm = absurd o
   acts pc.MadeNow todo own e l o h parks calm = held_up (this_object s) todo _ (tt, run_like [] own todo _ (inside.build_ended (this_object s) s.env) s.run.elements refl refl refl refl refl o.1 h)
   acts (pc.SpawnNow r) todo own e l o h parks calm =
@@ -525,4 +525,4 @@ law_claims Q kept = record {
 }
 
 pub law_kinds : LawKinds
-law_kinds told = law_claims (IsTold told) (record { written = λ n gs x d k v h. h; linked = λ n gs x l h. h; unwound = λ n gs x why other h. h })
+law_kinds told = law_claims (IsTold told) (record { written = λ n gs x d k z h. h; linked = λ n gs x l h. h; unwound = λ n gs x why other h. h })

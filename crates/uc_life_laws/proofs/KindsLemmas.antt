@@ -1,5 +1,5 @@
 -- What a step keeps of states, with what is claimed by their kinds and without.
-use Rattle.std.proofs.Common.{ℕ, ◌⊎◌, inl, inr, List, [], ◌∷◌, Option, Some, None}
+use Rattle.std.proofs.Common.{ℕ, ◌⊎◌, inl, inr, List, [], ◌∷◌, drop, Option, Some, None}
 use Rattle.uc_tree.specs.Source.{Source}
 use Rattle.uc_entry.specs.declared.request.Request.{Request}
 use Rattle.uc_entry.specs.declared.request.Request.TheVariants as ask
@@ -11,16 +11,17 @@ use Rattle.uc_machine.specs.declared.exec.Home.{Home}
 use Rattle.uc_machine.specs.declared.exec.Home.TheVariants as home
 use Rattle.uc_machine.specs.declared.exec.Stage.{Stage}
 use Rattle.uc_machine.specs.declared.exec.Stage.TheVariants.{Fresh, Started, Ended}
-use Rattle.uc_machine.specs.Pieces.{Todo, State, Env, Members, Step, Goes, Ticks, Asks}
+use Rattle.uc_machine.specs.Pieces.{Value, Running, top, Todo, State, Env, Members, Step, Goes, Ticks, Asks}
 use Rattle.uc_life_laws.proofs.Parked.{Ex}
-use Rattle.uc_machine.specs.Quiet.{quiet}
+use Rattle.uc_machine.specs.Switches.{new_exec}
+use Rattle.uc_machine.specs.Quiet.{quiet, home_at}
 use Rattle.uc_typing.specs.Typing.{Ty, Num, Raw, Clu, Pro, Sig, Table}
 use Rattle.uc_life_laws.specs.Things.{Few}
 use Rattle.uc_life_laws.specs.LifeStates.{SlotBy, ParkedBy, HandBy, MembersBy, EnvBy, StepIs}
 use Rattle.uc_life_laws.specs.LifeLaws.{LawKnown}
 use Rattle.uc_life_laws.specs.Knowing.{Anything, AskedBy, StepBy, ClaimsBy, ClaimsEx, ClaimsSlot, ClaimsEnv, ClaimsState, KnowsBy, KnowsEx, KnowsSlot, KnowsState, KnowsEnv, KnowsStep}
-use Rattle.uc_life_laws.specs.Kinds.{Returns, GoesPast, GoesOn, Parks, FollowsOn, Claimed}
-use Rattle.uc_life_laws.proofs.Parking.{anything_kept}
+use Rattle.uc_life_laws.specs.Kinds.{Stays, Returns, GoesPast, GoesOn, Parks, FollowsOn, Claimed}
+use Rattle.uc_life_laws.proofs.Parking.{all_stays, anything_kept}
 use Rattle.uc_life_laws.proofs.Reading.{life_read}
 use Rattle.uc_life_laws.proofs.Acting.{law_claims}
 pub use Rattle.uc_life_laws.proofs.GoingOn.{goes_or}
@@ -99,9 +100,14 @@ module _ (t : Table) (few : Few) (Q : Exec → List Sig → Ex → Type 0) where
   plain given s x = record { sigs = x.sigs; frames = x.frames; run = x.run; callers = x.callers; env = env_plain s.env x.env }
 
 -- nothing is claimed
+nothing_stays : (n : Exec) (w v : Value) → Stays Anything n w v
+nothing_stays = all_stays Anything (λ n gs x d k v h. tt)
+
 none_parks : (t : Table) (source : Source) (s : State) (todo : List Todo) (gs : List Sig) → Parks Anything t source gs s todo
 none_parks t source s [] gs = tt
-none_parks t source s (pc.SetUpNow r ∷ todo) gs = λ x e. tt
+none_parks t source s (pc.SetUpNow r ∷ todo) gs = λ x e. (tt, nothing_stays s.env.exec s.run.this (Running (new_exec (home_at s.run.this s.env) s.env)))
+none_parks t source s (pc.BindNow ∷ todo) gs = nothing_stays s.env.exec (top (pc.below s.run.operands)) (top s.run.operands)
+none_parks t source s (pc.BindMadeNow c r ∷ todo) gs = λ x e. nothing_stays s.env.exec (top (drop x.params (pc.below s.run.operands))) (top s.run.operands)
 none_parks t source s (p ∷ todo) gs = tt
 
 pub law_known : LawKnown

@@ -1,5 +1,5 @@
 -- What variables in scope hold, step by step, by the kinds of frames.
-use Rattle.std.proofs.Common.{◌≡◌, ℕ, suc, ◌≤◌, ◌<◌, ◌⊎◌, inl, inr, ⊎_elim, Bool, true, false, List, [], ◌∷◌, length, Some, refl, sym, ap, ◌∙◌, subst, arith}
+use Rattle.std.proofs.Common.{◌≡◌, ℕ, suc, ◌≤◌, ◌<◌, ◌⊎◌, inl, inr, ⊎_elim, Bool, true, false, List, [], ◌∷◌, length, drop, Some, refl, sym, ap, ◌∙◌, subst, arith}
 use Rattle.std.specs.Prelude.{nat_eq, if◌then◌else◌, slice_get}
 use Rattle.std.proofs.lemmas.Bool.{eqb-true}
 use Rattle.uc_tree.specs.Source.{Source, Routine, CleanUp}
@@ -7,17 +7,17 @@ use Rattle.uc_machine.specs.declared.exec.Exec.{Exec}
 use Rattle.uc_machine.specs.declared.exec.Owner.{Owner}
 use Rattle.uc_machine.specs.declared.exec.Owner.TheVariants.{Frame}
 use Rattle.uc_machine.specs.Executions.{at_depth, others}
-use Rattle.uc_machine.specs.Switches.{stopped}
+use Rattle.uc_machine.specs.Switches.{stopped, new_exec}
 use Rattle.uc_machine.specs.Pieces as pc
-use Rattle.uc_machine.specs.Pieces.{Value, Todo, Sort, Active, State, Step, Goes, Ticks, Asks, at}
-use Rattle.uc_machine.specs.Quiet.{quiet}
+use Rattle.uc_machine.specs.Pieces.{Value, Number, Running, Todo, Sort, Active, State, Step, Goes, Ticks, Asks, top, at}
+use Rattle.uc_machine.specs.Quiet.{quiet, home_at}
 use Rattle.uc_typing.specs.Typing.{Ty, Sig, Table}
 use Rattle.uc_typing.specs.States.{Sound}
 use Rattle.uc_typing.proofs.Unwinds as un
 use Rattle.uc_life_laws.specs.Things.{Few}
 use Rattle.uc_life_laws.specs.LifeStates.{frame_at, BehindMark, Outwards, MarkHoldsBy, AllHoldBy, LifeStackBy, LifeExBy, LifeStateBy, StepIs, OpensBy, Clears}
 use Rattle.uc_life_laws.specs.Knowing.{InMaking, ClaimsEnv, ClaimsState, StepBy, VariablesKnown, Finds}
-use Rattle.uc_life_laws.specs.Kinds.{IsKept, Turned, stays, begins, goes_back, GoesOn, Parks, FollowsOn, Claimed}
+use Rattle.uc_life_laws.specs.Kinds.{Stays, IsKept, Turned, stays, begins, goes_back, GoesOn, Parks, FollowsOn, Claimed}
 use Rattle.uc_life_laws.specs.Lives.{MakingAt, MakingIn, OutwardsOrMade, Lives, LivesState, FindsLiving, LawLives}
 use Rattle.uc_life_laws.proofs.Cells.{others_length}
 use Rattle.uc_life_laws.proofs.Parked.{Ex, each_env}
@@ -28,6 +28,7 @@ use Rattle.uc_life_laws.proofs.LifeKeeping.{IsParkedKept}
 use Rattle.uc_life_laws.proofs.LifeSteps.{life_kept}
 use Rattle.uc_life_laws.proofs.LifeWalk.{walk}
 use Rattle.uc_life_laws.proofs.Acting.{law_claims}
+use Rattle.uc_life_laws.proofs.Parking.{all_stays}
 use Rattle.uc_life_laws.proofs.KindsLemmas.{step_with}
 
 pub all_there : (x : Step) → StepIs (λ s. Unit {0}) x
@@ -133,6 +134,10 @@ module _ (t : Table) (few : Few) where
 
   -- states
 
+  -- whatever is written
+  pub lives_stay : (n : Exec) (w v : Value) → Stays (Lives t few) n w v
+  lives_stay = all_stays (Lives t few) (λ n gs x d k v h. (life_kept t few (OutwardsOrMade gs)).written n x d k v h)
+
   module _ (s : State) (gs : List Sig) (same : length s.env.frames ≡ length gs) (claim : Lives t few s.env.exec gs (stopped s)) where
     -- what is read of variables in scope is known
     pub lives_read : VariablesKnown t few gs s
@@ -152,7 +157,9 @@ module _ (t : Table) (few : Few) where
         by (pc.TakeDownNow ∷ todo) h = resting todo h
         by (pc.ResumeNow ∷ todo) h = resting (pc.Land ∷ todo) h
         by (pc.SuspendNow ∷ todo) h = resting (pc.Land ∷ todo) h
-        by (pc.SetUpNow r ∷ todo) h = λ x e. (life_kept t few (OutwardsOrMade (t.routine r ∷ []))).begins _ x s.run.this
+        by (pc.SetUpNow r ∷ todo) h = λ x e. ((life_kept t few (OutwardsOrMade (t.routine r ∷ []))).begins _ x s.run.this, lives_stay s.env.exec s.run.this (Running (new_exec (home_at s.run.this s.env) s.env)))
+        by (pc.BindNow ∷ todo) h = lives_stay s.env.exec (top (pc.below s.run.operands)) (top s.run.operands)
+        by (pc.BindMadeNow c r ∷ todo) h = λ x e. lives_stay s.env.exec (top (drop x.params (pc.below s.run.operands))) (top s.run.operands)
         by (p ∷ todo) h = tt
 
     -- behind a step by which the execution goes on, by the kinds that it then has
@@ -171,7 +178,7 @@ module _ (t : Table) (few : Few) where
 
   pub lives_kept : IsKept (Lives t few)
   lives_kept = record {
-    written = λ n gs x d k v h. (life_kept t few (OutwardsOrMade gs)).written n x d k v h;
+    written = λ n gs x d k z h. (life_kept t few (OutwardsOrMade gs)).written n x d k (Number z) h;
     linked = λ n gs x l h. (life_kept t few (OutwardsOrMade gs)).linked n x l h;
     unwound = λ n gs x why other h. record { frames = h.frames; stack = h.stack };
   }

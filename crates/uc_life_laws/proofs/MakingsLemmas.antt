@@ -6,21 +6,22 @@ use Rattle.uc_tree.specs.Source.{Source, Routine}
 use Rattle.uc_machine.specs.declared.exec.Exec.{Exec}
 use Rattle.uc_machine.specs.declared.exec.Owner.TheVariants.{Frame}
 use Rattle.uc_machine.specs.Executions.{at_depth, others}
-use Rattle.uc_machine.specs.Switches.{stopped}
+use Rattle.uc_machine.specs.Switches.{stopped, new_exec}
 use Rattle.uc_machine.specs.Pieces as pc
-use Rattle.uc_machine.specs.Pieces.{Value, Nothing, Todo, Active, State, top}
-use Rattle.uc_machine.specs.Quiet.{quiet}
+use Rattle.uc_machine.specs.Pieces.{Value, Running, Nothing, Todo, Active, State, top}
+use Rattle.uc_machine.specs.Quiet.{quiet, home_at}
 use Rattle.uc_typing.specs.Typing.{Ty, Raw, Sig, Table}
 use Rattle.uc_typing.specs.States.{Sound}
 use Rattle.uc_typing.proofs.Unwinds as un
 use Rattle.uc_life_laws.specs.Things.{Few, IsAwaited, Unmade, UnmadeBehind, is_outside}
 use Rattle.uc_life_laws.specs.LifeStates.{LifeState}
 use Rattle.uc_life_laws.specs.Knowing.{InMaking, KnowsWaits, ClaimsEnv, ClaimsState, StepBy, Finds}
-use Rattle.uc_life_laws.specs.Kinds.{IsKept, HasOne, BeginsAt, Turned, stays, begins, goes_back, GoesOn, Parks, FollowsOn, Claimed}
+use Rattle.uc_life_laws.specs.Kinds.{Stays, IsKept, HasOne, BeginsAt, Turned, stays, begins, goes_back, GoesOn, Parks, FollowsOn, Claimed}
 use Rattle.uc_life_laws.specs.Makings.{IsElsewhere, IsEnding, MadeBy, AllMade, Makings, Builds, BuildsAt, LawMakings}
 use Rattle.uc_life_laws.proofs.Knowns.{frames_length}
 use Rattle.uc_life_laws.proofs.Reading.{life_read}
 use Rattle.uc_life_laws.proofs.Acting.{law_claims}
+use Rattle.uc_life_laws.proofs.Parking.{all_stays}
 use Rattle.uc_life_laws.proofs.KindsLemmas.{goes_or, step_more}
 
 module _ (t : Table) (ends : ℕ → Bool) where
@@ -74,6 +75,10 @@ module _ (t : Table) (ends : ℕ → Bool) where
       let k : h.0.this ≡ Some c = subst (λ k. h.0.this ≡ Some k) (sym q) h.2.1.1 in
       ⊎_elim (λ y. inl (subst (λ v. IsElsewhere t n v c ⊎ Unmade t n older v (Raw c)) (sym h.2.1.2) y)) (λ e. inr (h.0, k, e)) (m.0 h.0 h.1 h.2.0 c k)
   elsewhere n gs (a ∷ older) m w c (inr h) = ⊎_elim (λ y. inl (⊎_elim (λ x. inl x) (λ x. inr (behind n older w (Raw c) x)) y)) (λ e. inr e) (elsewhere n (others gs) older m.1 w c h)
+
+  -- whatever is written
+  makings_stay : (n : Exec) (w v : Value) → Stays (Makings t ends) n w v
+  makings_stay = all_stays (Makings t ends) (λ n gs x d k v h. h)
 
   module _ (few : Few) (source : Source) (s : State) (x : ClaimsState t few (Makings t ends) [] s) (claim : Makings t ends s.env.exec x.sigs (stopped s)) where
     all_framed : Framed x.sigs (s.run ∷ s.callers)
@@ -132,14 +137,16 @@ module _ (t : Table) (ends : ℕ → Bool) where
     parks (pc.TakeDownNow ∷ todo) m = claim
     parks (pc.ResumeNow ∷ todo) m = claim
     parks (pc.SuspendNow ∷ todo) m = claim
-    parks (pc.SetUpNow r ∷ todo) m = λ q is. (λ g at whole c of. main g at whole, tt)
+    parks (pc.BindNow ∷ todo) m = makings_stay s.env.exec (top (pc.below s.run.operands)) (top s.run.operands)
+    parks (pc.BindMadeNow c r ∷ todo) m = λ q is. makings_stay s.env.exec (top (drop q.params (pc.below s.run.operands))) (top s.run.operands)
+    parks (pc.SetUpNow r ∷ todo) m = λ q is. ((λ g at whole c of. main g at whole, tt), makings_stay s.env.exec s.run.this (Running (new_exec (home_at s.run.this s.env) s.env)))
       where
         main : {A : Type 0} (g : Sig) → Some (t.routine r) ≡ Some g → g.whole ≡ true → A
         main g at whole = let e : t.routine r ≡ g = cc in let f : true ≡ false = sym whole ∙ (sym (ap (λ (i : Sig). i.whole) e) ∙ m) in absurd (cc)
     parks (p ∷ todo) m = tt
 
   pub making_kept : IsKept (Makings t ends)
-  making_kept = record { written = λ n gs x d k v h. h; linked = λ n gs x l h. h; unwound = λ n gs x why other h. h }
+  making_kept = record { written = λ n gs x d k z h. h; linked = λ n gs x l h. h; unwound = λ n gs x why other h. h }
 
   steps : (few : Few) (source : Source) → Sound t source → (s : State) → LifeState t few s → (x : ClaimsState t few (Makings t ends) [] s) → Makings t ends s.env.exec x.sigs (stopped s) → Finds t few x.sigs x.run.sig x.run.scope s s.run.control x.run.own → BuildsAt t ends source s s.run.control → StepBy t few (Claimed (Makings t ends) t few) (ClaimsEnv t few (Makings t ends)) source (quiet source s)
   steps few source sound s st x claim l m = by (goes_or s.run.control s.run.raised)

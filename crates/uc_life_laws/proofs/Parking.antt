@@ -1,5 +1,5 @@
 -- All that an execution can come by stays known where members, executions and who runs change.
-use Rattle.std.proofs.Common.{◌≡◌, ℕ, ◌∙◌, Bool, true, false, List, [], ◌∷◌, ◌++◌, replicate, Option, Some, None, refl, sym, subst}
+use Rattle.std.proofs.Common.{◌≡◌, ℕ, ℤ, ◌∙◌, Bool, true, false, List, [], ◌∷◌, ◌++◌, replicate, Option, Some, None, refl, sym, subst}
 use Rattle.std.specs.Prelude.{pos}
 use Rattle.uc_tree.specs.declared.limits.TheConstants.{UNHANDLED}
 use Rattle.uc_tree.specs.Source.{Stmts, Routine, Purpose, TaskMain, CoroutineMain, Procedure, Function, Builder}
@@ -27,8 +27,8 @@ use Rattle.uc_typing.specs.States.{IsObject, IsSorted, Routine_is}
 use Rattle.uc_life_laws.specs.Things.{Few, IsFew, LiesIn, Known}
 use Rattle.uc_life_laws.specs.LifeStates.{SlotBy, ParkedBy, MembersBy}
 use Rattle.uc_life_laws.specs.Knowing.{KnownParams, KnownFrames, KnownThis, Knows, KnowsWaits, ClaimsEx, ClaimsBy, ClaimsSlot, Anything, ClaimsEnv, ClaimsState, AtHand}
-use Rattle.uc_life_laws.specs.Kinds.{IsKept, Claimed}
-use Rattle.uc_life_laws.proofs.Cells.{either}
+use Rattle.uc_life_laws.specs.Kinds.{StaysAt, Stays, IsKept, Claimed}
+use Rattle.uc_life_laws.proofs.Cells.{either, tested}
 use Rattle.uc_life_laws.proofs.Parked as parked
 use Rattle.uc_life_laws.proofs.Parked.{Ex, at_home}
 use Rattle.uc_life_laws.proofs.Knowns.{frames_stored}
@@ -64,8 +64,21 @@ main_ok t g Procedure line body e f = (tt, f, (tt, refl))
 main_ok t g Function line body e f = (tt, f, (tt, refl))
 main_ok t g Builder line body e f = (tt, f, refl)
 
+-- what stays whatever is written
+module _ (Q : Exec → List Sig → Ex → Type 0) (writes : (n : Exec) (gs : List Sig) (x : Ex) (d k : ℕ) (v : Value) → Q n gs x → Q n gs (record x { frames = frame_changed d (value_changed k (stored v) nought) x.frames })) where
+  all_at : (n : Exec) (o : Owner) (k : ℕ) (v : Value) → StaysAt Q n o k v
+  all_at n (Frame m d) k v = λ q gs x h. writes m gs x d k v h
+  all_at n (Fields o) k v = tt
+
+  pub all_stays : (n : Exec) (w v : Value) → Stays Q n w v
+  all_stays n (Number z) v = tt
+  all_stays n (Place o p) v = all_at n o (address p) v
+  all_stays n (Running x) v = tt
+  all_stays n (Object o) v = tt
+  all_stays n Nothing v = tt
+
 pub anything_kept : IsKept Anything
-anything_kept = record { written = λ n gs x d k v h. tt; linked = λ n gs x l h. tt; unwound = λ n gs x why other h. tt }
+anything_kept = record { written = λ n gs x d k z h. tt; linked = λ n gs x l h. tt; unwound = λ n gs x why other h. tt }
 
 module _ (t : Table) (few : Few) (Q : Exec → List Sig → Ex → Type 0) (kept : IsKept Q) where
   pub like : {e f : Env} → ClaimsEnv t few Q e → f.hand ≡ e.hand → f.house ≡ e.house → f.own ≡ e.own → ClaimsEnv t few Q f
@@ -96,35 +109,48 @@ module _ (t : Table) (few : Few) (Q : Exec → List Sig → Ex → Type 0) (kept
 
   -- writes
 
-  record KeepsFrames (f : List (List Value) → List (List Value)) : Type 0 where
+  record KeepsFrames (m : Exec) (f : List (List Value) → List (List Value)) : Type 0 where
     frames : (n : Exec) (gs : List Sig) (fs : List (List Value)) (cs : List Active) → KnownFrames t few n gs fs cs → KnownFrames t few n gs (f fs) cs
-    claim : (n : Exec) (gs : List Sig) (x : Ex) → Q n gs x → Q n gs (record x { frames = f x.frames })
+    claim : (gs : List Sig) (x : Ex) → Q m gs x → Q m gs (record x { frames = f x.frames })
 
-  by_framed : (g : Stage) (n : Exec) (x : Ex) (f : List (List Value) → List (List Value)) → KeepsFrames f → ClaimsBy t few Q n g x → ClaimsBy t few Q n g (record x { frames = f x.frames })
-  by_framed Fresh n x f k r = record { sigs = r.sigs; frames = k.frames n r.sigs x.frames (x.run ∷ x.callers) r.frames; run = r.run; callers = r.callers; claim = k.claim n r.sigs x r.claim }
-  by_framed Started n x f k r = record { sigs = r.sigs; frames = k.frames n r.sigs x.frames (x.run ∷ x.callers) r.frames; run = r.run; callers = r.callers; claim = k.claim n r.sigs x r.claim }
+  by_framed : (g : Stage) (n : Exec) (x : Ex) (f : List (List Value) → List (List Value)) → KeepsFrames n f → ClaimsBy t few Q n g x → ClaimsBy t few Q n g (record x { frames = f x.frames })
+  by_framed Fresh n x f k r = record { sigs = r.sigs; frames = k.frames n r.sigs x.frames (x.run ∷ x.callers) r.frames; run = r.run; callers = r.callers; claim = k.claim r.sigs x r.claim }
+  by_framed Started n x f k r = record { sigs = r.sigs; frames = k.frames n r.sigs x.frames (x.run ∷ x.callers) r.frames; run = r.run; callers = r.callers; claim = k.claim r.sigs x r.claim }
   by_framed Ended n x f k r = tt
 
-  frames_kept : (h : Home) (n : ℕ) (f : List (List Value) → List (List Value)) (o : Option Ex) (m : Members) → KeepsFrames f → SlotBy (ClaimsSlot t few Q) (at_home h n) o → ParkedBy (ClaimsSlot t few Q) h m.parked → ParkedBy (ClaimsSlot t few Q) h (frames_by n f o m).parked
+  frames_kept : (h : Home) (n : ℕ) (f : List (List Value) → List (List Value)) (o : Option Ex) (m : Members) → KeepsFrames (at_home h n) f → SlotBy (ClaimsSlot t few Q) (at_home h n) o → ParkedBy (ClaimsSlot t few Q) h m.parked → ParkedBy (ClaimsSlot t few Q) h (frames_by n f o m).parked
   frames_kept h n f None m same r s = s
   frames_kept h n f (Some x) m same r s =
       parked.update_parked (ClaimsSlot t few Q) h n (Some (record x { frames = f x.frames })) m.parked (by_framed x.links.stage (at_home h n) x f same r) s
 
-  with_frames_keeps : (n : Exec) (f : List (List Value) → List (List Value)) (e : Env) → KeepsFrames f → ClaimsEnv t few Q e → Keeps e (with_frames n f e)
-  with_frames_keeps n f e same s =
-      either (Keeps e) (exec_eq n e.exec) (record e { frames = f e.frames }) (change n.home (frames_changed n.serial f) e) (record { exec = refl; frames = λ gs cs y. same.frames e.exec gs e.frames cs y; env = like s refl refl refl }) (keeps_change n.home (frames_changed n.serial f) e (λ m h. frames_kept n.home n.serial f (joined (find n.serial m.parked)) m same (parked.found_parked (ClaimsSlot t few Q) n.home n.serial m.parked h) h) s)
+  with_frames_keeps : (n : Exec) (f : List (List Value) → List (List Value)) (e : Env) → ((m : Exec) (gs : List Sig) (fs : List (List Value)) (cs : List Active) → KnownFrames t few m gs fs cs → KnownFrames t few m gs (f fs) cs) → (exec_eq n e.exec ≡ false → (gs : List Sig) (x : Ex) → Q n gs x → Q n gs (record x { frames = f x.frames })) → ClaimsEnv t few Q e → Keeps e (with_frames n f e)
+  with_frames_keeps n f e same stays s =
+      tested (Keeps e) (exec_eq n e.exec) (record e { frames = f e.frames }) (change n.home (frames_changed n.serial f) e) (λ q. record { exec = refl; frames = λ gs cs y. same e.exec gs e.frames cs y; env = like s refl refl refl }) (λ q. keeps_change n.home (frames_changed n.serial f) e (λ m h. frames_kept n.home n.serial f (joined (find n.serial m.parked)) m (record { frames = same; claim = stays q }) (parked.found_parked (ClaimsSlot t few Q) n.home n.serial m.parked h) h) s)
 
-  owned_keeps : (o : Owner) (k : ℕ) (v : Value) (e : Env) → ClaimsEnv t few Q e → Keeps e (with_owned o (value_changed k (stored v) nought) e)
-  owned_keeps (Frame n d) k v e s =
-      with_frames_keeps n (frame_changed d (value_changed k (stored v) nought)) e (record { frames = λ n gs fs cs h. frames_stored t few n d k v gs fs cs h; claim = λ n gs x h. kept.written n gs x d k v h }) s
-  owned_keeps (Fields o) k v e s = keeps_change (home.Object o) _ e (λ m h. h) s
+  owned_keeps : (o : Owner) (k : ℕ) (v : Value) (e : Env) → StaysAt Q e.exec o k v → ClaimsEnv t few Q e → Keeps e (with_owned o (value_changed k (stored v) nought) e)
+  owned_keeps (Frame n d) k v e stays s =
+      with_frames_keeps n (frame_changed d (value_changed k (stored v) nought)) e (λ m gs fs cs h. frames_stored t few m d k v gs fs cs h) stays s
+  owned_keeps (Fields o) k v e stays s = keeps_change (home.Object o) _ e (λ m h. h) s
 
-  pub written_keeps : (v w : Value) (e : Env) → ClaimsEnv t few Q e → Keeps e (written v w e)
-  written_keeps (Number n) w e s = keeps_like s refl refl refl refl refl
-  written_keeps (Place o p) w e s = owned_keeps o (address p) w e s
-  written_keeps (Running x) w e s = keeps_like s refl refl refl refl refl
-  written_keeps (Object o) w e s = owned_keeps (Fields o) 0 w e s
-  written_keeps Nothing w e s = keeps_like s refl refl refl refl refl
+  -- where what is claimed stays as that is written
+  pub written_keeps : (v w : Value) (e : Env) → Stays Q e.exec v w → ClaimsEnv t few Q e → Keeps e (written v w e)
+  written_keeps (Number n) w e stays s = keeps_like s refl refl refl refl refl
+  written_keeps (Place o p) w e stays s = owned_keeps o (address p) w e stays s
+  written_keeps (Running x) w e stays s = keeps_like s refl refl refl refl refl
+  written_keeps (Object o) w e stays s = owned_keeps (Fields o) 0 w e tt s
+  written_keeps Nothing w e stays s = keeps_like s refl refl refl refl refl
+
+  -- as it does where that is a number
+  number_at : (n : Exec) (o : Owner) (k : ℕ) (z : ℤ) → StaysAt Q n o k (Number z)
+  number_at n (Frame m d) k z = λ q gs x h. kept.written m gs x d k z h
+  number_at n (Fields o) k z = tt
+
+  pub number_stays : (n : Exec) (v : Value) (z : ℤ) → Stays Q n v (Number z)
+  number_stays n (Number y) z = tt
+  number_stays n (Place o p) z = number_at n o (address p) z
+  number_stays n (Running x) z = tt
+  number_stays n (Object o) z = tt
+  number_stays n Nothing z = tt
 
   -- executions are made and go, and their links change
 

@@ -1,13 +1,15 @@
 -- How the kinds of an execution's frames go on as it takes a step, and what is claimed of executions by these kinds.
-use Rattle.std.specs.Prelude.{◌≡◌, ℕ, ◌⊎◌, Bool, true, false, List, [], ◌∷◌, length, drop, Option, Some, None, slice_get}
+use Rattle.std.specs.Prelude.{◌≡◌, ℕ, ℤ, ◌⊎◌, Bool, true, false, List, [], ◌∷◌, length, drop, Option, Some, None, slice_get}
 use Rattle.uc_tree.specs.Source.{Source, Routine}
 use Rattle.uc_machine.specs.declared.exec.Exec.{Exec}
+use Rattle.uc_machine.specs.declared.exec.Owner.{Owner}
+use Rattle.uc_machine.specs.declared.exec.Owner.TheVariants.{Frame, Fields}
 use Rattle.uc_machine.specs.declared.exec.UnwindReason.{UnwindReason}
 use Rattle.uc_machine.specs.declared.exec.UnwindReason.TheVariants as reason
-use Rattle.uc_machine.specs.Executions.{Execution, Links, others, frame_changed, value_changed}
+use Rattle.uc_machine.specs.Executions.{Execution, Links, others, exec_eq, frame_changed, value_changed}
 use Rattle.uc_machine.specs.Switches.{new_exec, stopped, unwound_there}
 use Rattle.uc_machine.specs.Pieces as piece
-use Rattle.uc_machine.specs.Pieces.{Value, Todo, Sort, sort, Active, State, stored, nought, top, at}
+use Rattle.uc_machine.specs.Pieces.{Value, Number, Place, Running, Todo, Sort, sort, Active, State, address, stored, nought, top, below, at}
 use Rattle.uc_machine.specs.Quiet.{home_at, fresh, quiet}
 use Rattle.uc_typing.specs.Typing.{Ty, Apart, Sig, Table}
 use Rattle.uc_typing.specs.States.{Sound}
@@ -70,23 +72,39 @@ GoesOn todo why = Unit {0}
 -- claims
 
 module _ (Q : Exec → List Sig → Execution (List Todo) Value → Type 0) where
-  -- an execution that does not run keeps what is claimed of it: as somebody writes to a place in its frames, as its links change, and as it is to be
-  -- unwound, by no return
+  -- what is claimed of executions that do not run, of which the one of this name does, stays as this value is written to a cell
+  abbrev pub StaysAt : Exec → Owner → ℕ → Value → Type 0
+  StaysAt n (Frame m d) k v = exec_eq m n ≡ false → (gs : List Sig) (x : Execution (List Todo) Value) → Q m gs x →
+      Q m gs (record x { frames = frame_changed d (value_changed k (stored v) nought) x.frames })
+  StaysAt n (Fields o) k v = Unit {0}
+
+  -- so it does as it is written to a place
+  abbrev pub Stays : Exec → Value → Value → Type 0
+  Stays n (Place o p) v = StaysAt n o (address p) v
+  Stays n w v = Unit {0}
+
+  -- an execution that does not run keeps what is claimed of it: as somebody writes a number to a place in its frames, as its links change, and as it
+  -- is to be unwound, by no return
   pub record IsKept : Type 0 where
-    pub written : (n : Exec) (gs : List Sig) (x : Execution (List Todo) Value) (d k : ℕ) (v : Value) → Q n gs x →
-        Q n gs (record x { frames = frame_changed d (value_changed k (stored v) nought) x.frames })
+    pub written : (n : Exec) (gs : List Sig) (x : Execution (List Todo) Value) (d k : ℕ) (z : ℤ) → Q n gs x →
+        Q n gs (record x { frames = frame_changed d (value_changed k (stored (Number z)) nought) x.frames })
     pub linked : (n : Exec) (gs : List Sig) (x : Execution (List Todo) Value) (l : Links) → Q n gs x → Q n gs (record x { links = l })
     pub unwound : (n : Exec) (gs : List Sig) (x : Execution (List Todo) Value) (why : UnwindReason) →
         ((home : ℕ) → why ≡ reason.ReturnTo home → ⊥) → Q n gs x → Q n gs (unwound_there why x)
 
-  -- what is claimed of an execution that stops with the next step, as it stands then, and of one that is made
+  -- what is claimed of an execution that stops with the next step, as it stands then, and of one that is made; and what is claimed of those that do
+  -- not run stays as something is bound
   module _ (t : Table) (source : Source) (gs : List Sig) (s : State) where
     abbrev pub Parks : List Todo → Type 0
     Parks (piece.TakeDownNow ∷ todo) = Q s.env.exec gs (stopped (at todo s.run.operands s))
     Parks (piece.ResumeNow ∷ todo) = Q s.env.exec gs (stopped (at (piece.Land ∷ todo) s.run.operands s))
     Parks (piece.SuspendNow ∷ todo) = Q s.env.exec gs (stopped (at (piece.Land ∷ todo) s.run.operands s))
     Parks (piece.SetUpNow r ∷ todo) = (x : Routine) → slice_get source.routines r ≡ Some x →
-        Q (new_exec (home_at s.run.this s.env) s.env) (t.routine r ∷ []) (fresh x s.run.this)
+        Q (new_exec (home_at s.run.this s.env) s.env) (t.routine r ∷ []) (fresh x s.run.this) ×
+        Stays s.env.exec s.run.this (Running (new_exec (home_at s.run.this s.env) s.env))
+    Parks (piece.BindNow ∷ todo) = Stays s.env.exec (top (below s.run.operands)) (top s.run.operands)
+    Parks (piece.BindMadeNow c r ∷ todo) = (x : Routine) → slice_get source.routines r ≡ Some x →
+        Stays s.env.exec (top (drop x.params (below s.run.operands))) (top s.run.operands)
     Parks todo = Unit {0}
 
   module _ (t : Table) (few : Few) where

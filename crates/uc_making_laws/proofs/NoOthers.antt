@@ -105,14 +105,14 @@ fresh_unopened Fresh n y e h = (h.callers, unscoped y.run.frame y.run.this y.run
 fresh_unopened Started n y e h = absurd (cc)
 fresh_unopened Ended n y e h = absurd (cc)
 
-module _ (t : Table) (few : Few) (j : Journal) (x : World) (rank : Exec → ℕ) (u o : ℕ) (nowhere : IsNowhere t few j x rank o) (this : ThisWorld t few x) (zero : o ≡ 0 → ⊥) (belongs : Belongs few (x.tasks u).env.exec (few.home o)) where
+module _ (t : Table) (few : Few) (j : Journal) (x : World) (u o : ℕ) (nowhere : IsNowhere t few j x o) (this : ThisWorld t few x) (zero : o ≡ 0 → ⊥) (belongs : Belongs few (x.tasks u).env.exec (few.home o)) where
   stack : (n : Exec) (cs : List Active) → Lives j x n cs → ThisStack t few n cs
   stack n cs i =
       in_world (ThisStack t few) j x (λ v. (this.tasks v).stack) (λ v. (this.tasks v).env) this.homes n cs i
 
   lives : (n : Exec) (cs : List Active) → Lives j x n cs → (n ≡ (x.tasks u).env.exec → ⊥) → NoThis o cs
   lives n cs i other =
-      none t few o n zero (λ b. other (law_own few n (x.tasks u).env.exec (few.home o) b belongs)) cs (stack n cs i) (law_nowhere.lives t few j x rank o nowhere n cs i)
+      none t few o n zero (λ b. other (law_own few n (x.tasks u).env.exec (few.home o) b belongs)) cs (stack n cs i) (law_nowhere.lives t few j x o nowhere n cs i)
 
   abbrev Apart : Exec → Ex → Type 0
   Apart n y = (n ≡ (x.tasks u).env.exec → ⊥) × FreshEx n y
@@ -130,6 +130,6 @@ pub law_no_others : LawNoOthers
 law_no_others = record {
   none = λ t few o n cs h z b f. none t few o n z b cs h f;
   making = λ t few o gs cs h. making t few o gs cs h;
-  lives = λ t few j x rank u o h k z b n cs i f. lives t few j x rank u o h k z b n cs i f;
-  spares = λ t few j x rank u o h k z b v names fresh. spares t few j x rank u o h k z b v names fresh;
+  lives = λ t few j x u o h k z b n cs i f. lives t few j x u o h k z b n cs i f;
+  spares = λ t few j x u o h k z b v names fresh. spares t few j x u o h k z b v names fresh;
 }

@@ -353,11 +353,11 @@ module _ (whole : Makers) (homes : ℕ → Value) (asked : Exec → Bool) where
 
 -- the keys of a hand stay along a ride
 
-settled_next : (source : Source) (ks : List ℕ) (s : State) → Settled ks s → StepHolding ks (quiet source s)
+pub settled_next : (source : Source) (ks : List ℕ) (s : State) → Settled ks s → StepHolding ks (quiet source s)
 settled_next source ks s (inl h) = law_steps.settled source ks s h
 settled_next source ks s (inr h) = law_steps.bound source ks s h
 
-ride_keys : (source : Source) (ks : List ℕ) {s u : State} {q k : ℕ} {a : Asked} (r : Rides source s q u k a) → Settled ks s → keys u.env.hand ≡ ks
+pub ride_keys : (source : Source) (ks : List ℕ) {s u : State} {q k : ℕ} {a : Asked} (r : Rides source s q u k a) → Settled ks s → keys u.env.hand ≡ ks
 ride_keys source ks (slices {s}) h = settled_keys ks s h
 ride_keys source ks (goes_on {s} e r) h = ride_keys source ks r (inl (subst (StepHolding ks) e (settled_next source ks s h)))
 ride_keys source ks (ticks {s} e r) h = ride_keys source ks r (inl (subst (StepHolding ks) e (settled_next source ks s h)))

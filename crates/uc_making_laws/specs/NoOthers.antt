@@ -28,12 +28,12 @@ pub record LawNoOthers : Type 0 where
   pub none : (t : Table) (few : Few) (o : ℕ) (n : Exec) (cs : List Active) → ThisStack t few n cs → (o ≡ 0 → ⊥) →
       (Belongs few n (few.home o) → ⊥) → IsNoHome t few o (Things t few n cs) → NoThis o cs
   pub making : (t : Table) (few : Few) (o : ℕ) (gs : List Sig) (cs : List Active) → NoThis o cs → NotMaking t few o gs cs
-  pub lives : (t : Table) (few : Few) (j : Journal) (x : World) (rank : Exec → ℕ) (u o : ℕ) →
-      IsNowhere t few j x rank o → ThisWorld t few x → (o ≡ 0 → ⊥) →
+  pub lives : (t : Table) (few : Few) (j : Journal) (x : World) (u o : ℕ) →
+      IsNowhere t few j x o → ThisWorld t few x → (o ≡ 0 → ⊥) →
       Belongs few (x.tasks u).env.exec (few.home o) →
       (n : Exec) (cs : List Active) → Lives j x n cs → (n ≡ (x.tasks u).env.exec → ⊥) → NoThis o cs
-  pub spares : (t : Table) (few : Few) (j : Journal) (x : World) (rank : Exec → ℕ) (u o : ℕ) →
-      IsNowhere t few j x rank o → ThisWorld t few x → (o ≡ 0 → ⊥) →
+  pub spares : (t : Table) (few : Few) (j : Journal) (x : World) (u o : ℕ) →
+      IsNowhere t few j x o → ThisWorld t few x → (o ≡ 0 → ⊥) →
       Belongs few (x.tasks u).env.exec (few.home o) →
       (v : ℕ) → EnvBy (λ n y. n ≡ (x.tasks u).env.exec → ⊥) (x.tasks v).env → EnvBy FreshEx (x.tasks v).env →
       EnvBy (SparesEx t few o) (x.tasks v).env

@@ -26,10 +26,10 @@ use Rattle.uc_parts_laws.specs.FramesStay.{IsEnd, LawFramesStay}
 -- a coroutine that lies in a frame of this execution
 module _ (source : Source) (w : Seat) (n : Exec) (d : ℕ) (p : List Link) (lies : w.place ≡ Place (Frame n d) p) where
   -- in what it lies does so
-  abbrev InFrame : Value → Type 0
+  abbrev pub InFrame : Value → Type 0
   InFrame v = (q : List Link) × (v ≡ Place (Frame n d) q)
 
-  outward : (l : Link) (v : Value) → InFrame (further l v) → InFrame v
+  pub outward : (l : Link) (v : Value) → InFrame (further l v) → InFrame v
   outward l (Place (Frame m e) q) h = let same : Place (Frame m e) (l ∷ q) ≡ Place (Frame n d) h.0 = h.1 in let o : Frame m e ≡ Frame n d = cc in (q, ap (λ z. Place z q) o)
   outward l (Place (Fields o) q) h = let same : Place (Fields o) (l ∷ q) ≡ Place (Frame n d) h.0 = h.1 in absurd (cc)
   outward l (Object o) h = let same : Place (Fields o) (l ∷ []) ≡ Place (Frame n d) h.0 = h.1 in absurd (cc)
@@ -37,10 +37,10 @@ module _ (source : Source) (w : Seat) (n : Exec) (d : ℕ) (p : List Link) (lies
   outward l (Running y) h = let same : Nothing ≡ Place (Frame n d) h.0 = h.1 in absurd (cc)
   outward l Nothing h = let same : Nothing ≡ Place (Frame n d) h.0 = h.1 in absurd (cc)
 
-  no_object : (o : ℕ) → InFrame (Object o) → ⊥
+  pub no_object : (o : ℕ) → InFrame (Object o) → ⊥
   no_object o h = let same : Object o ≡ Place (Frame n d) h.0 = h.1 in absurd (cc)
 
-  destroyed_in : {r : ℕ} {v : Value} → Destroying source w r v → InFrame v
+  pub destroyed_in : {r : ℕ} {v : Value} → Destroying source w r v → InFrame v
   destroyed_in (itself x e q c l h) = (p, lies)
   destroyed_in {r} {v} (field x e q h i b s k) = outward (FieldAt h i) v (destroyed_in k)
   destroyed_in {r} {v} (element x e q h i m j z b l s k) = outward (FieldAt h i) v (outward (At z j) (further (FieldAt h i) v) (destroyed_in k))
@@ -76,20 +76,20 @@ module _ (source : Source) (w : Seat) (n : Exec) (d : ℕ) (p : List Link) (lies
     by_calls P (src.OfObject (src.EndOn q b (src.Load x))) h i = absurd (no_place (DestroyingAt source w q) (no_mutex q) x h)
     by_calls P e h i = absurd h
 
-    none_ends : (e : Expr) → EndsAt source w n f this e → (P : Site → Type 0) → calling.EndsAt g.table g.source g.special r P e → ⊥
+    pub none_ends : (e : Expr) → EndsAt source w n f this e → (P : Site → Type 0) → calling.EndsAt g.table g.source g.special r P e → ⊥
     none_ends (src.OfObject (src.EndOn q b (src.Load x))) h P i = no_place (DestroyingAt source w q) (no_mutex q) x h
     none_ends (src.OfObject (src.CallOn q x src.NoExprs)) h P i = i
     none_ends (src.OfObject (src.CallUnwritten q x)) h P i = i
     none_ends e h P i = absurd h
 
-    none_numbers : (e : Expr) → EndsAt source w n f this e → (P : Site → Type 0) → calling.EndsNumber g.table g.source g.special r P e → ⊥
+    pub none_numbers : (e : Expr) → EndsAt source w n f this e → (P : Site → Type 0) → calling.EndsNumber g.table g.source g.special r P e → ⊥
     none_numbers (src.OfObject (src.EndOn q b (src.Load x))) h P i = i
     none_numbers (src.OfObject (src.CallOn q x src.NoExprs)) h P i = i
     none_numbers (src.OfObject (src.CallUnwritten q x)) h P i = i
     none_numbers e h P i = absurd h
 
     -- at an element
-    at_element : (P : Value → Type 0) → ((v : Value) → P v → InFrame v) → (Q : ℕ → Spot → Type 0) (j : ℕ) (e : Expr) → AtElement source w n f this P j e → calling.PlaceAt g.table g.source g.special r Q e → Deep
+    pub at_element : (P : Value → Type 0) → ((v : Value) → P v → InFrame v) → (Q : ℕ → Spot → Type 0) (j : ℕ) (e : Expr) → AtElement source w n f this P j e → calling.PlaceAt g.table g.source g.special r Q e → Deep
     at_element P k Q j (src.Element m z x (src.OfObject src.Counted)) h i = at_place (λ v. P (further (At z j) v)) (λ v y. outward (At z j) v (k (further (At z j) v) y)) _ x h.1 i.0
     at_element P k Q j e h i = absurd h
 
@@ -103,13 +103,13 @@ module _ (source : Source) (w : Seat) (n : Exec) (d : ℕ) (p : List Link) (lies
     each_calls P j (src.OfObject (src.EndOn q b (src.Load x))) h i = absurd (no_element (DestroyingAt source w q) (no_mutex q) j x h)
     each_calls P j e h i = absurd h
 
-    each_ends : (j : ℕ) (e : Expr) → EndsElement source w n f this j e → (P : Site → Type 0) → calling.EndsEach g.table g.source g.special r P e → ⊥
+    pub each_ends : (j : ℕ) (e : Expr) → EndsElement source w n f this j e → (P : Site → Type 0) → calling.EndsEach g.table g.source g.special r P e → ⊥
     each_ends j (src.OfObject (src.EndOn q b (src.Load x))) h P i = no_element (DestroyingAt source w q) (no_mutex q) j x h
     each_ends j (src.OfObject (src.CallOn q x src.NoExprs)) h P i = i
     each_ends j (src.OfObject (src.CallUnwritten q x)) h P i = i
     each_ends j e h P i = absurd h
 
-    each_numbers : (j : ℕ) (e : Expr) → EndsElement source w n f this j e → (P : Site → Type 0) → calling.EndsNumber g.table g.source g.special r P e → ⊥
+    pub each_numbers : (j : ℕ) (e : Expr) → EndsElement source w n f this j e → (P : Site → Type 0) → calling.EndsNumber g.table g.source g.special r P e → ⊥
     each_numbers j (src.OfObject (src.EndOn q b (src.Load x))) h P i = i
     each_numbers j (src.OfObject (src.CallOn q x src.NoExprs)) h P i = i
     each_numbers j (src.OfObject (src.CallUnwritten q x)) h P i = i
@@ -164,7 +164,7 @@ module _ (source : Source) (w : Seat) (n : Exec) (d : ℕ) (p : List Link) (lies
         by_sort (piece.sort q) todo (Left g A r todo) (Ok g A r [] todo) (HeldIn source w ps n f this e older R todo) i (λ k. in_list todo (left_tail g A r q todo i) k) h
 
   -- the object at hand lies in an older frame
-  below_own : (g : Setting) (f : ℕ) (this : Value) → BelongsBelow g.few n f this → InFrame this → d < f
+  pub below_own : (g : Setting) (f : ℕ) (this : Value) → BelongsBelow g.few n f this → InFrame this → d < f
   below_own g f _ (in_frame {x} {e} {p = q} own l) h = let same : Place (Frame x e) q ≡ Place (Frame n d) h.0 = h.1 in let o : e ≡ d = cc in subst (λ k. k < f) o l
   below_own g f _ (in_fields {o} {p = q} b) h = let same : Place (Fields o) q ≡ Place (Frame n d) h.0 = h.1 in absurd (cc)
   below_own g f _ (in_object {o} b) h = absurd (no_object o h)
@@ -174,7 +174,7 @@ module _ (source : Source) (w : Seat) (n : Exec) (d : ℕ) (p : List Link) (lies
   deep_below g r f this k l own (inr h) = let m = below_own g f this (own h.0) h.1 in omega (arith, l, m)
 
   -- of activations that wait
-  held_below : (g : Setting) (Z : ℕ → ℕ → Type 0) (fs : List (List Value)) (ps : List Placed) → w.task ≡ false → (cs : List Active) → AllLeft g n cs → Stack Z fs cs → Held source w ps n cs → d < length cs
+  pub held_below : (g : Setting) (Z : ℕ → ℕ → Type 0) (fs : List (List Value)) (ps : List Placed) → w.task ≡ false → (cs : List Active) → AllLeft g n cs → Stack Z fs cs → Held source w ps n cs → d < length cs
   held_below g Z fs ps t [] i k h = absurd h
   held_below g Z fs ps t (c ∷ older) i k h =
       let le = k.0.frame in

@@ -15,6 +15,10 @@ pub mod UndoingSources
 pub mod UndoingWorlds
 pub mod TakenRuns
 pub mod FramesStay
+pub mod LeadingCells
+pub mod Extents
+pub mod ClearedFrames
+pub mod Lodging
 pub mod NewNames
 pub mod FieldKeeping
 pub mod FieldSteps

@@ -1,6 +1,7 @@
 -- An execution whose coroutine is forgotten is there no more at the end of a way, where the first cell of that names it.
-use Rattle.std.proofs.Common.{◌≡◌, ℕ, suc, Bool, true, false, List, [], ◌∷◌, Option, Some, None, refl, sym, ap, ◌∙◌, subst}
+use Rattle.std.proofs.Common.{◌≡◌, ℕ, suc, ◌<◌, ◌≤◌, ◌⊎◌, inl, inr, Bool, true, false, List, [], ◌∷◌, length, Option, Some, None, refl, sym, ap, ◌∙◌, subst, arith}
 use Rattle.std.specs.Prelude.{if◌then◌else◌, slice_index_or}
+use Rattle.std.proofs.lemmas.Bool.{cases_lt}
 use Rattle.uc_tree.specs.Source as src
 use Rattle.uc_tree.specs.Programs.{Program}
 use Rattle.uc_tree.specs.Source.{Source, CleanUp}
@@ -25,7 +26,7 @@ use Rattle.uc_name_laws.specs.Below.{Ex, slot_at}
 use Rattle.uc_name_laws.proofs.Homes.{no_both, exec_self}
 use Rattle.uc_state_laws.specs.Fitting.{RunFits}
 use Rattle.uc_state_laws.specs.Opens.{RideMeets, RunMeets}
-use Rattle.uc_life_laws.specs.Held.{Seating, AreLines, LetsGo}
+use Rattle.uc_life_laws.specs.Held.{Seating, AreLines, ClearsBehind, LetsGo}
 use Rattle.uc_life_laws.specs.Ways.{NamesHere, IsForgotten, ForgetsBy, UnwindsBy}
 use Rattle.uc_putting_laws.specs.Putting.{Setting}
 use Rattle.uc_rooted_runs.specs.Births.{MakesLater, RunSpawnsLater}
@@ -34,8 +35,12 @@ use Rattle.uc_rooted_runs.specs.OutlastRuns.{with_homes, made_behind, run_made, 
 use Rattle.uc_rooted_runs.specs.Still.{unless_there, without_one, without_own, still_by, still_behind, ride_still, still_asked, run_still, way_still}
 use Rattle.uc_parts_laws.specs.Leaving.{NamesNew, GoesAt}
 use Rattle.uc_parts_laws.specs.FramesStay.{IsEnd}
-use Rattle.uc_parts_laws.specs.Naming.{StandsAt, NamesFirst, FindsHome, NamesBy, NamesPast, NamesAt, RideNamesOwn, RunNamesOwn, LawNaming}
+use Rattle.uc_parts_laws.specs.Naming.{StandsAt, InParts, NamesFirst, FindsHome, NamesBy, NamesPast, NamesAt, RideNamesOwn, RunNamesOwn, LawNaming}
 use Rattle.uc_parts_laws.specs.PartsRuns.{RideKeepsBeside, RunKeepsBeside}
+use Rattle.uc_parts_laws.specs.ClearedFrames.{IsLaid}
+use Rattle.uc_parts_laws.specs.Parts.{IsOrderly}
+use Rattle.uc_parts_laws.specs.PartStates.{IsTaken}
+use Rattle.uc_parts_laws.proofs.ClearedFrames.{law_cleared_frames}
 use Rattle.uc_parts_laws.proofs.FieldNames.{InCell, NamedBy, seen, AllIn, goes_behind, ticks_behind, start_in, run_in}
 use Rattle.uc_parts_laws.proofs.FramesStay.{law_frames_stay}
 use Rattle.uc_parts_laws.proofs.NewNames.{new_named}
@@ -152,17 +157,17 @@ module _ (source : Source) (seats : Seating) (up : Exec → Bool) (s : State) (m
   past (piece.IsPart c) todo e h = by_clean c (piece.Unwind ∷ todo) [] e h
   past k todo e h = tt
 
-  named_at : (l : List Todo) → s.run.control ≡ l → (IsEnd l → LetsGo source seats up s) → (NamesFirst source s → NamesNew source seats up s) → ((todo : List Todo) → l ≡ piece.Finish ∷ todo → AreLines todo) → NamesAt source seats up l s → GoesAt source seats up l s
-  named_at [] i f n y h = f tt
-  named_at (piece.ClearNow k m ∷ todo) i f n y h = h
-  named_at (piece.SetUpNow r ∷ todo) i f n y h = n h
-  named_at (piece.Finish ∷ todo) i f n y h = f (y todo refl)
-  named_at (piece.Exit way ∷ []) i f n y h = f tt
-  named_at (piece.Unwind ∷ []) i f n y h = f tt
-  named_at (piece.Clean c ∷ todo) i f n y h = by_clean c todo s.run.operands (ap (λ l. quiet.act_todo source l s) i) h
-  named_at (piece.Sweep d ∷ todo) i f n y h = h
-  named_at (piece.Unwind ∷ (p ∷ todo)) i f n y h = past (piece.sort p) todo (ap (λ l. quiet.act_todo source l s) i) h
-  named_at l i f n y h = tt
+  named_at : (l : List Todo) → s.run.control ≡ l → ((k m : ℕ) (todo : List Todo) → l ≡ piece.ClearNow k m ∷ todo → (s.run.frame < length s.callers → ClearsBehind source seats up s k) → ClearsBehind source seats up s k) → (IsEnd l → LetsGo source seats up s) → (NamesFirst source s → NamesNew source seats up s) → ((todo : List Todo) → l ≡ piece.Finish ∷ todo → AreLines todo) → NamesAt source seats up l s → GoesAt source seats up l s
+  named_at [] i c f n y h = f tt
+  named_at (piece.ClearNow k m ∷ todo) i c f n y h = c k m todo refl h
+  named_at (piece.SetUpNow r ∷ todo) i c f n y h = n h
+  named_at (piece.Finish ∷ todo) i c f n y h = f (y todo refl)
+  named_at (piece.Exit way ∷ []) i c f n y h = f tt
+  named_at (piece.Unwind ∷ []) i c f n y h = f tt
+  named_at (piece.Clean x ∷ todo) i c f n y h = by_clean x todo s.run.operands (ap (λ l. quiet.act_todo source l s) i) h
+  named_at (piece.Sweep d ∷ todo) i c f n y h = h
+  named_at (piece.Unwind ∷ (p ∷ todo)) i c f n y h = past (piece.sort p) todo (ap (λ l. quiet.act_todo source l s) i) h
+  named_at l i c f n y h = tt
 
 module _ (makers : Makers) (asked : Exec → Bool) where
   pub now_asked : (made : Exec → Bool) (x : Exec) → now makers asked made x ≡ true → asked x ≡ true
@@ -180,21 +185,32 @@ module _ (makers : Makers) (asked : Exec → Bool) where
       by false h = absurd (cc)
 
   -- a state, behind which none that is up is forgotten next
-  module _ (program : Program) (g : Setting) (whole : Makers) (homes : ℕ → Value) (same : makers ≡ with_homes homes whole) (made : Exec → Bool) (s : State) (st : StandsAt program g s) (later : MakesLater g.source whole s) (at_homes : ℕ → Option Members) (inside : AllIn g.source whole (seen at_homes s) made) (never : (todo : List Todo) (vs : List Value) → quiet.quiet g.source s ≡ Goes (at (ForgetNow ∷ todo) vs s) → (x : Exec) → now makers asked made x ≡ true → IsNamed x s → ⊥) where
+  module _ (program : Program) (g : Setting) (laid : IsLaid program g) (whole : Makers) (homes : ℕ → Value) (same : makers ≡ with_homes homes whole) (made : Exec → Bool) (s : State) (parts : InParts g homes s) (st : StandsAt program g s) (later : MakesLater g.source whole s) (at_homes : ℕ → Option Members) (inside : AllIn g.source whole (seen at_homes s) made) (never : (todo : List Todo) (vs : List Value) → quiet.quiet g.source s ≡ Goes (at (ForgetNow ∷ todo) vs s) → (x : Exec) → now makers asked made x ≡ true → IsNamed x s → ⊥) where
     up_inside : (x : Exec) → now makers asked made x ≡ true → (makers.seat x).task ≡ false → NamedBy (seen at_homes s) x (makers.seat x).place
     up_inside x u t =
         subst (NamedBy (seen at_homes s) x) (ap (λ (z : Makers). (z.seat x).place) (sym same)) (inside x (now_made made x u) (ap (λ (z : Makers). (z.seat x).task) (sym same) ∙ t))
 
+    -- where cells start anew
+    clears_at : (k m : ℕ) (todo : List Todo) → s.run.control ≡ piece.ClearNow k m ∷ todo → (s.run.frame < length s.callers → ClearsBehind g.source (seating makers) (now makers asked made) s k) → ClearsBehind g.source (seating makers) (now makers asked made) s k
+    clears_at k m todo e h = by (cases_lt s.run.frame (length s.callers))
+      where
+        order : IsOrderly g.special (IsTaken (record { source = g.source; special = g.special; home = homes }) s.env.exec s.callers s.run.frame s.run.this) s.run.elements (piece.ClearNow k m ∷ todo)
+        order = subst (IsOrderly g.special (IsTaken (record { source = g.source; special = g.special; home = homes }) s.env.exec s.callers s.run.frame s.run.this) s.run.elements) e parts.run
+
+        by : (s.run.frame < length s.callers) ⊎ (length s.callers ≤ s.run.frame) → ClearsBehind g.source (seating makers) (now makers asked made) s k
+        by (inl l) = h l
+        by (inr l) = law_cleared_frames.clears program g laid (seating makers) (now makers asked made) s st.put st.stack k m todo e order.0 (λ o. omega (arith, l, o))
+
     beside_at : NamesAt g.source (seating makers) (now makers asked made) s.run.control s → GoesAt g.source (seating makers) (now makers asked made) s.run.control s
     beside_at h =
-        named_at g.source (seating makers) (now makers asked made) s st.members st.homed at_homes up_inside never s.run.control refl (λ e. law_frames_stay program g (seating makers) (now makers asked made) s st.put st.stack e) (λ k. new_named program g (seating makers) (now makers asked made) s st.put st.stack (λ n b. ap (λ (z : Makers). (z.seat n).place) same ∙ (later n b).seat) k) st.ends.finish h
+        named_at g.source (seating makers) (now makers asked made) s st.members st.homed at_homes up_inside never s.run.control refl clears_at (λ e. law_frames_stay program g (seating makers) (now makers asked made) s st.put st.stack e) (λ k. new_named program g (seating makers) (now makers asked made) s st.put st.stack (λ n b. ap (λ (z : Makers). (z.seat n).place) same ∙ (later n b).seat) k) st.ends.finish h
 
   -- a ride, at the end of which all of whom it is asked are there
-  module _ (program : Program) (g : Setting) (whole : Makers) (homes : ℕ → Value) (same : makers ≡ with_homes homes whole) where
-    ride_beside : (at_homes : ℕ → Option Members) (made still : Exec → Bool) {s u : State} {q k : ℕ} {a : Asked} (r : Rides g.source s q u k a) → RideMeets (StandsAt program g) g.source s q u k a r → RideMeets (MakesLater g.source whole) g.source s q u k a r → AllIn g.source whole (seen at_homes s) made → ((x : Exec) → asked x ≡ true → ride_still g.source still r x ≡ true) → RideNamesOwn makers asked g.source made r → RideKeepsBeside makers asked g.source made r
-    ride_beside z made still slices st m i f h = tt
-    ride_beside z made still (goes_on {s} {t} e r) st m c f h =
-        (beside_at program g whole homes same made s st.0 m.0 z c never h.0, ride_beside z (made_behind g.source s made) (still_behind s still) r st.1 m.1 (goes_behind g.source whole z makers asked made s t e m.0 h.0 c) f h.1)
+  module _ (program : Program) (g : Setting) (laid : IsLaid program g) (whole : Makers) (homes : ℕ → Value) (same : makers ≡ with_homes homes whole) where
+    ride_beside : (at_homes : ℕ → Option Members) (made still : Exec → Bool) {s u : State} {q k : ℕ} {a : Asked} (r : Rides g.source s q u k a) → RideMeets (InParts g homes) g.source s q u k a r → RideMeets (StandsAt program g) g.source s q u k a r → RideMeets (MakesLater g.source whole) g.source s q u k a r → AllIn g.source whole (seen at_homes s) made → ((x : Exec) → asked x ≡ true → ride_still g.source still r x ≡ true) → RideNamesOwn makers asked g.source made r → RideKeepsBeside makers asked g.source made r
+    ride_beside z made still slices pt st m i f h = tt
+    ride_beside z made still (goes_on {s} {t} e r) pt st m c f h =
+        (beside_at program g laid whole homes same made s pt.0 st.0 m.0 z c never h.0, ride_beside z (made_behind g.source s made) (still_behind s still) r pt.1 st.1 m.1 (goes_behind g.source whole z makers asked made s t e m.0 h.0 c) f h.1)
       where
         never : (todo : List Todo) (vs : List Value) → quiet.quiet g.source s ≡ Goes (at (ForgetNow ∷ todo) vs s) → (x : Exec) → now makers asked made x ≡ true → IsNamed x s → ⊥
         never todo vs i x u n =
@@ -202,32 +218,32 @@ module _ (makers : Makers) (asked : Exec → Bool) where
             let same : at (ForgetNow ∷ todo) vs s ≡ t = cc both in
             let there : IsNamed x (at (ForgetNow ∷ todo) vs s) = record { own = n.own; members = n.members; in_hand = n.in_hand } in
             ride_forgets g.source (still_behind s still) r todo x (ap (λ (v : State). v.run.control) (sym same)) (subst (IsNamed x) same there) (f x (now_asked made x u))
-    ride_beside z made still (ticks {s} {t} e r) st m c f h =
-        (beside_at program g whole homes same made s st.0 m.0 z c never h.0, ride_beside z (made_behind g.source s made) (still_behind s still) r st.1 m.1 (ticks_behind g.source whole z makers asked made s t e m.0 c) f h.1)
+    ride_beside z made still (ticks {s} {t} e r) pt st m c f h =
+        (beside_at program g laid whole homes same made s pt.0 st.0 m.0 z c never h.0, ride_beside z (made_behind g.source s made) (still_behind s still) r pt.1 st.1 m.1 (ticks_behind g.source whole z makers asked made s t e m.0 c) f h.1)
       where
         never : (todo : List Todo) (vs : List Value) → quiet.quiet g.source s ≡ Goes (at (ForgetNow ∷ todo) vs s) → (x : Exec) → now makers asked made x ≡ true → IsNamed x s → ⊥
         never todo vs i x u n = let both : Goes (at (ForgetNow ∷ todo) vs s) ≡ Ticks t = sym i ∙ e in absurd (cc)
-    ride_beside z made still (asks {s} {t} {q} {r} e) st m c f h = beside_at program g whole homes same made s st m z c never h
+    ride_beside z made still (asks {s} {t} {q} {r} e) pt st m c f h = beside_at program g laid whole homes same made s pt st m z c never h
       where
         never : (todo : List Todo) (vs : List Value) → quiet.quiet g.source s ≡ Goes (at (ForgetNow ∷ todo) vs s) → (x : Exec) → now makers asked made x ≡ true → IsNamed x s → ⊥
         never todo vs i x u n = let both : Goes (at (ForgetNow ∷ todo) vs s) ≡ Asks r t = sym i ∙ e in absurd (cc)
 
-  module _ (program : Program) (g : Setting) (whole : Makers) (homes : ℕ → Value) (same : makers ≡ with_homes homes whole) (input : List ℕ) (opts : Options) (range : InRange opts) where
-    run_beside : {j : Journal} {w : World} (r : Runs g.source input opts j w) → RunFits g.source input opts j w r → RunMeets (StandsAt program g) g.source input opts j w r → RunMeets (MakesLater g.source whole) g.source input opts j w r → RunSpawnsLater whole g.source input opts j w r → ((x : Exec) → asked x ≡ true → run_still g.source input opts r x ≡ true) → RunNamesOwn makers asked g.source input opts r → RunKeepsBeside makers asked g.source input opts r
-    run_beside begun fits st l sp f h = tt
-    run_beside (more r o (gives p t v le)) fits st l sp f h = (run_beside r fits.0 st.0 l.0 sp.0 f h.0, tt)
-    run_beside (more r o (no_room p t v le)) fits st l sp f h = (run_beside r fits.0 st.0 l.0 sp.0 f h.0, tt)
-    run_beside (more {j} {w} r o (acts p t n s q d)) fits st l sp f h =
+  module _ (program : Program) (g : Setting) (laid : IsLaid program g) (whole : Makers) (homes : ℕ → Value) (same : makers ≡ with_homes homes whole) (input : List ℕ) (opts : Options) (range : InRange opts) where
+    run_beside : {j : Journal} {w : World} (r : Runs g.source input opts j w) → RunFits g.source input opts j w r → RunMeets (InParts g homes) g.source input opts j w r → RunMeets (StandsAt program g) g.source input opts j w r → RunMeets (MakesLater g.source whole) g.source input opts j w r → RunSpawnsLater whole g.source input opts j w r → ((x : Exec) → asked x ≡ true → run_still g.source input opts r x ≡ true) → RunNamesOwn makers asked g.source input opts r → RunKeepsBeside makers asked g.source input opts r
+    run_beside begun fits pt st l sp f h = tt
+    run_beside (more r o (gives p t v le)) fits pt st l sp f h = (run_beside r fits.0 pt.0 st.0 l.0 sp.0 f h.0, tt)
+    run_beside (more r o (no_room p t v le)) fits pt st l sp f h = (run_beside r fits.0 pt.0 st.0 l.0 sp.0 f h.0, tt)
+    run_beside (more {j} {w} r o (acts p t n s q d)) fits pt st l sp f h =
         let still : (x : Exec) → asked x ≡ true → ride_still g.source (run_still g.source input opts r) d.rides x ≡ true = λ x e. asked_before q.request s (ride_still g.source (run_still g.source input opts r) d.rides) x (f x e) in
         let begins = start_in g.source whole input opts range j w r fits.0 o sp.0 p t n s q d (run_in g.source whole input opts range makers asked r fits.0 l.0 sp.0 h.0) in (
-          run_beside r fits.0 st.0 l.0 sp.0 (λ x e. ride_before g.source (run_still g.source input opts r) d.rides x (still x e)) h.0,
-          ride_beside program g whole homes same w.homes (run_made g.source input opts r) (run_still g.source input opts r) d.rides st.1 l.1 begins still h.1,
+          run_beside r fits.0 pt.0 st.0 l.0 sp.0 (λ x e. ride_before g.source (run_still g.source input opts r) d.rides x (still x e)) h.0,
+          ride_beside program g laid whole homes same w.homes (run_made g.source input opts r) (run_still g.source input opts r) d.rides pt.1 st.1 l.1 begins still h.1,
         )
 
 pub law_naming : LawNaming
 law_naming = record {
-  runs = λ program g makers homes input opts j w r p u n s q d range fits st l sp h.
-      run_beside (with_homes homes makers) (way_still g.source input opts r d) program g makers homes refl input opts range r fits st l sp (λ x e. ride_before g.source (run_still g.source input opts r) d.rides x e) h;
-  ride = λ program g makers homes input opts j w r p u n s q d range fits on st l sp m k h.
-      ride_beside (with_homes homes makers) (way_still g.source input opts r d) program g makers homes refl w.homes (run_made g.source input opts r) (run_still g.source input opts r) d.rides st m (start_in g.source makers input opts range j w r fits on sp p u n s q d (run_in g.source makers input opts range (with_homes homes makers) (way_still g.source input opts r d) r fits l sp k)) (λ x e. e) h;
+  runs = λ program g makers homes input opts j w r p u n s q d range fits laid pt st l sp h.
+      run_beside (with_homes homes makers) (way_still g.source input opts r d) program g laid makers homes refl input opts range r fits pt st l sp (λ x e. ride_before g.source (run_still g.source input opts r) d.rides x e) h;
+  ride = λ program g makers homes input opts j w r p u n s q d range fits on laid pt pr st l sp m k h.
+      ride_beside (with_homes homes makers) (way_still g.source input opts r d) program g laid makers homes refl w.homes (run_made g.source input opts r) (run_still g.source input opts r) d.rides pr st m (start_in g.source makers input opts range j w r fits on sp p u n s q d (run_in g.source makers input opts range (with_homes homes makers) (way_still g.source input opts r d) r fits l sp k)) (λ x e. e) h;
 }

@@ -76,9 +76,10 @@ module _ (special : ℕ → Bool) (P : CleanUp → Type 0) (count : ℕ) where
   within n (p ∷ ps) h =
       either Ok (nat_eq (raising.count_round (p ∷ ps)) n) (p ∷ ps) (raising.within n ps) h (within n ps (todos.tail special P count p ps h))
 
-  pub starts : (cell : ℕ) (v : Option Expr) (todo : List Todo) → Ok todo → Ok (quiet.starting cell v todo)
-  starts cell None todo h = h
-  starts cell (Some e) todo h = h
+  -- a variable starts anew, where no array is built or destroyed
+  pub starts : (cell : ℕ) (v : Option Expr) (todo : List Todo) → IsFree todo → Ok todo → IsFree (quiet.starting cell v todo) × Ok (quiet.starting cell v todo)
+  starts cell None todo f h = (f, h)
+  starts cell (Some e) todo f h = (f, h)
 
   converts : (k : Shape) (todo : List Todo) → Ok todo → Ok (quiet.converting k todo)
   converts src.Character todo h = h
@@ -112,10 +113,10 @@ module _ (special : ℕ → Bool) (P : CleanUp → Type 0) (count : ℕ) where
       below : n < MOST_ELEMENTS → count < MOST_ELEMENTS
       below f = let k : count < n = ltb-true count n l in omega (arith, f, k)
 
-  raised : (r : Raised) (todo : List Todo) → Ok todo → Ok (raising.raised_todo r todo)
-  raised (src.Plainly n) todo h = h
-  raised (src.BuiltAt n c e) todo h = h
-  raised (src.AgainFrom c) todo h = h
+  raised : (r : Raised) (todo : List Todo) → IsFree todo → Ok todo → Ok (raising.raised_todo r todo)
+  raised (src.Plainly n) todo f h = h
+  raised (src.BuiltAt n c e) todo f h = (f, h)
+  raised (src.AgainFrom c) todo f h = h
 
   handled : (x : Handler) (todo : List Todo) → InnerStmts x.body → IsClear todo → Ok todo → Ok (raising.handler_todo x todo)
   handled x todo k l h = inl (k, l, h)
@@ -331,10 +332,10 @@ module _ (g : Setting) where
     swept (suc m) e todo h = record { run = (h.0, todos.recounted g.special Q s.run.elements m todo h.0 h.1); callers = callers; env = env }
 
     event_step : (a : EventStmt) (todo : List Todo) → InnerStmt NoArray (src.OfEvents a) → IsClear todo → H todo → PartsStep g (quiet.event_step a todo s)
-    event_step (src.Throw line r) todo n l h = go _ _ (raised g.special Q s.run.elements r _ h)
-    event_step (src.Raise line r) todo n l h = go _ _ (raised g.special Q s.run.elements r _ h)
+    event_step (src.Throw line r) todo n l h = go _ _ (raised g.special Q s.run.elements r _ (clear_free todo l) h)
+    event_step (src.Raise line r) todo n l h = go _ _ (raised g.special Q s.run.elements r _ (clear_free todo l) h)
     event_step (src.Try line body hs) todo n l h = go _ _ (inl (n.0, l, (n.1, l, h)))
-    event_step (src.RaiseAt line r a) todo n l h = go _ _ (raised g.special Q s.run.elements r _ h)
+    event_step (src.RaiseAt line r a) todo n l h = go _ _ (raised g.special Q s.run.elements r _ (clear_free todo l) h)
     event_step (src.Enable line events cell a) todo n l h = go _ _ (inl (inner_any (OpensRest (piece.Clean (src.Restores cell) ∷ (piece.Within line ∷ todo))) a n, l, ((tt, tt), clear_free todo l, h)))
     event_step (src.Disable line events cell a) todo n l h = go _ _ (inl (inner_any (OpensRest (piece.Clean (src.Restores cell) ∷ (piece.Within line ∷ todo))) a n, l, ((tt, tt), clear_free todo l, h)))
 
@@ -353,7 +354,7 @@ module _ (g : Setting) where
     inner_stmt (src.Block line body) todo n l h = go _ _ (inl (n, l, h))
     inner_stmt (src.Whole line body) todo n l h = go _ _ (inl (n, clear_free todo l, h))
     inner_stmt (src.Evaluate line a) todo n l h = go _ _ h
-    inner_stmt (src.Declare line ds) todo n l h = go _ _ h
+    inner_stmt (src.Declare line ds) todo n l h = go _ _ (clear_free todo l, h)
     inner_stmt (src.Print line items) todo n l h = go _ _ h
     inner_stmt (src.PrintTogether line items) todo n l h = go _ _ h
     inner_stmt (src.Read line ts) todo n l h = go _ _ h

@@ -142,6 +142,8 @@ module _ (special : ℕ → Bool) where
     recounted i k (piece.SetUpNow r ∷ todo) f h = (h.0, recounted i k todo f h.1)
     recounted i k (piece.SpawnNow r ∷ todo) f h = (h.0, recounted i k todo f h.1)
     recounted i k (piece.ChildNow r ∷ todo) f h = (h.0, recounted i k todo f h.1)
+    recounted i k (piece.ClearNow c n ∷ todo) f h = (h.0, recounted i k todo f h.1)
+    recounted i k (piece.Variables ds ∷ todo) f h = (h.0, recounted i k todo f h.1)
     recounted i k (p ∷ todo) f h = recounted i k todo f h
 
     -- so it is where the elements of the one array are counted
@@ -198,6 +200,8 @@ module _ (special : ℕ → Bool) where
       tail (piece.SetUpNow r) todo h = h.1
       tail (piece.SpawnNow r) todo h = h.1
       tail (piece.ChildNow r) todo h = h.1
+      tail (piece.ClearNow c n) todo h = h.1
+      tail (piece.Variables ds) todo h = h.1
       tail p todo h = h
 
       -- a routine begins

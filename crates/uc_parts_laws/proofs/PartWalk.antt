@@ -60,7 +60,7 @@ module _ (g : Setting) (known : PartsSource g.special g.source) where
     acts (piece.TextNow k) todo e o h = steps.prints g s st.callers st.env s.env.gathered _ todo _ h
     acts piece.GatherNow todo e o h = steps.go_in g s st.callers st.env _ _ _ h (steps.same g s st.callers st.env refl refl refl refl)
     acts piece.FlushNow todo e o h = steps.flushes g s st.callers st.env s.env.gathered todo _ h
-    acts (piece.ClearNow k m) todo e o h = steps.clears g s st.callers st.env k m todo h
+    acts (piece.ClearNow k m) todo e o h = steps.clears g s st.callers st.env k m todo h.1
     acts (piece.Items []) todo e o h = go _ _ h
     acts (piece.Items (i ∷ is)) todo e o h = go _ _ (steps.item g.special (Q g s st.callers st.env) s.run.elements i (piece.Items is ∷ todo) h)
     acts (piece.Values []) todo e o h = go _ _ h
@@ -69,8 +69,8 @@ module _ (g : Setting) (known : PartsSource g.special g.source) where
     acts (piece.Pieces (i ∷ is)) todo e o h = go _ _ (steps.item_piece g.special (Q g s st.callers st.env) s.run.elements i todo h)
     acts (piece.Targets []) todo e o h = go _ _ h
     acts (piece.Targets (x ∷ xs)) todo e o h = go _ _ h
-    acts (piece.Variables []) todo e o h = go _ _ h
-    acts (piece.Variables (d ∷ ds)) todo e o h = go _ _ (steps.starts g.special (Q g s st.callers st.env) s.run.elements d.cell d.value (piece.Variables ds ∷ todo) h)
+    acts (piece.Variables []) todo e o h = go _ _ h.1
+    acts (piece.Variables (d ∷ ds)) todo e o h = go _ _ (steps.starts g.special (Q g s st.callers st.env) s.run.elements d.cell d.value (piece.Variables ds ∷ todo) h.0 h)
     acts (piece.Do a) todo e o h = steps.stmt g s st.callers st.env a todo h
     acts (piece.Rest ss) todo e o h = steps.rest_of g s st.callers st.env ss todo h
     acts (piece.Exit w) todo e o h = steps.exits g s st.callers st.env st w todo h.0 h.1

@@ -4,6 +4,8 @@ pub mod PartsLaws
 pub mod Leaving
 pub mod PartsRuns
 pub mod FramesStay
+pub mod ClearedFrames
+pub mod Lodging
 pub mod Naming
 pub mod Undoing
 pub mod UndoingTodos

@@ -1,7 +1,7 @@
 -- What is left to find of steps that take marks away, where the first cell of a coroutine names its execution as that is made: so of those that are still
--- there at the end of a way no coroutine is forgotten, where in frames no such cell starts anew while it names one, and mutex objects in which coroutines lie
--- are in hand as these are forgotten.
-use Rattle.std.specs.Prelude.{◌≡◌, ℕ, Bool, false, List, ◌∷◌, Some}
+-- there at the end of a way no coroutine is forgotten, where no handler of a resumption has such a cell start anew while it names one, and mutex objects in
+-- which coroutines lie are in hand as these are forgotten.
+use Rattle.std.specs.Prelude.{◌≡◌, ℕ, ◌<◌, Bool, false, List, ◌∷◌, length, Some}
 use Rattle.uc_tree.specs.Programs.{Program}
 use Rattle.uc_tree.specs.Source.{Source, CleanUp, Forgets}
 use Rattle.uc_entry.specs.declared.entry.Entry.{Entry}
@@ -32,6 +32,8 @@ use Rattle.uc_rooted_runs.specs.MainRuns.{EndsMains}
 use Rattle.uc_rooted_runs.specs.Makers.{Makers, seating}
 use Rattle.uc_rooted_runs.specs.OutlastRuns.{with_homes, made_behind, run_made, now}
 use Rattle.uc_rooted_runs.specs.Still.{way_still}
+use Rattle.uc_parts_laws.specs.ClearedFrames.{IsLaid}
+use Rattle.uc_parts_laws.specs.PartStates.{PartsState}
 use Rattle.uc_parts_laws.specs.PartsRuns.{RideKeepsBeside, RunKeepsBeside}
 
 -- what else is known of states: what of operands lies where, that activations which use one frame stay behind one another, that nothing is left behind the
@@ -65,8 +67,10 @@ module _ (source : Source) (seats : Seating) (up : Exec → Bool) where
   NamesPast (piece.IsPart c) s = NamesBy c s
   NamesPast k s = Unit {0}
 
+  -- what is to hold of a step: cells that start anew are asked of where an activation that waits uses the newest frame, too, as that of a handler of a
+  -- resumption does
   abbrev pub NamesAt : List Todo → State → Type 0
-  NamesAt (piece.ClearNow k m ∷ todo) s = ClearsBehind source seats up s k
+  NamesAt (piece.ClearNow k m ∷ todo) s = s.run.frame < length s.callers → ClearsBehind source seats up s k
   NamesAt (piece.SetUpNow r ∷ todo) s = NamesFirst source s
   NamesAt (piece.Clean c ∷ todo) s = NamesBy c s
   NamesAt (piece.Sweep d ∷ todo) s = (x : Exec) → IsOwn source seats up s x → ReadsLast source seats up x d s
@@ -94,19 +98,24 @@ module _ (makers : Makers) (asked : Exec → Bool) where
     RunNamesOwn begun = Unit {0}
     RunNamesOwn (more r o m) = RunNamesOwn r × MayNameOwn (run_made source input opts r) m
 
+-- parts of objects are taken over, by the homes of mutex objects
+abbrev pub InParts : Setting → (ℕ → Value) → State → Type 0
+InParts g homes s = PartsState (record { source = g.source; special = g.special; home = homes }) s
+
 -- so it is in a run in which all that was asked so far fits, and on the way to what a task asks next, of those that are still there at the end of that way,
 -- where all that is known of each state
 pub record LawNaming : Type 0 where
   pub runs : (program : Program) (g : Setting) (makers : Makers) (homes : ℕ → Value) (input : List ℕ) (opts : Options) (j : Journal) (w : World)
       (r : Runs g.source input opts j w) (p u n : ℕ) (s : State) (q : Asked) (d : AsksIn g.source opts j w p u n s q) →
-      InRange opts → RunFits g.source input opts j w r →
+      InRange opts → RunFits g.source input opts j w r → IsLaid program g → RunMeets (InParts g homes) g.source input opts j w r →
       RunMeets (StandsAt program g) g.source input opts j w r → RunMeets (MakesLater g.source makers) g.source input opts j w r →
       RunSpawnsLater makers g.source input opts j w r →
       RunNamesOwn (with_homes homes makers) (way_still g.source input opts r d) g.source input opts r →
       RunKeepsBeside (with_homes homes makers) (way_still g.source input opts r d) g.source input opts r
   pub ride : (program : Program) (g : Setting) (makers : Makers) (homes : ℕ → Value) (input : List ℕ) (opts : Options) (j : Journal) (w : World)
       (r : Runs g.source input opts j w) (p u n : ℕ) (s : State) (q : Asked) (d : AsksIn g.source opts j w p u n s q) →
-      InRange opts → RunFits g.source input opts j w r → is_over j ≡ false →
+      InRange opts → RunFits g.source input opts j w r → is_over j ≡ false → IsLaid program g → RunMeets (InParts g homes) g.source input opts j w r →
+      RideMeets (InParts g homes) g.source (answered g.source d.given (drawn j w u)) (left opts j u) s n q d.rides →
       RideMeets (StandsAt program g) g.source (answered g.source d.given (drawn j w u)) (left opts j u) s n q d.rides →
       RunMeets (MakesLater g.source makers) g.source input opts j w r → RunSpawnsLater makers g.source input opts j w r →
       RideMeets (MakesLater g.source makers) g.source (answered g.source d.given (drawn j w u)) (left opts j u) s n q d.rides →

@@ -217,7 +217,7 @@ module _ (special : ℕ → Bool) (P : CleanUp → Type 0) where
 
   module _ (count : ℕ) where
     -- a to-do list is in order, while so many elements stand: no exit leaves parts and arrays, one array at most is built or destroyed, and behind that its
-    -- clean-up stands next; where one more is to stand there is one more to count
+    -- clean-up stands next; where one more is to stand there is one more to count; and where cells start anew none is being built or destroyed
     abbrev pub IsOrderly : List Todo → Type 0
     IsOrderly [] = Unit {0}
     IsOrderly (piece.Do a ∷ todo) = (InnerStmt (OpensRest todo) a × IsClear todo × IsOrderly todo) ⊎ HeadDo a todo
@@ -238,4 +238,6 @@ module _ (special : ℕ → Bool) (P : CleanUp → Type 0) where
     IsOrderly (piece.SetUpNow r ∷ todo) = (SetsUp todo × (special r ≡ false)) × IsOrderly todo
     IsOrderly (piece.SpawnNow r ∷ todo) = ((special r ≡ false) × P Ends × (todo ≡ [])) × IsOrderly todo
     IsOrderly (piece.ChildNow r ∷ todo) = (special r ≡ false) × IsOrderly todo
+    IsOrderly (piece.ClearNow k n ∷ todo) = IsFree todo × IsOrderly todo
+    IsOrderly (piece.Variables ds ∷ todo) = IsFree todo × IsOrderly todo
     IsOrderly (p ∷ todo) = IsOrderly todo

@@ -1,7 +1,9 @@
 // The laws: each is a function whose contract is the law.
 
+ghost use Rattle.uc_parts_laws.specs.ClearedFrames.{LawClearedFrames};
 ghost use Rattle.uc_parts_laws.specs.FramesStay.{LawFramesStay};
 ghost use Rattle.uc_parts_laws.specs.Leaving.{LawLeaving};
+ghost use Rattle.uc_parts_laws.specs.Lodging.{LawLodging};
 ghost use Rattle.uc_parts_laws.specs.Naming.{LawNaming};
 ghost use Rattle.uc_parts_laws.specs.PartsLaws.{LawParts, LawPartsSources};
 ghost use Rattle.uc_parts_laws.specs.PartsRuns.{LawKeptParts, LawPartsRuns};
@@ -59,4 +61,16 @@ pub fn law_naming()
 /// cleaned up by who waits.
 pub fn law_frames_stay()
     ensures { LawFramesStay }
+{}
+
+/// Where cells of the newest frame start anew, they lie behind the first cells of all coroutines there of which the
+/// executions are held; so it is in the frames of programs that break no rule.
+pub fn law_cleared_frames()
+    ensures { LawClearedFrames }
+{}
+
+/// A coroutine stands, as an object that has an execution, in what a destructor that comes to the end of it is called
+/// for.
+pub fn law_lodging()
+    ensures { LawLodging }
 {}

@@ -1,22 +1,23 @@
 -- Of any source in which arguments are counted and scopes open behind the statements that build their objects.
-use Rattle.std.proofs.Common.{◌≡◌, ℕ, inl, inr, List, [], ◌∷◌, drop, Option, Some, None, subst}
+use Rattle.std.proofs.Common.{◌≡◌, ℕ, ◌⊎◌, inl, inr, List, [], ◌∷◌, drop, Option, Some, None, subst}
 use Rattle.std.specs.Prelude.{slice_get}
 use Rattle.uc_tree.specs.Programs.{Program}
-use Rattle.uc_tree.specs.Source.{Source, Routine}
+use Rattle.uc_tree.specs.Source as src
+use Rattle.uc_tree.specs.Source.{Expr, Stmt, Source, Routine}
 use Rattle.uc_machine.specs.Quiet as quiet
 use Rattle.uc_machine.specs.Pieces as piece
 use Rattle.uc_machine.specs.Pieces.{Value, Todo, State, top}
 use Rattle.uc_state_laws.specs.Counted.{params, CountedRoutine, CountedSource}
-use Rattle.uc_place_laws.specs.Opened.{ArePaired, OpenedRoutine, OpenedSource}
-use Rattle.uc_place_laws.specs.Called.{variable, Mark, Any, At, Holds, rests, CalledAt, CalledBy, CodeRoutine, Ok, AtDrop, Stands}
+use Rattle.uc_place_laws.specs.Opened.{ArePaired, Builds, Before, Declares, OpenedRoutine, OpenedSource}
+use Rattle.uc_place_laws.specs.Called.{variable, Mark, Any, At, Holds, rests, CalledAt, CalledBy, Placed, after, CodeRoutine, Ok, AtRest, AtBuild, AtDrop, Stands, OnWay}
 use Rattle.uc_place_laws.specs.CalledStates.{RunsNow}
-use Rattle.uc_place_laws.specs.OpeningLaws.{Awaited, NoneAwaited, CallsAt, LawSteps, LawCalled}
+use Rattle.uc_place_laws.specs.OpeningLaws.{Awaited, NoneAwaited, CallsAt, AwaitedRest, TailAt, LawSteps, LawCalled}
 use Rattle.uc_place_laws.proofs.OpeningMarks.{holds_drop, opens_more, opens_any}
-use Rattle.uc_place_laws.proofs.OpeningWalk.{walk, first_called, led, joined, answered_called}
+use Rattle.uc_place_laws.proofs.OpeningWalk.{walk, first_called, led, joined, followed, answered_called}
 
 code_by : (g : Program) (x : Source) (r : Option Routine) → CountedRoutine x r → OpenedRoutine g r → CodeRoutine g x r
 code_by g x None n o = tt
-code_by g x (Some r) n o = (o.0, (n, o.1))
+code_by g x (Some r) n o = (o.0, (n, o.1), o.2)
 
 pub code : (g : Program) (x : Source) → CountedSource x → OpenedSource g x → (n : ℕ) → CodeRoutine g x (slice_get x.routines n)
 code g x known opened n = code_by g x (slice_get x.routines n) (known n) (opened n)
@@ -41,7 +42,73 @@ module _ (g : Program) (source : Source) where
   any_awaited P (piece.DropNow ∷ (piece.Within line ∷ (piece.Rest ss ∷ todo))) h = opens_any P ss h
   any_awaited P todo h = tt
 
+  -- behind what is to do first
+
+  any_rest : (P : ℕ → ℕ → Type 0) (todo : List Todo) → AwaitedRest (λ d k. ⊥) todo → AwaitedRest P todo
+  any_rest P (piece.Rest ss ∷ todo) h = opens_any P ss h
+  any_rest P todo h = tt
+
+  none_rest : (ms : List Mark) (todo : List Todo) → Ok g source ms todo → AwaitedRest (λ d k. ⊥) todo
+  none_rest ms (piece.Rest ss ∷ todo) h = h.0.0
+  none_rest ms todo h = tt
+
+  rest_by : (P : ℕ → ℕ → Type 0) (todo : List Todo) → AtRest g source P todo → AwaitedRest P todo
+  rest_by P (piece.Rest ss ∷ todo) h = h.0.0
+  rest_by P todo h = absurd h
+
+  build_by : (P Q : ℕ → ℕ → Type 0) (todo : List Todo) → AtBuild g source Q todo → AwaitedRest P todo
+  build_by P Q (piece.Rest ss ∷ todo) h = opens_any P ss h.0.0
+  build_by P Q todo h = absurd h
+
+  drop_by : (P : ℕ → ℕ → Type 0) (todo : List Todo) → AtDrop g source P todo → Awaited P todo
+  drop_by P (piece.DropNow ∷ (piece.Within line ∷ (piece.Rest ss ∷ todo))) h = h.0.0
+  drop_by P todo h = tt
+
+  done_tail : (a : Stmt) (todo : List Todo) → Ok g source [] todo ⊎ (AtRest g source (Before g a) todo ⊎ AtBuild g source (Declares g a) todo) → AwaitedRest (Before g a) todo
+  done_tail a todo (inl h) = any_rest (Before g a) todo (none_rest [] todo h)
+  done_tail a todo (inr (inl h)) = rest_by (Before g a) todo h
+  done_tail a todo (inr (inr h)) = build_by (Before g a) (Declares g a) todo h
+
+  placed_tail : (ms : List Mark) (e : Expr) (todo : List Todo) → Placed e (λ k. Ok g source (At k ∷ ms) todo) → Awaited (Builds g e) todo
+  placed_tail ms (src.Variable k) todo h = any_awaited (Builds g (src.Variable k)) todo (none_awaited (At k ∷ ms) todo h)
+  placed_tail ms e todo h = absurd h
+
+  eval_tail : (ms : List Mark) (e : Expr) (todo : List Todo) → Ok g source (Any ∷ ms) todo ⊎ (AtDrop g source (Builds g e) todo ⊎ Placed e (λ k. Ok g source (At k ∷ ms) todo)) → Awaited (Builds g e) todo
+  eval_tail ms e todo (inl h) = any_awaited (Builds g e) todo (none_awaited (Any ∷ ms) todo h)
+  eval_tail ms e todo (inr (inl h)) = drop_by (Builds g e) todo h
+  eval_tail ms e todo (inr (inr h)) = placed_tail ms e todo h
+
+  tail_at : (ms : List Mark) (l : List Todo) → Ok g source ms l → TailAt g l
+  tail_at ms [] h = tt
+  tail_at ms (piece.Do a ∷ todo) h = done_tail a todo h.1
+  tail_at ms (piece.Eval e ∷ todo) h = eval_tail ms e todo h.1
+  tail_at ms (piece.CallOnNow r ∷ todo) h = tt
+  tail_at ms (piece.CallUnwrittenNow r ∷ todo) h = tt
+  tail_at ms (piece.Within line ∷ todo) h = tt
+  tail_at ms (piece.Exit w ∷ todo) h = tt
+  tail_at ms (piece.Unwind ∷ todo) h = tt
+  tail_at ms (x ∷ todo) h = (none_awaited (after source x ms) todo h.1, none_rest (after source x ms) todo h.1)
+
+  stands_tail : (l : List Todo) → Stands g source l → TailAt g l
+  stands_tail (piece.Rest ss ∷ todo) h = (none_awaited [] todo h.1, none_rest [] todo h.1)
+  stands_tail (piece.Within line ∷ todo) h = tt
+  stands_tail (piece.DropNow ∷ (piece.Within line ∷ todo)) h = (tt, tt)
+  stands_tail l h = absurd h
+
+  way_tail : (l : List Todo) → OnWay g source l → TailAt g l
+  way_tail (piece.Variables (x ∷ []) ∷ (piece.Within line ∷ todo)) h = (tt, tt)
+  way_tail (piece.ClearNow k m ∷ (piece.Variables [] ∷ (piece.Within line ∷ todo))) h = (tt, tt)
+  way_tail (piece.Variables [] ∷ (piece.Within line ∷ todo)) h = (tt, tt)
+  way_tail (piece.Within line ∷ todo) h = tt
+  way_tail (piece.Rest ss ∷ todo) h = (none_awaited [] todo h.1, none_rest [] todo h.1)
+  way_tail l h = absurd h
+
   module _ (s : State) where
+    pub tails : RunsNow g source s.env.exec s.run → TailAt g s.run.control
+    tails (inl f) = tail_at f.marks s.run.control f.ok
+    tails (inr (inl f)) = stands_tail s.run.control f
+    tails (inr (inr f)) = way_tail s.run.control f
+
     -- the routine r is called at this
     abbrev pub AtVariable : ℕ → Value → ℕ → ℕ → Type 0
     AtVariable r v d k = ArePaired g r d × (v ≡ variable s.env.exec s.run.frame k)
@@ -78,12 +145,22 @@ module _ (g : Program) (source : Source) where
     stands (piece.DropNow ∷ todo) h = tt
     stands l h = absurd h
 
+    ways : (l : List Todo) → OnWay g source l → CallsAt g source l s
+    ways (piece.CallNow r ∷ todo) h = absurd h
+    ways (piece.RaiseNow ∷ todo) h = absurd h
+    ways (piece.CallOnNow r ∷ todo) h = absurd h
+    ways (piece.CallUnwrittenNow r ∷ todo) h = absurd h
+    ways l h = tt
+
     pub is_calling : RunsNow g source s.env.exec s.run → CallsAt g source s.run.control s
     is_calling (inl f) = calls f.marks f.holds s.run.control f.ok
-    is_calling (inr f) = stands s.run.control f
+    is_calling (inr (inl f)) = stands s.run.control f
+    is_calling (inr (inr f)) = ways s.run.control f
 
 pub law_called : LawCalled
 law_called g source known opened s h = record {
   calls = is_calling g source s h.run;
+  tails = tails g source s h.run;
   joins = joined g source s (quiet.quiet source s) (walk g source (code g source known opened) s h);
+  follows = followed g source s (quiet.quiet source s) (walk g source (code g source known opened) s h);
 }

@@ -9,8 +9,8 @@ use Rattle.uc_machine.specs.Pieces as piece
 use Rattle.uc_machine.specs.Pieces.{Value, Todo, Active, below}
 use Rattle.uc_place_laws.specs.OlderResting.{AllWait}
 use Rattle.uc_state_laws.specs.Counted.{params}
-use Rattle.uc_place_laws.specs.Opened.{OfPlain, OpensOf, OpensNone, Builds, Before}
-use Rattle.uc_place_laws.specs.Called.{Mark, Any, At, Holds, rest, rests, anys, Placed, Every, CalledBy, after, Ok, AtRest, AtDrop, Left}
+use Rattle.uc_place_laws.specs.Opened.{OfPlain, OpensOf, OpensNone, BuildsOf, BuildsNone, Declares, Builds, Before}
+use Rattle.uc_place_laws.specs.Called.{Mark, Any, At, Holds, rest, rests, anys, Placed, Every, CalledBy, after, Ok, AtRest, AtBuild, AtDrop, Left}
 use Rattle.uc_place_laws.specs.CalledStates.{Runs, Waits}
 
 -- operands
@@ -59,13 +59,34 @@ module _ (P Q : ℕ → ℕ → Type 0) (f : (d k : ℕ) → P d k → Q d k) wh
   opens_more (src.Scoped c ss) h = plain_more c h
   opens_more ss h = tt
 
+  pub builds_more : (ss : Stmts) → BuildsOf P ss → BuildsOf Q ss
+  builds_more (src.Then a ss) h = opens_more ss h
+  builds_more ss h = tt
+
 -- none opens next, so whatever opens next is so
 pub opens_any : (P : ℕ → ℕ → Type 0) (ss : Stmts) → OpensNone ss → OpensOf P ss
 opens_any P ss h = opens_more (λ d k. ⊥) P (λ d k x. absurd x) ss h
 
+pub builds_any : (P : ℕ → ℕ → Type 0) (ss : Stmts) → BuildsNone ss → BuildsOf P ss
+builds_any P ss h = builds_more (λ d k. ⊥) P (λ d k x. absurd x) ss h
+
+-- none is built next, or one is of which that holds
+plain_or : (P : ℕ → ℕ → Type 0) (c : CleanUp) → OfPlain P c → OfPlain (λ d k. ⊥) c ⊎ ((d : ℕ) × (k : ℕ) × P d k)
+plain_or P (src.Destroys (src.OfObject (src.CallOn d (src.Variable k) args))) h = inr (d, k, h)
+plain_or P (src.Destroys (src.OfObject (src.CallUnwritten d (src.Variable k)))) h = inr (d, k, h)
+plain_or P c h = inl tt
+
+opens_or : (P : ℕ → ℕ → Type 0) (ss : Stmts) → OpensOf P ss → OpensNone ss ⊎ ((d : ℕ) × (k : ℕ) × P d k)
+opens_or P (src.Scoped c ss) h = plain_or P c h
+opens_or P ss h = inl tt
+
+pub builds_or : (P : ℕ → ℕ → Type 0) (ss : Stmts) → BuildsOf P ss → BuildsNone ss ⊎ ((d : ℕ) × (k : ℕ) × P d k)
+builds_or P (src.Then a ss) h = opens_or P ss h
+builds_or P ss h = inl tt
+
 module _ (p : Program) (source : Source) where
   pub rest_more : (P Q : ℕ → ℕ → Type 0) → ((d k : ℕ) → P d k → Q d k) → (todo : List Todo) → AtRest p source P todo → AtRest p source Q todo
-  rest_more P Q f (piece.Rest ss ∷ todo) h = ((opens_more P Q f ss h.0.0, h.0.1), h.1)
+  rest_more P Q f (piece.Rest ss ∷ todo) h = ((opens_more P Q f ss h.0.0, h.0.1, h.0.2), h.1)
   rest_more P Q f todo h = absurd h
 
   pub drop_more : (P Q : ℕ → ℕ → Type 0) → ((d k : ℕ) → P d k → Q d k) → (todo : List Todo) → AtDrop p source P todo → AtDrop p source Q todo
@@ -76,6 +97,14 @@ module _ (p : Program) (source : Source) where
   pub rest_none : (todo : List Todo) → AtRest p source (λ d k. ⊥) todo → Ok p source [] todo
   rest_none (piece.Rest ss ∷ todo) h = h
   rest_none todo h = absurd h
+
+  pub build_more : (P Q : ℕ → ℕ → Type 0) → ((d k : ℕ) → P d k → Q d k) → (todo : List Todo) → AtBuild p source P todo → AtBuild p source Q todo
+  build_more P Q f (piece.Rest ss ∷ todo) h = ((h.0.0, h.0.1, builds_more P Q f ss h.0.2), h.1)
+  build_more P Q f todo h = absurd h
+
+  pub build_none : (todo : List Todo) → AtBuild p source (λ d k. ⊥) todo → Ok p source [] todo
+  build_none (piece.Rest ss ∷ todo) h = h
+  build_none todo h = absurd h
 
   pub drop_none : (ms : List Mark) (todo : List Todo) → AtDrop p source (λ d k. ⊥) todo → Ok p source ms todo
   drop_none ms (piece.DropNow ∷ (piece.Within line ∷ todo)) h = (tt, (tt, rest_none todo h))
@@ -104,7 +133,7 @@ module _ (p : Program) (source : Source) where
     left ms (piece.CallUnwrittenNow r ∷ todo) h =
         either_call (Ok p source (Any ∷ rests (suc (params source r)) ms) todo) (AtDrop p source (CalledBy p r (rests (params source r) ms)) todo) (Left p source todo) (λ x. left (Any ∷ rests (suc (params source r)) ms) todo x) (λ x. left_drop todo (drop_more (CalledBy p r (rests (params source r) ms)) Every (λ d k y. tt) todo x)) h
     left ms (piece.Do a ∷ todo) h =
-        either_call (Ok p source [] todo) (AtRest p source (Before p a) todo) (Left p source todo) (λ x. left [] todo x) (λ x. left_rest todo (rest_more (Before p a) Every (λ d k y. tt) todo x)) h.1
+        either_call (Ok p source [] todo) (AtRest p source (Before p a) todo ⊎ AtBuild p source (Declares p a) todo) (Left p source todo) (λ x. left [] todo x) (λ z. either_call (AtRest p source (Before p a) todo) (AtBuild p source (Declares p a) todo) (Left p source todo) (λ x. left_rest todo (rest_more (Before p a) Every (λ d k y. tt) todo x)) (λ x. left_build todo (build_more (Declares p a) Every (λ d k y. tt) todo x)) z) h.1
     left ms (piece.Exit w ∷ todo) h = h
     left ms (piece.Unwind ∷ todo) h = h
     left ms (piece.InLoop o t e b ∷ todo) h = h
@@ -121,6 +150,10 @@ module _ (p : Program) (source : Source) where
     left_rest : (todo : List Todo) → AtRest p source Every todo → Left p source todo
     left_rest (piece.Rest ss ∷ todo) h = left [] todo h.1
     left_rest todo h = absurd h
+
+    left_build : (todo : List Todo) → AtBuild p source Every todo → Left p source todo
+    left_build (piece.Rest ss ∷ todo) h = left [] todo h.1
+    left_build todo h = absurd h
 
     left_drop : (todo : List Todo) → AtDrop p source Every todo → Left p source todo
     left_drop (piece.DropNow ∷ (piece.Within line ∷ todo)) h = left_rest todo h

@@ -5,7 +5,7 @@ use Rattle.std.specs.Prelude.{nat_eq, nat_lt, slice_set}
 use Rattle.uc_tree.specs.declared.limits.TheConstants.{CALLS, PENDING_EVENTS}
 use Rattle.uc_tree.specs.Programs.{Program}
 use Rattle.uc_tree.specs.Source as src
-use Rattle.uc_tree.specs.Source.{Shape, Expr, ObjectExpr, Stmt, Stmts, EventStmt, TaskStmt, Routine, Purpose, Order, Way, CleanUp, Handlers, Clauses, Raised, Item, Source}
+use Rattle.uc_tree.specs.Source.{Shape, Declared, Expr, ObjectExpr, Stmt, Stmts, EventStmt, TaskStmt, Routine, Purpose, Order, Way, CleanUp, Handlers, Clauses, Raised, Item, Source}
 use Rattle.uc_entry.specs.declared.fault.RunFault.{RunFault}
 use Rattle.uc_entry.specs.declared.fault.RunFault.TheVariants.{Index, Depth, BlockedInside, TooManyPending, NotLive, Unhandled}
 use Rattle.uc_entry.specs.declared.request.Piece.{Piece}
@@ -26,15 +26,15 @@ use Rattle.uc_machine.specs.Polls as polls
 use Rattle.uc_machine.specs.Quiet as quiet
 use Rattle.uc_machine.specs.Pieces as piece
 use Rattle.uc_machine.specs.Pieces.{Value, Number, Place, Running, Object, Nothing, Todo, Sort, Active, State, Env, Members, Step, Goes, Ticks, Asks, Outcome, Gives, Faults, at, in_env, goes, fault, asks, turns, top, below, number, written}
-use Rattle.uc_state_laws.specs.Counted.{params_at, params, count, CountedExpr, CountedObject, CountedMaybe, CountedItem, CountedClean, CountedRaised, CountedAt}
+use Rattle.uc_state_laws.specs.Counted.{params_at, params, count, CountedExpr, CountedObject, CountedMaybe, CountedDeclared, CountedItem, CountedClean, CountedRaised, CountedAt}
 use Rattle.uc_place_laws.specs.OlderResting.{AllWait, NamedEnv, NamedState}
 use Rattle.uc_place_laws.proofs.AsideKeeping as kept
 use Rattle.uc_place_laws.proofs.AsideKeeping.{either, tested}
-use Rattle.uc_place_laws.specs.Opened.{Builds, Before}
-use Rattle.uc_place_laws.specs.Called.{Mark, Any, At, Holds, rest, rests, anys, Placed, Every, CalledAt, CalledBy, CodeStmt, CodeStmts, CodeBlock, CodeHandlers, CodeClauses, CodeRoutine, LeftBy, Ok, AtRest, AtDrop, Left, Stands}
-use Rattle.uc_place_laws.specs.CalledStates.{Runs, Waits, CalledAsk, Ends, Joins}
+use Rattle.uc_place_laws.specs.Opened.{BuildsNone, Spans, Declares, Builds, Before}
+use Rattle.uc_place_laws.specs.Called.{Mark, Any, At, Holds, rest, rests, anys, Placed, Every, CalledAt, CalledBy, CodeStmt, CodeStmts, CodeBlock, CodeHandlers, CodeClauses, CodeRoutine, LeftBy, Ok, AtRest, AtBuild, AtDrop, Left, Stands, OnWay}
+use Rattle.uc_place_laws.specs.CalledStates.{Runs, Waits, CalledAsk, Ends, Joins, Follows}
 use Rattle.uc_place_laws.proofs.OpeningMarks as marks
-use Rattle.uc_place_laws.proofs.OpeningMarks.{holds_below, holds_drop, holds_anys, rests_anys, drop_set}
+use Rattle.uc_place_laws.proofs.OpeningMarks.{holds_below, holds_drop, holds_anys, rests_anys, drop_set, builds_more, builds_or}
 
 module _ (g : Program) (source : Source) where
   abbrev E : Env → Type 0
@@ -65,10 +65,17 @@ module _ (g : Program) (source : Source) where
     pub env : E u.env
     pub joins : Joins s u.run.control
 
+  -- an object is to be built next, behind its declaration
+  pub record Ways (s u : State) : Type 0 where
+    pub way : OnWay g source u.run.control
+    pub callers : W u.env.exec u.callers
+    pub env : E u.env
+    pub follows : Follows g s u.run.control
+
   -- what a step of a state leads to
   abbrev pub T : State → Step → Type 0
-  T s (Goes u) = N u ⊎ Comes s u
-  T s (Ticks u) = N u ⊎ Comes s u
+  T s (Goes u) = N u ⊎ (Comes s u ⊎ Ways s u)
+  T s (Ticks u) = N u ⊎ (Comes s u ⊎ Ways s u)
   T s (Asks r u) = CalledAsk g source r u
 
   -- what is to do in a routine
@@ -100,7 +107,7 @@ module _ (g : Program) (source : Source) where
   handler_for : (kind : Bool) (e : raising.Event) (hs : Handlers) → CodeHandlers g source hs → OfHandler (raising.handler_for kind e hs)
   handler_for kind e src.NoHandlers h = tt
   handler_for kind e (src.MoreHandlers resumes event cell line body others) h =
-      either OfHandler (raising.same_kind kind resumes && raising.takes event e) (Some (record { cell = cell; line = line; body = body })) (raising.handler_for kind e others) (h.1.0.0, (h.0.0, h.1.0.1)) (handler_for kind e others (h.0.1, h.1.1))
+      either OfHandler (raising.same_kind kind resumes && raising.takes event e) (Some (record { cell = cell; line = line; body = body })) (raising.handler_for kind e others) (h.1.0.0, (h.0.0, h.1.0.1), h.1.0.2) (handler_for kind e others (h.0.1, h.1.1))
 
   hit_or : (x : Option Handler) (n : ℕ) (other : Option Hit) → OfHandler x → OfHit other → OfHit (raising.hit_or x n other)
   hit_or None n other h k = k
@@ -315,7 +322,7 @@ module _ (g : Program) (source : Source) where
     pub returned : (given : Value) (cs : List Active) → W s.env.exec cs → Ends s s.run.control → T s (piece.return_step given cs s)
     returned given [] c e = record { run = tt; callers = callers; env = env }
     returned given (a ∷ cs) (inl f, c) e = inl (record { run = record { marks = Any ∷ f.marks; holds = (tt, f.holds); ok = f.ok }; callers = c; env = likes env refl refl refl })
-    returned given (a ∷ cs) (inr f, c) e = inr (record { stands = stands a.control f; callers = c; env = likes env refl refl refl; joins = joins a.control f e })
+    returned given (a ∷ cs) (inr f, c) e = inr (inl (record { stands = stands a.control f; callers = c; env = likes env refl refl refl; joins = joins a.control f e }))
 
     past : (v : Visited) (given : Value) (cs : List Active) → W s.env.exec cs → T s (raising.return_past v given cs s)
     past v given [] c = record { run = tt; callers = callers; env = env }
@@ -344,7 +351,7 @@ module _ (g : Program) (source : Source) where
     event_step : (a : EventStmt) (todo : List Todo) → CodeStmt g source (src.OfEvents a) → Ok g source [] todo → T s (quiet.event_step a todo s)
     event_step (src.Throw line r) todo n h = anew _ _ (raised r _ n.0 (tt, (tt, h)))
     event_step (src.Raise line r) todo n h = anew _ _ (raised r _ n.0 (tt, (tt, h)))
-    event_step (src.Try line body hs) todo n h = anew _ _ ((n.1.0.0, (n.0.0, n.1.0.1)), ((n.0.1, n.1.1), (tt, h)))
+    event_step (src.Try line body hs) todo n h = anew _ _ ((n.1.0.0, (n.0.0, n.1.0.1), n.1.0.2), ((n.0.1, n.1.1), (tt, h)))
     event_step (src.RaiseAt line r a) todo n h = anew _ _ (raised r _ (counted_at r n.0.0) (n.0.1, inl (tt, (tt, h))))
     event_step (src.Enable line events cell a) todo n h = anew _ _ (tt, (tt, (n, inl (tt, (tt, h)))))
     event_step (src.Disable line events cell a) todo n h = anew _ _ (tt, (n, inl (tt, (tt, h))))
@@ -360,21 +367,44 @@ module _ (g : Program) (source : Source) where
     task_step (src.Accept line site cs) todo n h = anew _ _ (n, (tt, (n, (tt, h))))
 
     -- the value of an expression that is evaluated by itself is dropped
-    evaluates : (line : ℕ) (a : Expr) (todo : List Todo) → CountedExpr source a → Ok g source [] todo ⊎ AtRest g source (Builds g a) todo → Ok g source [] (piece.Eval a ∷ (piece.DropNow ∷ (piece.Within line ∷ todo)))
+    evaluates : (line : ℕ) (a : Expr) (todo : List Todo) → CountedExpr source a → Ok g source [] todo ⊎ (AtRest g source (Builds g a) todo ⊎ AtBuild g source (λ d k. ⊥) todo) → Ok g source [] (piece.Eval a ∷ (piece.DropNow ∷ (piece.Within line ∷ todo)))
     evaluates line a todo n (inl h) = (n, inl (tt, (tt, h)))
-    evaluates line a todo n (inr h) = (n, inr (inl h))
+    evaluates line a todo n (inr (inl h)) = (n, inr (inl h))
+    evaluates line a todo n (inr (inr h)) = (n, inl (tt, (tt, marks.build_none g source todo h)))
 
     -- behind a statement that builds no such object
-    plainly : (todo : List Todo) → Ok g source [] todo ⊎ AtRest g source (λ d k. ⊥) todo → Ok g source [] todo
+    plainly : (todo : List Todo) → Ok g source [] todo ⊎ (AtRest g source (λ d k. ⊥) todo ⊎ AtBuild g source (λ d k. ⊥) todo) → Ok g source [] todo
     plainly todo (inl h) = h
-    plainly todo (inr h) = marks.rest_none g source todo h
+    plainly todo (inr (inl h)) = marks.rest_none g source todo h
+    plainly todo (inr (inr h)) = marks.build_none g source todo h
 
-    pub stmt : (a : Stmt) (todo : List Todo) → CodeStmt g source a → Ok g source [] todo ⊎ AtRest g source (Before g a) todo → T s (quiet.stmt_step a todo s)
+    -- a variable is declared at which an object is built next, or another
+    declared : (line : ℕ) (x : Declared) (todo : List Todo) → CountedDeclared source (x ∷ []) → AtBuild g source (Declares g (src.Declare line (x ∷ []))) todo → T s (Goes (at (piece.Variables (x ∷ []) ∷ (piece.Within line ∷ todo)) s.run.operands s))
+    declared line x (piece.Rest ss ∷ todo) n h = by (builds_or (Declares g (src.Declare line (x ∷ []))) ss h.0.2)
+      where
+        by : BuildsNone ss ⊎ ((d : ℕ) × (k : ℕ) × Declares g (src.Declare line (x ∷ [])) d k) → T s (Goes (at (piece.Variables (x ∷ []) ∷ (piece.Within line ∷ (piece.Rest ss ∷ todo))) s.run.operands s))
+        by (inl none) = anew _ _ (n, (tt, ((h.0.0, h.0.1, none), h.1)))
+        by (inr z) = inr (inr (record {
+          way = (z.2.1, ((h.0.0, h.0.1, builds_more (Declares g (src.Declare line (x ∷ []))) (λ d k. (x.cell ≡ k) × Spans g d x.cells) (λ d k y. (y.0, y.2)) ss h.0.2), h.1));
+          callers = callers;
+          env = env;
+          follows = tt;
+        }))
+    declared line x todo n h = absurd h
+
+    declares : (line : ℕ) (ds : List Declared) (todo : List Todo) → CountedDeclared source ds → Ok g source [] todo ⊎ (AtRest g source (λ d k. ⊥) todo ⊎ AtBuild g source (Declares g (src.Declare line ds)) todo) → T s (quiet.stmt_step (src.Declare line ds) todo s)
+    declares line ds todo n (inl h) = anew _ _ (n, (tt, h))
+    declares line ds todo n (inr (inl h)) = anew _ _ (n, (tt, marks.rest_none g source todo h))
+    declares line [] todo n (inr (inr h)) = anew _ _ (n, (tt, marks.build_none g source todo h))
+    declares line (x ∷ []) todo n (inr (inr h)) = declared line x todo n h
+    declares line (x ∷ (y ∷ ds)) todo n (inr (inr h)) = anew _ _ (n, (tt, marks.build_none g source todo h))
+
+    pub stmt : (a : Stmt) (todo : List Todo) → CodeStmt g source a → Ok g source [] todo ⊎ (AtRest g source (Before g a) todo ⊎ AtBuild g source (Declares g a) todo) → T s (quiet.stmt_step a todo s)
     stmt (src.Skip line) todo n h = anew _ _ (plainly todo h)
-    stmt (src.Block line body) todo n h = anew _ _ ((n.1.0, (n.0, n.1.1)), (tt, plainly todo h))
-    stmt (src.Whole line body) todo n h = anew _ _ ((n.1.0, (n.0, n.1.1)), (tt, (tt, plainly todo h)))
+    stmt (src.Block line body) todo n h = anew _ _ ((n.1.0, (n.0, n.1.1), n.1.2), (tt, plainly todo h))
+    stmt (src.Whole line body) todo n h = anew _ _ ((n.1.0, (n.0, n.1.1), n.1.2), (tt, (tt, plainly todo h)))
     stmt (src.Evaluate line a) todo n h = anew _ _ (evaluates line a todo n.0 h)
-    stmt (src.Declare line ds) todo n h = anew _ _ (n.0, (tt, plainly todo h))
+    stmt (src.Declare line ds) todo n h = declares line ds todo n.0 h
     stmt (src.Print line items) todo n h = anew _ _ (n.0, (tt, plainly todo h))
     stmt (src.PrintTogether line items) todo n h = anew _ _ (n.0, (tt, (n.0, (tt, (tt, plainly todo h)))))
     stmt (src.Read line ts) todo n h = anew _ _ (n.0, (tt, plainly todo h))
@@ -391,13 +421,14 @@ module _ (g : Program) (source : Source) where
 
     -- where the scope of an object opens next, that is built
     behind_stmt : (a : Stmt) (ss : Stmts) (todo : List Todo) → CodeStmts g source (src.Then a ss) → Ok g source [] todo → Ok g source [] (piece.Do a ∷ (piece.Rest ss ∷ todo))
-    behind_stmt a ss todo n h = ((n.0.0, n.1.0), inr ((n.1.1, (n.0.1, n.1.2)), h))
+    behind_stmt a (src.Then b ss) todo n h = ((n.0.0, n.1.0), inr (inr ((tt, (n.0.1, n.1.2), n.1.3), h)))
+    behind_stmt a ss todo n h = ((n.0.0, n.1.0), inr (inl ((n.1.1, (n.0.1, n.1.2), tt), h)))
 
     pub rest_of : (ss : Stmts) (todo : List Todo) → CodeStmts g source ss → Ok g source [] todo → T s (quiet.rest_step ss todo s)
     rest_of src.Nil todo n h = anew _ _ h
     rest_of (src.Then a ss) todo n h = anew _ _ (behind_stmt a ss todo n h)
-    rest_of (src.Scoped c ss) todo n h = anew _ _ ((n.1.0, (n.0.1, n.1.1)), (n.0.0, h))
-    rest_of (src.Built c ss) todo n h = anew _ _ ((n.1.0, (n.0.1, n.1.1)), (n.0.0, h))
+    rest_of (src.Scoped c ss) todo n h = anew _ _ ((n.1.0, (n.0.1, n.1.1), n.1.2), (n.0.0, h))
+    rest_of (src.Built c ss) todo n h = anew _ _ ((n.1.0, (n.0.1, n.1.1), n.1.2), (n.0.0, h))
 
     pub land : (o : Option UnwindReason) (ms : List Mark) (todo : List Todo) → H ms s.run.operands → Ok g source ms todo → T s (quiet.land_step o todo s)
     land None ms todo k h = go ms _ _ k h

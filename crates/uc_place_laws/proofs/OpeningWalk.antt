@@ -24,9 +24,10 @@ use Rattle.uc_state_laws.specs.Counted.{CountedExpr}
 use Rattle.uc_place_laws.specs.OlderResting.{AllWait, NamedParked, NamedHand, NamedEnv}
 use Rattle.uc_place_laws.proofs.AsideKeeping as kept
 use Rattle.uc_place_laws.proofs.AsideKeeping.{either}
-use Rattle.uc_place_laws.specs.Called.{Mark, Any, Holds, rest, CodeStmt, CodeRoutine, Ok, Stands}
-use Rattle.uc_place_laws.specs.CalledStates.{Ends, Finds, Runs, Waits, RunsNow, CalledMembers, CalledState, FindsFor, FindsBehind, CalledStep, Joins, AskJoins, StepJoins}
-use Rattle.uc_place_laws.proofs.OpeningMarks.{holds_below}
+use Rattle.uc_place_laws.specs.Opened.{Spans}
+use Rattle.uc_place_laws.specs.Called.{Mark, Any, Holds, rest, Every, CodeStmt, CodeRoutine, Ok, AtBuild, Stands, OnWay}
+use Rattle.uc_place_laws.specs.CalledStates.{Ends, Finds, Runs, Waits, RunsNow, CalledMembers, CalledState, FindsFor, FindsBehind, CalledStep, Joins, AskJoins, StepJoins, Follows, AskFollows, StepFollows}
+use Rattle.uc_place_laws.proofs.OpeningMarks.{holds_below, builds_more}
 use Rattle.uc_place_laws.proofs.OpeningSteps as steps
 
 module _ (g : Program) (source : Source) (known : (n : ℕ) → CodeRoutine g source (slice_get source.routines n)) where
@@ -155,9 +156,39 @@ module _ (g : Program) (source : Source) (known : (n : ℕ) → CodeRoutine g so
   -- such a scope opens next
   stands : (s : State) → AllWait (Runs g source) (Waits g source) s.env.exec s.callers → NamedEnv (Runs g source) (Waits g source) s.env → (l : List Todo) → s.run.control ≡ l → Stands g source l → steps.T g source s (quiet.act_todo source l s)
   stands s callers env (piece.Rest ss ∷ todo) e h = steps.rest_of g source s callers env ss todo h.0.1 h.1
-  stands s callers env (piece.Within line ∷ (piece.Rest ss ∷ todo)) e h = inr (record { stands = h; callers = callers; env = env; joins = inr (line, e) })
-  stands s callers env (piece.DropNow ∷ (piece.Within line ∷ (piece.Rest ss ∷ todo))) e h = inr (record { stands = h; callers = callers; env = env; joins = inr e })
+  stands s callers env (piece.Within line ∷ (piece.Rest ss ∷ todo)) e h = inr (inl (record { stands = h; callers = callers; env = env; joins = inr (line, e) }))
+  stands s callers env (piece.DropNow ∷ (piece.Within line ∷ (piece.Rest ss ∷ todo))) e h = inr (inl (record { stands = h; callers = callers; env = env; joins = inr e }))
   stands s callers env l e h = absurd h
+
+  -- such an object is to be built next
+  module _ (s : State) (callers : AllWait (Runs g source) (Waits g source) s.env.exec s.callers) (env : NamedEnv (Runs g source) (Waits g source) s.env) where
+    cleared : (k m line : ℕ) (todo : List Todo) → s.run.control ≡ piece.ClearNow k m ∷ (piece.Variables [] ∷ (piece.Within line ∷ todo)) → AtBuild g source (λ d i. (k ≡ i) × Spans g d m) todo → steps.T g source s (quiet.act source (piece.ClearNow k m) (piece.Variables [] ∷ (piece.Within line ∷ todo)) s)
+    cleared k m line (piece.Rest ss ∷ todo) e h =
+        let kept_so = kept.owned_keeps (Runs g source) (Waits g source) (steps.calm g source) (piece.this_frame s) (values_cleared k m piece.nought) s.env env in
+        inr (inr (record {
+          way = ((h.0.0, h.0.1, builds_more (λ d i. (k ≡ i) × Spans g d m) Every (λ d i z. tt) ss h.0.2), h.1);
+          callers = subst (λ n. AllWait (Runs g source) (Waits g source) n s.callers) (sym kept_so.exec) callers;
+          env = kept_so.env;
+          follows = inr (k, m, e, h.0.2);
+        }))
+    cleared k m line todo e h = absurd h
+
+    passed : (line : ℕ) (todo : List Todo) → s.run.control ≡ piece.Variables [] ∷ (piece.Within line ∷ todo) → AtBuild g source Every todo → steps.T g source s (Goes (at (piece.Within line ∷ todo) s.run.operands s))
+    passed line (piece.Rest ss ∷ todo) e h = inr (inr (record { way = h; callers = callers; env = env; follows = inr e }))
+    passed line todo e h = absurd h
+
+    reached : (line : ℕ) (todo : List Todo) → s.run.control ≡ piece.Within line ∷ todo → AtBuild g source Every todo → steps.T g source s (Goes (at todo s.run.operands s))
+    reached line (piece.Rest ss ∷ todo) e h = inr (inr (record { way = h; callers = callers; env = env; follows = inr (line, e) }))
+    reached line todo e h = absurd h
+
+    ways : (l : List Todo) → s.run.control ≡ l → OnWay g source l → steps.T g source s (quiet.act_todo source l s)
+    ways (piece.Variables (x ∷ []) ∷ (piece.Within line ∷ todo)) e h =
+        subst (λ v. steps.T g source s (Goes (at (piece.ClearNow x.cell x.cells ∷ quiet.starting x.cell v (piece.Variables [] ∷ (piece.Within line ∷ todo))) s.run.operands s))) (sym h.0) (inr (inr (record { way = h.1; callers = callers; env = env; follows = tt })))
+    ways (piece.ClearNow k m ∷ (piece.Variables [] ∷ (piece.Within line ∷ todo))) e h = cleared k m line todo e h
+    ways (piece.Variables [] ∷ (piece.Within line ∷ todo)) e h = passed line todo e h
+    ways (piece.Within line ∷ todo) e h = reached line todo e h
+    ways (piece.Rest ss ∷ todo) e h = steps.rest_of g source s callers env ss todo h.0.1 h.1
+    ways l e h = absurd h
 
   pub walk : (s : State) → CalledState g source s → steps.T g source s (quiet.quiet source s)
   walk s h = from h.run
@@ -168,10 +199,11 @@ module _ (g : Program) (source : Source) (known : (n : ℕ) → CodeRoutine g so
 
       from : RunsNow g source s.env.exec s.run → steps.T g source s (quiet.quiet source s)
       from (inl f) = by f s.run.control refl
-      from (inr f) = stands s h.callers h.env s.run.control refl f
+      from (inr (inl f)) = stands s h.callers h.env s.run.control refl f
+      from (inr (inr f)) = ways s h.callers h.env s.run.control refl f
 
   begins : (o : ℕ) (r : Option Routine) → CodeRoutine g source r → CalledState g source (first_state (routine_or_none r) o)
-  begins o None h = record { run = inl (record { marks = []; holds = tt; ok = ((tt, (tt, tt)), (tt, tt)) }); callers = tt; env = record { house = (tt, tt); hand = tt } }
+  begins o None h = record { run = inl (record { marks = []; holds = tt; ok = ((tt, (tt, tt), tt), (tt, tt)) }); callers = tt; env = record { house = (tt, tt); hand = tt } }
   begins o (Some r) h = record { run = inl (record { marks = []; holds = tt; ok = steps.routine g source r h }); callers = tt; env = record { house = (tt, tt); hand = tt } }
 
   -- a task begins so
@@ -188,6 +220,39 @@ module _ (g : Program) (source : Source) where
   no_scope s ms (piece.DropNow ∷ (piece.Within line ∷ (piece.Rest ss ∷ todo))) h = inl h.1.1.0.0
   no_scope s ms todo h = tt
 
+  way_joins : (s : State) (l : List Todo) → OnWay g source l → Joins s l
+  way_joins s (piece.Rest ss ∷ todo) h = inl h.0.0
+  way_joins s (piece.Within line ∷ (piece.Rest ss ∷ todo)) h = inl h.0.0
+  way_joins s (piece.DropNow ∷ todo) h = absurd h
+  way_joins s todo h = tt
+
+  -- no such object is built next
+  no_builds : (s : State) (ms : List Mark) (todo : List Todo) → Ok g source ms todo → Follows g s todo
+  no_builds s ms (piece.Variables [] ∷ (piece.Within line ∷ (piece.Rest ss ∷ todo))) h = inl h.1.1.0.2
+  no_builds s ms (piece.Within line ∷ (piece.Rest ss ∷ todo)) h = inl h.1.0.2
+  no_builds s ms (piece.Rest ss ∷ todo) h = inl h.0.2
+  no_builds s ms todo h = tt
+
+  stands_follow : (s : State) (l : List Todo) → Stands g source l → Follows g s l
+  stands_follow s (piece.Rest ss ∷ todo) h = inl h.0.2
+  stands_follow s (piece.Within line ∷ (piece.Rest ss ∷ todo)) h = inl h.0.2
+  stands_follow s (piece.Variables ds ∷ todo) h = absurd h
+  stands_follow s todo h = tt
+
+  asked_follows : (s u : State) (r : Request) → FindsBehind g source r u.env.exec u.run → AskFollows g s r u
+  asked_follows s u ask.End h = tt
+  asked_follows s u (ask.Fault f) h = tt
+  asked_follows s u r h = no_builds s _ u.run.control h.ok
+
+  pub followed : (s : State) (step : Step) → steps.T g source s step → StepFollows g s step
+  followed s (Goes u) (inl h) = no_builds s h.run.marks u.run.control h.run.ok
+  followed s (Goes u) (inr (inl h)) = stands_follow s u.run.control h.stands
+  followed s (Goes u) (inr (inr h)) = h.follows
+  followed s (Ticks u) (inl h) = no_builds s h.run.marks u.run.control h.run.ok
+  followed s (Ticks u) (inr (inl h)) = stands_follow s u.run.control h.stands
+  followed s (Ticks u) (inr (inr h)) = h.follows
+  followed s (Asks r u) h = asked_follows s u r h.run
+
   asked_joins : (s u : State) (r : Request) → FindsBehind g source r u.env.exec u.run → AskJoins s r u
   asked_joins s u ask.End h = tt
   asked_joins s u (ask.Fault f) h = tt
@@ -195,16 +260,20 @@ module _ (g : Program) (source : Source) where
 
   pub joined : (s : State) (step : Step) → steps.T g source s step → StepJoins s step
   joined s (Goes u) (inl h) = no_scope s h.run.marks u.run.control h.run.ok
-  joined s (Goes u) (inr h) = h.joins
+  joined s (Goes u) (inr (inl h)) = h.joins
+  joined s (Goes u) (inr (inr h)) = way_joins s u.run.control h.way
   joined s (Ticks u) (inl h) = no_scope s h.run.marks u.run.control h.run.ok
-  joined s (Ticks u) (inr h) = h.joins
+  joined s (Ticks u) (inr (inl h)) = h.joins
+  joined s (Ticks u) (inr (inr h)) = way_joins s u.run.control h.way
   joined s (Asks r u) h = asked_joins s u r h.run
 
   pub led : (s : State) (step : Step) → steps.T g source s step → CalledStep g source step
   led s (Goes u) (inl h) = record { run = inl h.run; callers = h.callers; env = h.env }
-  led s (Goes u) (inr h) = record { run = inr h.stands; callers = h.callers; env = h.env }
+  led s (Goes u) (inr (inl h)) = record { run = inr (inl h.stands); callers = h.callers; env = h.env }
+  led s (Goes u) (inr (inr h)) = record { run = inr (inr h.way); callers = h.callers; env = h.env }
   led s (Ticks u) (inl h) = record { run = inl h.run; callers = h.callers; env = h.env }
-  led s (Ticks u) (inr h) = record { run = inr h.stands; callers = h.callers; env = h.env }
+  led s (Ticks u) (inr (inl h)) = record { run = inr (inl h.stands); callers = h.callers; env = h.env }
+  led s (Ticks u) (inr (inr h)) = record { run = inr (inr h.way); callers = h.callers; env = h.env }
   led s (Asks r u) h = h
 
   -- an answer of its form brings the operands that a state is to find, and at most an object in which nothing is to do

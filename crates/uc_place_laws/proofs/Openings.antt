@@ -6,7 +6,7 @@ use Rattle.uc_tree.specs.declared.kinds.Kind.{Kind}
 use Rattle.uc_tree.specs.declared.kinds.Kind.TheVariants as kind
 use Rattle.uc_tree.specs.declared.kinds.Role.{Role}
 use Rattle.uc_tree.specs.declared.kinds.Role.TheVariants as role
-use Rattle.uc_tree.specs.Cells.{leading_cells}
+use Rattle.uc_tree.specs.Cells.{declared_cells, leading_cells}
 use Rattle.uc_tree.specs.Statements as stmt
 use Rattle.uc_tree.specs.Statements.{Declarator}
 use Rattle.uc_tree.specs.Programs as whole
@@ -20,9 +20,9 @@ use Rattle.uc_resolve.specs.Standings as tree
 use Rattle.uc_resolve.specs.Standings.{Meant}
 use Rattle.uc_resolve.specs.Resolve as meaning
 use Rattle.uc_resolve.specs.Resolve.{Scope, source_of}
-use Rattle.uc_place_laws.specs.Opened.{role_number, OfPlain, OpensNone, Builds, Before, OpenedStmt, OpenedStmts, OpenedHandlers, OpenedClauses, OpenedRoutine}
+use Rattle.uc_place_laws.specs.Opened.{role_number, OfPlain, OpensNone, BuildsNone, Declares, Builds, Before, OpenedStmt, OpenedStmts, OpenedHandlers, OpenedClauses, OpenedRoutine}
 use Rattle.uc_place_laws.specs.OpeningLaws.{LawOpened}
-use Rattle.uc_place_laws.proofs.OpeningMarks.{opens_any}
+use Rattle.uc_place_laws.proofs.OpeningMarks.{opens_any, builds_any}
 
 -- what builds an object that is a variable, and what destroys it
 
@@ -32,6 +32,12 @@ module _ (p : Program) (b : Base) (i k : ℕ) (made : making p b ≡ Some (APlai
   paired None (Some d) e f = (refl, record { class = i; base = b; made = made; builds = ap (role_number p i role.Constructor) (sym e); ends = ap (role_number p i role.Destructor) (sym f) })
   paired (Some r) None e f = (refl, record { class = i; base = b; made = made; builds = ap (role_number p i role.Constructor) (sym e); ends = ap (role_number p i role.Destructor) (sym f) })
   paired (Some r) (Some d) e f = (refl, record { class = i; base = b; made = made; builds = ap (role_number p i role.Constructor) (sym e); ends = ap (role_number p i role.Destructor) (sym f) })
+
+-- and what declares it
+module _ (p : Program) (b : Base) (i k line : ℕ) (made : making p b ≡ Some (APlain i)) (x : Declarator) (single : meaning.length_of p x x.len ≡ None) where
+  spans : (y : Option ℕ) → written_at p i role.Destructor ≡ y → OfPlain (Declares p (src.Declare line (record { cell = k; cells = declared_cells p b x; value = None } ∷ []))) (src.Destroys (meaning.called_by p i role.Destructor (src.Variable k) [] y))
+  spans None f = (refl, refl, record { class = i; base = b; made = made; ended = ap (role_number p i role.Destructor) (sym f); declarator = x; single = single; cells = refl })
+  spans (Some d) f = (refl, refl, record { class = i; base = b; made = made; ended = ap (role_number p i role.Destructor) (sym f); declarator = x; single = single; cells = refl })
 
 module _ (p : Program) where
   by_number_plain : (P : ℕ → ℕ → Type 0) (i : ℕ) (object : Expr) (r : Option ℕ) → OfPlain P (src.Destroys (meaning.ended_by p i object r))
@@ -44,6 +50,13 @@ module _ (p : Program) where
   opens line b ACluster None k args e = tt
   opens line b AProcessor None k args e = tt
   opens line b m (Some n) k args e = tt
+
+  declares : (line : ℕ) (b : Base) (m : Making) (x : Declarator) (len : Option ℕ) (k : ℕ) → making p b ≡ Some m → meaning.length_of p x x.len ≡ len → OfPlain (Declares p (src.Declare line (record { cell = k; cells = declared_cells p b x; value = None } ∷ []))) (meaning.clean_up p m len (src.Variable k))
+  declares line b (APlain i) x None k e l = spans p b i k line e x l (written_at p i role.Destructor) refl
+  declares line b (AMutex i) x None k e l = by_number_plain _ i (src.Load (src.Variable k)) (written_at p i role.Destructor)
+  declares line b ACluster x None k e l = tt
+  declares line b AProcessor x None k e l = tt
+  declares line b m x (Some n) k e l = tt
 
   open_build : (line : ℕ) (m : Making) (len : Option ℕ) (place : Expr) (args : List Meant) → OpenedStmt p (meaning.build p line m len place args)
   open_build line m None place args = tt
@@ -63,10 +76,10 @@ module _ (p : Program) where
 
   -- a block of which nothing is done, and a statement before one
   abbrev Open : Stmts → Type 0
-  Open ss = OpensNone ss × OpenedStmts p ss
+  Open ss = OpensNone ss × OpenedStmts p ss × BuildsNone ss
 
   prepend : (a : Stmt) (ss : Stmts) → OpenedStmt p a → Open ss → Open (src.Then a ss)
-  prepend a ss k h = (tt, (k, opens_any (Before p a) ss h.0, h.1))
+  prepend a ss k h = (tt, (k, opens_any (Before p a) ss h.0, h.1, builds_any (Declares p a) ss h.2), h.0)
 
   -- declarations
 
@@ -74,7 +87,7 @@ module _ (p : Program) where
   objects m line b [] s rest e h = h
   objects m line b (d ∷ ds) s rest e h =
       let len : Option ℕ = meaning.length_of p d d.len in
-      (tt, (tt, tt, (open_build line m len (src.Variable s.cells) (meaning.start_args p s d.start), opens line b m len s.cells (meaning.start_args p s d.start) e, objects m line b ds (meaning.with_declared p s b d) rest e h)))
+      (tt, (tt, tt, (open_build line m len (src.Variable s.cells) (meaning.start_args p s d.start), opens line b m len s.cells (meaning.start_args p s d.start) e, objects m line b ds (meaning.with_declared p s b d) rest e h, tt), declares line b m d len s.cells e refl), tt)
 
   declared_then : (b : Base) (m : Option Making) (line : ℕ) (ds : List Declarator) (s : Scope) (rest : Stmts) → making p b ≡ m → Open rest → Open (meaning.declared_then p m line b ds s rest)
   declared_then b None line ds s rest e h = prepend (src.Declare line (meaning.all_declared p s b ds)) rest tt h
@@ -82,7 +95,7 @@ module _ (p : Program) where
 
   declared_alone : (b : Base) (m : Option Making) (line : ℕ) (ds : List Declarator) (s : Scope) → making p b ≡ m → OpenedStmt p (meaning.declared_alone p m line b ds s)
   declared_alone b None line ds s e = tt
-  declared_alone b (Some m) line ds s e = objects m line b ds s src.Nil e (tt, tt)
+  declared_alone b (Some m) line ds s e = objects m line b ds s src.Nil e (tt, tt, tt)
 
   start_then : (line : ℕ) (x : stmt.ForStart) (s : Scope) (rest : Stmts) → Open rest → Open (meaning.start_then p line x s rest)
   start_then line stmt.NoFor s rest h = prepend (src.Skip line) rest tt h
@@ -102,8 +115,8 @@ module _ (p : Program) where
     one (stmt.Do place body e) s = one body s
     one (stmt.For place x e f body) s =
         let inner : Scope = meaning.for_scope p x s in
-        start_then place.line x s (src.Then (src.Loop place.line (meaning.order_of p e) (meaning.test_of p inner e) (meaning.step_of p inner f) (meaning.stmt_meant p body inner)) src.Nil) (prepend (src.Loop place.line (meaning.order_of p e) (meaning.test_of p inner e) (meaning.step_of p inner f) (meaning.stmt_meant p body inner)) src.Nil (one body inner) (tt, tt))
-    one (stmt.Try place brace body hs) s = ((tt, (all body s, tt, tt)), handlers hs (meaning.scope_past_all p body s))
+        start_then place.line x s (src.Then (src.Loop place.line (meaning.order_of p e) (meaning.test_of p inner e) (meaning.step_of p inner f) (meaning.stmt_meant p body inner)) src.Nil) (prepend (src.Loop place.line (meaning.order_of p e) (meaning.test_of p inner e) (meaning.step_of p inner f) (meaning.stmt_meant p body inner)) src.Nil (one body inner) (tt, tt, tt))
+    one (stmt.Try place brace body hs) s = ((tt, (all body s, tt, tt, tt), tt), handlers hs (meaning.scope_past_all p body s))
     one (stmt.Enable place events body) s = one body (meaning.within_events p s)
     one (stmt.Disable place events body) s = one body (meaning.within_events p s)
     one (stmt.Accept place cs other) s =
@@ -129,7 +142,7 @@ module _ (p : Program) where
     maybe (stmt.OneStmt body) s = one body s
 
     all : (ts : stmt.Stmts) (s : Scope) → Open (meaning.stmts_meant p ts s)
-    all stmt.NoStmts s = (tt, tt)
+    all stmt.NoStmts s = (tt, tt, tt)
     all (stmt.MoreStmts t ts) s =
         stmt_then t s (meaning.stmt_meant p t s) (meaning.stmts_meant p ts (meaning.scope_after p t s)) (one t s) (all ts (meaning.scope_after p t s))
 
@@ -141,11 +154,11 @@ module _ (p : Program) where
 
   field_built : (m : Option Making) (f : ClassField) (len : Option ℕ) (place : Expr) (args : List Meant) (rest : Stmts) → Open rest → Open (meaning.field_built p m f len place args rest)
   field_built None f len place args rest h = field_started f place args rest h
-  field_built (Some m) f len place args rest h = (tt, (open_build 0 m len place args, tt, h))
+  field_built (Some m) f len place args rest h = (tt, (open_build 0 m len place args, tt, h, tt), tt)
 
   field_left : (m : Option Making) (len : Option ℕ) (s : Shape) (i : ℕ) (rest : Stmts) → Open rest → Open (meaning.field_left p m len (src.OfObject (src.OwnField s i)) rest)
   field_left None len s i rest h = h
-  field_left (Some m) len s i rest h = (own_field (λ d k. ⊥) m len s i, h)
+  field_left (Some m) len s i rest h = (own_field (λ d k. ⊥) m len s i, h, tt)
 
   module _ (c : whole.Class) (i : ℕ) where
     fields_built : (inits : List whole.Init) (s : Scope) (fs : List ClassField) (n : ℕ) (rest : Stmts) → Open rest → Open (meaning.fields_built p c i inits s fs n rest)
@@ -162,15 +175,15 @@ module _ (p : Program) where
 
   set_up : (b : Bool) (i : ℕ) (rest : Stmts) → Open rest → Open (meaning.set_up p b i rest)
   set_up false i rest h = h
-  set_up true i rest h = (tt, (tt, tt, h))
+  set_up true i rest h = (tt, (tt, tt, h, tt), tt)
 
   started_in : (b : Bool) (body : Stmts) → Open body → Open (meaning.started_in p b body)
   started_in false body h = h
-  started_in true body h = (tt, h)
+  started_in true body h = (tt, h, tt)
 
   enlivened : (b : Bool) → Open (meaning.enlivened p b)
-  enlivened false = (tt, tt)
-  enlivened true = (tt, (tt, tt, tt))
+  enlivened false = (tt, tt, tt)
+  enlivened true = (tt, (tt, tt, tt, tt), tt)
 
   taken_down : (b : Bool) (body : Stmts) → Open body → Open (meaning.taken_down p b body)
   taken_down false body h = h
@@ -178,19 +191,19 @@ module _ (p : Program) where
 
   forgotten : (b : Bool) (rest : Stmts) → Open rest → Open (meaning.forgotten p b rest)
   forgotten false rest h = h
-  forgotten true rest h = (tt, h)
+  forgotten true rest h = (tt, h, tt)
 
   freed : (k : Kind) (i : ℕ) (rest : Stmts) → Open rest → Open (meaning.freed p k i rest)
-  freed kind.Monitor i rest h = (tt, h)
-  freed kind.Cormonitor i rest h = (tt, h)
-  freed kind.Task i rest h = (tt, h)
+  freed kind.Monitor i rest h = (tt, h, tt)
+  freed kind.Cormonitor i rest h = (tt, h, tt)
+  freed kind.Task i rest h = (tt, h, tt)
   freed kind.Class i rest h = h
   freed kind.Coroutine i rest h = h
   freed kind.Event i rest h = h
 
   ending : (b : Bool) (rest : Stmts) → Open rest → Open (meaning.ending p b rest)
   ending false rest h = h
-  ending true rest h = (tt, h)
+  ending true rest h = (tt, h, tt)
 
   construction : (c : Option whole.Class) (i : ℕ) (inits : List whole.Init) (s : Scope) (body : Stmts) → Open body → Open (meaning.construction p c i inits s body)
   construction None i inits s body h = h
@@ -203,31 +216,31 @@ module _ (p : Program) where
       ending (is_mutex c.kind) _ (forgotten (has_execution c.kind) _ (fields_left c i (fields_of c.members) (leading_cells c.kind) _ (taken_down (has_execution c.kind) body h)))
 
   construction_ends : (c : Option whole.Class) (i : ℕ) → Open (meaning.construction_ends p c i)
-  construction_ends None i = (tt, tt)
+  construction_ends None i = (tt, tt, tt)
   construction_ends (Some c) i = enlivened (has_execution c.kind)
 
   owing : (line : ℕ) (u : Purpose) → Open (meaning.owing p line u)
-  owing line src.Function = (tt, (tt, tt, tt))
-  owing line src.TaskMain = (tt, tt)
-  owing line src.CoroutineMain = (tt, tt)
-  owing line src.Procedure = (tt, tt)
-  owing line src.Builder = (tt, tt)
+  owing line src.Function = (tt, (tt, tt, tt, tt), tt)
+  owing line src.TaskMain = (tt, tt, tt)
+  owing line src.CoroutineMain = (tt, tt, tt)
+  owing line src.Procedure = (tt, tt, tt)
+  owing line src.Builder = (tt, tt, tt)
 
   plain_body : (b : Bool) (r : whole.Routine) (body : Stmts) → Open body → Open (meaning.plain_body p b r body)
   plain_body false r body h = h
-  plain_body true r body h = (tt, prepend (src.Block r.brace.line body) (meaning.owing p r.brace.line (meaning.value_purpose p r.sig.ret)) h (owing r.brace.line (meaning.value_purpose p r.sig.ret)))
+  plain_body true r body h = (tt, prepend (src.Block r.brace.line body) (meaning.owing p r.brace.line (meaning.value_purpose p r.sig.ret)) h (owing r.brace.line (meaning.value_purpose p r.sig.ret)), tt)
 
   body_by : (role : Role) (r : whole.Routine) (s : Scope) → Open (meaning.body_by p role r s)
   body_by role.Plain r s = plain_body (meaning.has_number_in p (meaning.class_by p s.class) r.sig) r (meaning.stmts_meant p r.body s) (all r.body s)
   body_by role.Constructor r s =
       construction (meaning.class_by p s.class) (meaning.place_or_zero p s.class) r.inits s _ (prepend (src.Whole r.brace.line (meaning.stmts_meant p r.body s)) _ (all r.body s) (construction_ends (meaning.class_by p s.class) (meaning.place_or_zero p s.class)))
   body_by role.Destructor r s =
-      destruction (meaning.class_by p s.class) (meaning.place_or_zero p s.class) (src.Then (src.Whole r.brace.line (meaning.stmts_meant p r.body s)) src.Nil) (prepend (src.Whole r.brace.line (meaning.stmts_meant p r.body s)) src.Nil (all r.body s) (tt, tt))
+      destruction (meaning.class_by p s.class) (meaning.place_or_zero p s.class) (src.Then (src.Whole r.brace.line (meaning.stmts_meant p r.body s)) src.Nil) (prepend (src.Whole r.brace.line (meaning.stmts_meant p r.body s)) src.Nil (all r.body s) (tt, tt, tt))
 
   unwritten_body : (x : Role) (i : ℕ) → Open (meaning.unwritten_body p x i)
-  unwritten_body role.Plain i = (tt, tt)
+  unwritten_body role.Plain i = (tt, tt, tt)
   unwritten_body role.Constructor i = construction (class_at p i) i [] (meaning.nowhere p) (meaning.construction_ends p (class_at p i) i) (construction_ends (class_at p i) i)
-  unwritten_body role.Destructor i = destruction (class_at p i) i src.Nil (tt, tt)
+  unwritten_body role.Destructor i = destruction (class_at p i) i src.Nil (tt, tt, tt)
 
   -- all routines of a source
 

@@ -9,7 +9,7 @@ use Rattle.uc_machine.specs.declared.exec.Owner.TheVariants.{Frame}
 use Rattle.uc_machine.specs.Pieces as piece
 use Rattle.uc_machine.specs.Pieces.{Slot, Value, Place, Todo, Sort, sort, top, below}
 use Rattle.uc_state_laws.specs.Counted.{params, count, CountedExpr, CountedExprs, CountedMaybe, CountedItems, CountedTargets, CountedDeclared, CountedClean, CountedStmt, CountedStmts, CountedHandlers, CountedClauses}
-use Rattle.uc_place_laws.specs.Opened.{ArePaired, OpensOf, OpensNone, Builds, Before, OpenedStmt, OpenedStmts, OpenedHandlers, OpenedClauses}
+use Rattle.uc_place_laws.specs.Opened.{ArePaired, OpensOf, OpensNone, BuildsOf, BuildsNone, Spans, Declares, Builds, Before, OpenedStmt, OpenedStmts, OpenedHandlers, OpenedClauses}
 
 -- what is known of an operand: nothing, or that it is the place of this variable
 pub data Mark : Type 0 where
@@ -118,7 +118,7 @@ module _ (p : Program) (source : Source) where
 
   -- a block of which nothing is done yet
   abbrev pub CodeBlock : Stmts → Type 0
-  CodeBlock ss = OpensNone ss × CodeStmts ss
+  CodeBlock ss = OpensNone ss × CodeStmts ss × BuildsNone ss
 
   abbrev pub CodeHandlers : Handlers → Type 0
   CodeHandlers hs = CountedHandlers source hs × OpenedHandlers p hs
@@ -181,15 +181,20 @@ module _ (p : Program) (source : Source) where
         AtDrop (CalledBy p r (rests (params source r) ms)) todo
     Ok ms (piece.CallUnwrittenNow r ∷ todo) = Ok (Any ∷ rests (suc (params source r)) ms) todo ⊎
         AtDrop (CalledBy p r (rests (params source r) ms)) todo
-    Ok ms (piece.Do a ∷ todo) = CodeStmt a × (Ok [] todo ⊎ AtRest (Before p a) todo)
+    Ok ms (piece.Do a ∷ todo) = CodeStmt a × (Ok [] todo ⊎ (AtRest (Before p a) todo ⊎ AtBuild (Declares p a) todo))
     Ok ms (piece.Exit w ∷ todo) = Left todo
     Ok ms (piece.Unwind ∷ todo) = Left todo
     Ok ms (x ∷ todo) = CodePiece x × Ok (after source x ms) todo
 
     -- such a scope may open next
     pub AtRest : (ℕ → ℕ → Type 0) → List Todo → Type 0
-    AtRest P (piece.Rest ss ∷ todo) = (OpensOf P ss × CodeStmts ss) × Ok [] todo
+    AtRest P (piece.Rest ss ∷ todo) = (OpensOf P ss × CodeStmts ss × BuildsNone ss) × Ok [] todo
     AtRest P todo = ⊥
+
+    -- such an object may be built next
+    pub AtBuild : (ℕ → ℕ → Type 0) → List Todo → Type 0
+    AtBuild P (piece.Rest ss ∷ todo) = (OpensNone ss × CodeStmts ss × BuildsOf P ss) × Ok [] todo
+    AtBuild P todo = ⊥
 
     pub AtDrop : (ℕ → ℕ → Type 0) → List Todo → Type 0
     AtDrop P (piece.DropNow ∷ (piece.Within line ∷ todo)) = AtRest P todo
@@ -206,3 +211,12 @@ module _ (p : Program) (source : Source) where
   Stands (piece.Within line ∷ todo) = AtRest Every todo
   Stands (piece.DropNow ∷ todo) = AtDrop Every (piece.DropNow ∷ todo)
   Stands todo = ⊥
+
+  -- such an object may be built next, once the cells of its variable start anew, or now that they have
+  abbrev pub OnWay : List Todo → Type 0
+  OnWay (piece.Variables (x ∷ []) ∷ (piece.Within line ∷ todo)) = (x.value ≡ None) × AtBuild (λ d k. (x.cell ≡ k) × Spans p d x.cells) todo
+  OnWay (piece.ClearNow k n ∷ (piece.Variables [] ∷ (piece.Within line ∷ todo))) = AtBuild (λ d m. (k ≡ m) × Spans p d n) todo
+  OnWay (piece.Variables [] ∷ (piece.Within line ∷ todo)) = AtBuild Every todo
+  OnWay (piece.Within line ∷ todo) = AtBuild Every todo
+  OnWay (piece.Rest ss ∷ todo) = AtBuild Every (piece.Rest ss ∷ todo)
+  OnWay todo = ⊥

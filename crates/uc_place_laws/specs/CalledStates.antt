@@ -12,8 +12,8 @@ use Rattle.uc_machine.specs.Raising.{arrives}
 use Rattle.uc_answer_laws.specs.Suiting.{Form, JustGo, form_of_request}
 use Rattle.uc_state_laws.specs.Marked.{operands}
 use Rattle.uc_place_laws.specs.OlderResting.{AllWait, NamedMembers, NamedEnv}
-use Rattle.uc_place_laws.specs.Opened.{OpensNone}
-use Rattle.uc_place_laws.specs.Called.{Mark, Holds, anys, Every, Ok, AtDrop, Stands}
+use Rattle.uc_place_laws.specs.Opened.{OpensNone, BuildsOf, BuildsNone, Spans}
+use Rattle.uc_place_laws.specs.Called.{Mark, Holds, anys, Every, Ok, AtDrop, Stands, OnWay}
 
 module _ (p : Program) (source : Source) where
   -- an activation of the execution n that is to find so many operands in front of its own
@@ -30,9 +30,9 @@ module _ (p : Program) (source : Source) where
   abbrev pub Waits : Exec → List Active → Active → Type 0
   Waits n older a = Finds 1 n a ⊎ AtDrop p source Every a.control
 
-  -- who runs may stand before such a scope
+  -- who runs may stand before such a scope, or be on the way from a declaration to what builds the object
   abbrev pub RunsNow : Exec → Active → Type 0
-  RunsNow n a = Finds 0 n a ⊎ Stands p source a.control
+  RunsNow n a = Finds 0 n a ⊎ (Stands p source a.control ⊎ OnWay p source a.control)
 
   abbrev pub CalledMembers : Home → Option Members → Type 0
   CalledMembers h m = NamedMembers Runs Waits h m
@@ -93,3 +93,23 @@ abbrev pub StepJoins : State → Step → Type 0
 StepJoins s (Goes u) = Joins s u.run.control
 StepJoins s (Ticks u) = Joins s u.run.control
 StepJoins s (Asks r u) = AskJoins s r u
+
+-- such an object is built next only where the cells of its variable have just started anew, and nothing was done since
+abbrev pub Follows : Program → State → List Todo → Type 0
+Follows p s (piece.Variables [] ∷ (piece.Within line ∷ (piece.Rest ss ∷ todo))) = BuildsNone ss ⊎
+    ((k : ℕ) × (n : ℕ) × (s.run.control ≡ piece.ClearNow k n ∷ (piece.Variables [] ∷ (piece.Within line ∷ (piece.Rest ss ∷ todo)))) × BuildsOf (λ d m. (k ≡ m) × Spans p d n) ss)
+Follows p s (piece.Within line ∷ (piece.Rest ss ∷ todo)) = BuildsNone ss ⊎
+    (s.run.control ≡ piece.Variables [] ∷ (piece.Within line ∷ (piece.Rest ss ∷ todo)))
+Follows p s (piece.Rest ss ∷ todo) = BuildsNone ss ⊎
+    ((line : ℕ) × (s.run.control ≡ piece.Within line ∷ (piece.Rest ss ∷ todo)))
+Follows p s todo = Unit {0}
+
+abbrev pub AskFollows : Program → State → Request → State → Type 0
+AskFollows p s ask.End u = Unit {0}
+AskFollows p s (ask.Fault f) u = Unit {0}
+AskFollows p s r u = Follows p s u.run.control
+
+abbrev pub StepFollows : Program → State → Step → Type 0
+StepFollows p s (Goes u) = Follows p s u.run.control
+StepFollows p s (Ticks u) = Follows p s u.run.control
+StepFollows p s (Asks r u) = AskFollows p s r u

@@ -1,12 +1,15 @@
 -- Code in which the scope of an object that is a variable, and no mutex object, opens right behind the statement that calls a constructor of its
 -- class at that variable.
-use Rattle.std.specs.Prelude.{◌≡◌, ℕ, Option, Some, None, slice_get}
+use Rattle.std.specs.Prelude.{◌≡◌, ℕ, List, [], ◌∷◌, Option, Some, None, slice_get}
 use Rattle.uc_tree.specs.declared.kinds.Base.{Base}
 use Rattle.uc_tree.specs.declared.kinds.Role.{Role}
 use Rattle.uc_tree.specs.declared.kinds.Role.TheVariants as role
+use Rattle.uc_tree.specs.Cells.{declared_cells}
 use Rattle.uc_tree.specs.Objects.{APlain, making, written_at, unwritten_number}
 use Rattle.uc_tree.specs.Programs.{Program}
-use Rattle.uc_tree.specs.Source.{Expr, Variable, OfObject, CallOn, CallUnwritten, CleanUp, Destroys, Stmt, Stmts, Block, Whole, Evaluate, If, Loop, OfEvents, OfTasks, Nil, Then, Scoped, Built, EventStmt, Try, Enable, Disable, TaskStmt, Accept, Handlers, NoHandlers, MoreHandlers, Clauses, NoClauses, Otherwise, MoreClauses, Routine, Source}
+use Rattle.uc_tree.specs.Source.{Expr, Variable, OfObject, CallOn, CallUnwritten, CleanUp, Destroys, Stmt, Stmts, Block, Whole, Evaluate, Declare, If, Loop, OfEvents, OfTasks, Nil, Then, Scoped, Built, EventStmt, Try, Enable, Disable, TaskStmt, Accept, Handlers, NoHandlers, MoreHandlers, Clauses, NoClauses, Otherwise, MoreClauses, Routine, Source}
+use Rattle.uc_tree.specs.Statements.{Declarator}
+use Rattle.uc_resolve.specs.Resolve.{length_of}
 
 -- the constructor or the destructor of a class, by its number: the one that is written, or that which stands for it where none is
 abbrev pub role_number : Program → ℕ → Role → Option ℕ → ℕ
@@ -42,6 +45,30 @@ OpensOf P ss = Unit {0}
 abbrev pub OpensNone : Stmts → Type 0
 OpensNone ss = OpensOf (λ d k. ⊥) ss
 
+-- so is it of the object that the next statement builds, if its scope opens right behind that
+abbrev pub BuildsOf : (ℕ → ℕ → Type 0) → Stmts → Type 0
+BuildsOf P (Then a rest) = OpensOf P rest
+BuildsOf P ss = Unit {0}
+
+-- no such object is built next
+abbrev pub BuildsNone : Stmts → Type 0
+BuildsNone ss = BuildsOf (λ d k. ⊥) ss
+
+-- so many cells are declared for one object of the class that this destroys
+pub record Spans (p : Program) (d n : ℕ) : Type 0 where
+  pub class : ℕ
+  pub base : Base
+  pub made : making p base ≡ Some (APlain class)
+  pub ended : d ≡ role_number p class role.Destructor (written_at p class role.Destructor)
+  pub declarator : Declarator
+  pub single : length_of p declarator declarator.len ≡ None
+  pub cells : n ≡ declared_cells p base declarator
+
+-- a statement declares the variable at which such an object is built, alone and without a value
+abbrev pub Declares : Program → Stmt → ℕ → ℕ → Type 0
+Declares p (Declare line (x ∷ [])) d k = (x.cell ≡ k) × (x.value ≡ None) × Spans p d x.cells
+Declares p a d k = ⊥
+
 module _ (p : Program) where
   -- an expression calls a constructor at a variable which a destructor of its class destroys
   abbrev pub Builds : Expr → ℕ → ℕ → Type 0
@@ -52,11 +79,11 @@ module _ (p : Program) where
   Before (Evaluate line e) d k = Builds e d k
   Before a d k = ⊥
 
-  -- each scope of such an object stands behind a statement that does
+  -- each scope of such an object stands behind a statement that does, and that behind one that declares its variable
   abbrev mutual
     pub OpenedStmt : Stmt → Type 0
-    OpenedStmt (Block line body) = OpensNone body × OpenedStmts body
-    OpenedStmt (Whole line body) = OpensNone body × OpenedStmts body
+    OpenedStmt (Block line body) = OpensNone body × OpenedStmts body × BuildsNone body
+    OpenedStmt (Whole line body) = OpensNone body × OpenedStmts body × BuildsNone body
     OpenedStmt (If line e a b) = OpenedStmt a × OpenedStmt b
     OpenedStmt (Loop line order e step b) = OpenedStmt b
     OpenedStmt (OfEvents a) = OpenedEvent a
@@ -65,19 +92,19 @@ module _ (p : Program) where
 
     pub OpenedStmts : Stmts → Type 0
     OpenedStmts Nil = Unit {0}
-    OpenedStmts (Then a rest) = OpenedStmt a × OpensOf (Before a) rest × OpenedStmts rest
-    OpenedStmts (Scoped c rest) = OpensNone rest × OpenedStmts rest
-    OpenedStmts (Built c rest) = OpensNone rest × OpenedStmts rest
+    OpenedStmts (Then a rest) = OpenedStmt a × OpensOf (Before a) rest × OpenedStmts rest × BuildsOf (Declares p a) rest
+    OpenedStmts (Scoped c rest) = OpensNone rest × OpenedStmts rest × BuildsNone rest
+    OpenedStmts (Built c rest) = OpensNone rest × OpenedStmts rest × BuildsNone rest
 
     pub OpenedEvent : EventStmt → Type 0
-    OpenedEvent (Try line body hs) = (OpensNone body × OpenedStmts body) × OpenedHandlers hs
+    OpenedEvent (Try line body hs) = (OpensNone body × OpenedStmts body × BuildsNone body) × OpenedHandlers hs
     OpenedEvent (Enable line events cell a) = OpenedStmt a
     OpenedEvent (Disable line events cell a) = OpenedStmt a
     OpenedEvent a = Unit {0}
 
     pub OpenedHandlers : Handlers → Type 0
     OpenedHandlers NoHandlers = Unit {0}
-    OpenedHandlers (MoreHandlers resumes event cell line body rest) = (OpensNone body × OpenedStmts body) × OpenedHandlers rest
+    OpenedHandlers (MoreHandlers resumes event cell line body rest) = (OpensNone body × OpenedStmts body × BuildsNone body) × OpenedHandlers rest
 
     pub OpenedTask : TaskStmt → Type 0
     OpenedTask (Accept line site cs) = OpenedClauses cs
@@ -90,7 +117,7 @@ module _ (p : Program) where
 
   abbrev pub OpenedRoutine : Option Routine → Type 0
   OpenedRoutine None = Unit {0}
-  OpenedRoutine (Some r) = OpensNone r.body × OpenedStmts r.body
+  OpenedRoutine (Some r) = OpensNone r.body × OpenedStmts r.body × BuildsNone r.body
 
   -- the routines of a source
   abbrev pub OpenedSource : Source → Type 0

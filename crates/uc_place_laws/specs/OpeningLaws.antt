@@ -1,5 +1,5 @@
 -- Scopes of objects open behind the calls of their constructors at their variables: of every program, and of every task of such a source.
-use Rattle.std.specs.Prelude.{◌≡◌, ℕ, List, ◌∷◌, drop}
+use Rattle.std.specs.Prelude.{◌≡◌, ℕ, List, [], ◌∷◌, drop}
 use Rattle.uc_tree.specs.Programs.{Program}
 use Rattle.uc_tree.specs.Source.{Source, routine_of}
 use Rattle.uc_entry.specs.declared.request.Answer.{Answer}
@@ -11,9 +11,9 @@ use Rattle.uc_answer_laws.specs.Suiting.{Form, IsForm}
 use Rattle.uc_resolve.specs.Resolve.{source_of}
 use Rattle.uc_state_laws.specs.Counted.{params, CountedSource}
 use Rattle.uc_place_laws.specs.OlderResting.{AllWait, NamedEnv}
-use Rattle.uc_place_laws.specs.Opened.{ArePaired, OpensOf, OpenedSource}
+use Rattle.uc_place_laws.specs.Opened.{ArePaired, OpensOf, Builds, Before, OpenedSource}
 use Rattle.uc_place_laws.specs.Called.{variable}
-use Rattle.uc_place_laws.specs.CalledStates.{FindsFor, Runs, Waits, CalledState, CalledStep, StepJoins}
+use Rattle.uc_place_laws.specs.CalledStates.{FindsFor, Runs, Waits, CalledState, CalledStep, StepJoins, StepFollows}
 
 -- in the source of every program the scope of an object that is a variable stands behind the statement that calls its constructor there
 abbrev pub LawOpened : Type 0
@@ -52,10 +52,31 @@ CallsAt p source (piece.CallOnNow r ∷ todo) s = Awaited (IsAt p source s r) to
 CallsAt p source (piece.CallUnwrittenNow r ∷ todo) s = Awaited (IsAt p source s r) todo
 CallsAt p source todo s = Unit {0}
 
--- so it is in each such state, and behind its step the scope opens next only behind the end of what was called
+-- of the object of the scope that opens next behind a statement
+abbrev pub AwaitedRest : (ℕ → ℕ → Type 0) → List Todo → Type 0
+AwaitedRest P (piece.Rest ss ∷ todo) = OpensOf P ss
+AwaitedRest P todo = Unit {0}
+
+-- behind what is to do first no such scope opens next, but behind a statement and an expression that build the object, behind a call, and where that
+-- is not done but left
+abbrev pub TailAt : Program → List Todo → Type 0
+TailAt p [] = Unit {0}
+TailAt p (piece.Do a ∷ todo) = AwaitedRest (Before p a) todo
+TailAt p (piece.Eval e ∷ todo) = Awaited (Builds p e) todo
+TailAt p (piece.CallOnNow r ∷ todo) = Unit {0}
+TailAt p (piece.CallUnwrittenNow r ∷ todo) = Unit {0}
+TailAt p (piece.Within line ∷ todo) = Unit {0}
+TailAt p (piece.Exit w ∷ todo) = Unit {0}
+TailAt p (piece.Unwind ∷ todo) = Unit {0}
+TailAt p (x ∷ todo) = NoneAwaited todo × AwaitedRest (λ d k. ⊥) todo
+
+-- so it is in each such state, and behind its step the scope opens next only behind the end of what was called, and such an object is built next
+-- only behind its declaration, whose cells have just started anew
 pub record IsCalled (p : Program) (source : Source) (s : State) : Type 0 where
   pub calls : CallsAt p source s.run.control s
+  pub tails : TailAt p s.run.control
   pub joins : StepJoins s (quiet source s)
+  pub follows : StepFollows p s (quiet source s)
 
 abbrev pub LawCalled : Type 0
 LawCalled = (p : Program) (source : Source) → CountedSource source → OpenedSource p source →

@@ -1,4 +1,5 @@
--- What has been built, and what is entered to be destroyed, is at home where nothing is to be cleaned up.
+-- What has been built, and what is entered to be destroyed, is at home where nothing is to be cleaned up; and the latter is built or destroyed by no
+-- activation.
 use Rattle.std.proofs.Common.{◌≡◌, ℕ, suc, inl, inr, Bool, true, false, List, ◌∷◌, drop, Option, Some, None, refl, sym, subst, arith}
 use Rattle.std.specs.Prelude.{slice_get}
 use Rattle.uc_tree.specs.Source as src
@@ -10,13 +11,14 @@ use Rattle.uc_state_laws.specs.Counted.{params_at, params}
 use Rattle.uc_life_laws.specs.Belonging.{Belongs}
 use Rattle.uc_life_laws.specs.Marks.{Outward, Free}
 use Rattle.uc_putting_laws.specs.CleanedSpots.{Site, site_spot, Reach, reach_of, IsIn}
-use Rattle.uc_putting_laws.specs.ObjectsAtHand.{LiesUnder, there, BelongsBelow}
+use Rattle.uc_putting_laws.specs.ObjectsAtHand.{LiesUnder, there, BelongsBelow, IsBuilt}
 use Rattle.uc_putting_laws.specs.Seats.{IsSeated}
 use Rattle.uc_putting_laws.specs.Calling.{opens_object, opens_at, CallingStmts, CallingRoutine, CallingSource}
-use Rattle.uc_putting_laws.specs.Putting.{Setting, Mark, rests, OfObjects, spot_at, Holds, HomedAt, SeatAt, CallFits, Ok}
+use Rattle.uc_putting_laws.specs.Putting.{Setting, Mark, rests, OfObjects, spot_at, Holds, HomedAt, SeatAt, CallFits, Ok, Left}
 use Rattle.uc_putting_laws.specs.LoneObjects.{LoneObjectAt, LawLoneObjects}
 use Rattle.uc_putting_laws.proofs.ObjectsWithin.{below_own}
-use Rattle.uc_putting_laws.proofs.Marks.{home_of, holds_drop, stands_under, under_spot}
+use Rattle.uc_putting_laws.proofs.Marks.{home_of, holds_drop, stands_under, under_spot, left}
+use Rattle.uc_putting_laws.proofs.Seats.{spot_free}
 use Rattle.uc_putting_laws.proofs.Steps.{here}
 
 params_same : (o : Option Routine) → params_at o ≡ (routine_or_none o).params
@@ -64,6 +66,17 @@ module _ (g : Setting) where
     abbrev IsAlone : Value → List Todo → Type 0
     IsAlone v todo = Belongs g.few s.env.exec (g.few.home (piece.object_in v)) × Free g.table g.few (piece.object_in v) (Outward g.table s.env.exec s.run.frame s.run.this s.callers todo)
 
+    -- nothing that is built or destroyed is
+    abbrev IsFree : Value → Type 0
+    IsFree v = IsBuilt (s.run ∷ s.callers) (piece.object_in v) → ⊥
+
+    module _ (l : Left g (here s) made s.run.control) where
+      free_site : (v : Value) (y : Site) → HomedAt g.few (here s) y v → IsIn made y → IsFree v
+      free_site v y h i m =
+          let o : ℕ = h.2.number in
+          let u : LiesUnder (spot_at g.few (here s) (site_spot y)) (g.few.home o) = subst (LiesUnder (spot_at g.few (here s) (site_spot y))) (sym h.2.home) (stands_under g.few (here s) y h.0 h.1) in
+          spot_free g s.env.exec s.run s.callers made this l (site_spot y) i o (subst (λ w. IsBuilt (s.run ∷ s.callers) (piece.object_in w)) h.2.object m) (there u)
+
     -- an object that is at home at a site
     at_site : (v : Value) (todo : List Todo) (y : Site) → HomedAt g.few (here s) y v → IsIn made y → SeatAt g (here s) made todo y → IsAlone v todo
     at_site v todo y h i l =
@@ -73,25 +86,25 @@ module _ (g : Setting) where
         subst (λ w. IsAlone w todo) (sym h.2.object) (below_own g.few s.env.exec (suc s.run.frame) (g.few.home o) below, (λ c m. l.0 (g.few.home o) c (there u) m))
 
     -- what is called next to destroy its object finds it so
-    called : (ms : List Mark) → Holds g.few (here s) ms s.run.operands → (r : ℕ) (todo : List Todo) → CallFits g (here s) made r ms todo → is_ending g.source r ≡ true → IsAlone (top (drop (params g.source r) s.run.operands)) todo
-    called ms holds r todo (inl f) e =
+    called : (ms : List Mark) → Holds g.few (here s) ms s.run.operands → Left g (here s) made s.run.control → (r : ℕ) (todo : List Todo) → CallFits g (here s) made r ms todo → is_ending g.source r ≡ true → IsAlone (top (drop (params g.source r) s.run.operands)) todo × IsFree (top (drop (params g.source r) s.run.operands))
+    called ms holds l r todo (inl f) e =
         absurd (ends_special (g.table.routine r).this (slice_get g.source.routines r) (subst (λ (b : Bool). CallingRoutine g.table g.source g.special b (g.table.routine r).this (slice_get g.source.routines r)) f (calling.routines r)) e)
-    called ms holds r todo (inr (inl f)) e = absurd (opening_ends (slice_get g.source.routines r) f.0 e)
-    called ms holds r todo (inr (inr f)) e =
+    called ms holds l r todo (inr (inl f)) e = absurd (opening_ends (slice_get g.source.routines r) f.0 e)
+    called ms holds l r todo (inr (inr f)) e =
         let h = home_of g.few (here s) (rests (params g.source r) ms) (drop (params g.source r) s.run.operands) (holds_drop g.few (here s) (params g.source r) ms s.run.operands holds) (λ x. IsIn made x × SeatAt g (here s) made todo x × OfObjects x) f in
-        at_site (top (drop (params g.source r) s.run.operands)) todo h.0 h.1 h.2.0 h.2.1
+        (at_site (top (drop (params g.source r) s.run.operands)) todo h.0 h.1 h.2.0 h.2.1, free_site l (top (drop (params g.source r) s.run.operands)) h.0 h.1 h.2.0)
 
-    entered : (ms : List Mark) → Holds g.few (here s) ms s.run.operands → (r k : ℕ) (todo : List Todo) → k ≡ r → CallFits g (here s) made k ms todo → is_ending g.source r ≡ true → IsAlone (top (drop (routine_of g.source r).params s.run.operands)) todo
-    entered ms holds r k todo q f e =
-        subst (λ (n : ℕ). IsAlone (top (drop n s.run.operands)) todo) (params_same (slice_get g.source.routines r)) (called ms holds r todo (subst (λ (x : ℕ). CallFits g (here s) made x ms todo) q f) e)
+    entered : (ms : List Mark) → Holds g.few (here s) ms s.run.operands → Left g (here s) made s.run.control → (r k : ℕ) (todo : List Todo) → k ≡ r → CallFits g (here s) made k ms todo → is_ending g.source r ≡ true → IsAlone (top (drop (routine_of g.source r).params s.run.operands)) todo × IsFree (top (drop (routine_of g.source r).params s.run.operands))
+    entered ms holds l r k todo q f e =
+        subst (λ (n : ℕ). IsAlone (top (drop n s.run.operands)) todo × IsFree (top (drop n s.run.operands))) (params_same (slice_get g.source.routines r)) (called ms holds l r todo (subst (λ (x : ℕ). CallFits g (here s) made x ms todo) q f) e)
 
-    lone : (ms : List Mark) → Holds g.few (here s) ms s.run.operands → (l : List Todo) → Ok g (here s) made ms l → LoneObjectAt g.table g.few g.source l s
-    lone ms holds (piece.EnterNow m r ∷ (piece.CallOnNow k ∷ todo)) h = λ e. entered ms holds r k todo h.0 h.1.0 e
-    lone ms holds (piece.EnterNow m r ∷ (piece.CallUnwrittenNow k ∷ todo)) h = λ e. entered ms holds r k todo h.0 h.1.0 e
-    lone ms holds (piece.EnterNow m r ∷ todo) h = absurd h.0
-    lone ms holds (piece.MadeNow ∷ todo) h = h.0
-    lone ms holds (piece.SpawnNow r ∷ todo) h = h.0.1
-    lone ms holds l h = tt
+    lone : (ms : List Mark) → Holds g.few (here s) ms s.run.operands → Left g (here s) made s.run.control → (l : List Todo) → Ok g (here s) made ms l → LoneObjectAt g.table g.few g.source l s
+    lone ms holds n (piece.EnterNow m r ∷ (piece.CallOnNow k ∷ todo)) h = λ e. entered ms holds n r k todo h.0 h.1.0 e
+    lone ms holds n (piece.EnterNow m r ∷ (piece.CallUnwrittenNow k ∷ todo)) h = λ e. entered ms holds n r k todo h.0 h.1.0 e
+    lone ms holds n (piece.EnterNow m r ∷ todo) h = absurd h.0
+    lone ms holds n (piece.MadeNow ∷ todo) h = h.0
+    lone ms holds n (piece.SpawnNow r ∷ todo) h = h.0.1
+    lone ms holds n l h = tt
 
 pub law_lone_objects : LawLoneObjects
-law_lone_objects g calling s h = lone g calling s h.run.made h.run.this h.run.marks h.run.holds s.run.control h.run.ok
+law_lone_objects g calling s h = lone g calling s h.run.made h.run.this h.run.marks h.run.holds (left g (here s) h.run.made h.run.marks s.run.control h.run.ok) s.run.control h.run.ok

@@ -9,11 +9,11 @@ use Rattle.uc_machine.specs.Pieces as piece
 use Rattle.uc_machine.specs.Pieces.{FieldAt, Value, Todo, Sort, Active, sort, further}
 use Rattle.uc_typing.specs.Typing.{Ty, Cell, Obj, Table}
 use Rattle.uc_state_laws.specs.RoomStacks.{Stack}
-use Rattle.uc_life_laws.specs.Things.{Within, AtVariable, AtField, Nowhere, IsFor, Marks, InTodo, Stands, Variables}
+use Rattle.uc_life_laws.specs.Things.{Few, Within, AtVariable, AtField, Nowhere, IsFor, Marks, InTodo, Stands, Variables}
 use Rattle.uc_life_laws.specs.Marks.{Marked}
 use Rattle.uc_life_laws.specs.Ending.{OfField}
 use Rattle.uc_putting_laws.specs.CleanedSpots.{HoldsObjects, LiesInClass, Reach, reach_of}
-use Rattle.uc_putting_laws.specs.ObjectsAtHand.{same_place, further_on, LiesIn, BelongsBelow, variable, OwnMarked}
+use Rattle.uc_putting_laws.specs.ObjectsAtHand.{same_place, further_on, LiesIn, BelongsBelow, in_object, variable, OwnMarked, lets_go, IsBuilt}
 use Rattle.uc_putting_laws.specs.Seats.{IsSeated}
 use Rattle.uc_putting_laws.specs.Calling.{CleansBy}
 use Rattle.uc_putting_laws.specs.Putting.{Setting, Around, around, CodeScope, LeftBy, Ok, Left}
@@ -93,6 +93,17 @@ module _ (g : Setting) (A : Around) (made : Reach) where
   fields_in [] w a k m = absurd m
   fields_in (p ∷ todo) w a k m = by_sort (sort p) todo (Left g A made todo) (Ok g A made [] todo) _ w a k (fields_in todo w a (left_tail g A made p todo k)) m
 
+  -- so does one in which a scope is still to be left that lets go of the mutex object at hand
+  pub lets_builds : (todo : List Todo) → Left g A made todo → lets_go todo ≡ true → made.builds ≡ true
+  lets_builds [] k e = absurd (cc)
+  lets_builds (piece.Clean src.Ends ∷ todo) k e = k.0
+  lets_builds (piece.Clean (src.Frees r) ∷ todo) k e = k.0.2
+  lets_builds (p ∷ todo) k e = lets_builds todo (left_tail g A made p todo k) e
+
+-- the home of an object that is the execution's own
+pub home_below : (few : Few) (n : Exec) (d o : ℕ) → BelongsBelow few n d (piece.Object o) → BelongsBelow few n d (few.home o)
+home_below few n d o (in_object h) = h
+
 -- frames lie within the stack
 abbrev pub FramesWithin : List Active → Type 0
 FramesWithin [] = Unit {0}
@@ -123,14 +134,25 @@ module _ (g : Setting) (n : Exec) where
   own_below (c ∷ older) h k w a (inr m) =
       below_more g.few n (length older) (length (c ∷ older)) (omega arith) w (own_below older h.1 k.1 w a m)
 
+  -- and so is what activations build or destroy
+  pub built_below : (cs : List Active) → AllLeft g n cs → FramesWithin cs → (o : ℕ) → IsBuilt cs o → BelongsBelow g.few n (length cs) (g.few.home o)
+  built_below [] h k o m = absurd m
+  built_below (c ∷ older) h k o (inl m) =
+      let low = k.0 in
+      below_more g.few n c.frame (length (c ∷ older)) (omega (arith, low)) (g.few.home o) (home_below g.few n c.frame o (subst (BelongsBelow g.few n c.frame) m.0 (h.0.seat.own (lets_builds g (around n c older) h.0.made c.control h.0.rest m.1))))
+  built_below (c ∷ older) h k o (inr m) =
+      below_more g.few n (length older) (length (c ∷ older)) (omega arith) (g.few.home o) (built_below older h.1 k.1 o m)
+
 -- where no one waits nothing is to be cleaned up
 pub first_seat : (g : Setting) (n : Exec) (frame : ℕ) (this : Value) (o : Option ℕ) → IsSeated g.table g.source g.special g.few (reach_of false o) n [] frame None this
 first_seat g n frame this o = record {
   own = λ q. absurd (cc);
   alone = λ q. absurd (cc);
+  free = λ q. absurd (cc);
+  built = λ o m. absurd m;
   spare = λ k v e i st. absurd (none frame k v e i st);
   after = tt;
-  beyond = λ f q. record { cell = 0; spare = λ k v e i st. absurd (none f k v e i st); past = λ h. absurd h; code = tt };
+  beyond = λ f q. record { cell = 0; spare = λ k v e i st. absurd (none f k v e i st); past = λ h. absurd h; held = λ q. absurd (cc); built = λ o m. absurd m; code = tt };
 }
   where
     none : (f k : ℕ) (v : Value) (e : ℕ) → LiesIn g.few (variable n f k) v → Stands g.table g.few (OwnMarked g.table n []) (Cell (Obj e)) v → ⊥

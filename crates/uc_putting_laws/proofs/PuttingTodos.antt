@@ -182,7 +182,7 @@ module _ (g : Setting) where
     outermost_past (Some (OfField s i)) w todo h = (tt, h)
 
     scope_past : (c : CleanUp) (w : Way) (todo : List Todo) → CodeScope g A made c todo → CodeScope g A made c (piece.Exit w ∷ todo)
-    scope_past src.Ends w todo n = tt
+    scope_past src.Ends w todo n = n
     scope_past (src.Frees r) w todo n = n
     scope_past c w todo n = (n.0, n.1, outermost_past (spot_of c) w todo n.2, n.3)
 
@@ -302,7 +302,7 @@ module _ (g : Setting) where
 
     -- the scope of a statement within others
     pub scope_more : (c : CleanUp) (todo : List Todo) → CountedClean g.source c → CleansBy g.table g.source g.special (apart made) c → CodeScope g A made c todo
-    scope_more src.Ends todo n k = tt
+    scope_more src.Ends todo n k = absurd k
     scope_more (src.Frees r) todo n k = absurd k
     scope_more c todo n k = (n, cleans_more g.table g.source g.special (apart made) made (apart_wide made) c k, apart_outermost g.table g.source g.special made c todo k, apart_class g.table g.source g.special made made.class c k)
 

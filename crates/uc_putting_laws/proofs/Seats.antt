@@ -1,21 +1,39 @@
 -- In which frames fields stand that an activation and those before it have to clean up, and what handlers a search finds there.
-use Rattle.std.proofs.Common.{◌≡◌, ℕ, ◌<◌, inl, inr, Bool, true, false, List, [], ◌∷◌, None, refl, sym, subst, arith}
+use Rattle.std.proofs.Common.{◌≡◌, ℕ, ◌<◌, ◌≤◌, inl, inr, Bool, true, false, List, [], ◌∷◌, None, refl, sym, subst, arith}
 use Rattle.std.specs.Prelude.{nat_eq}
 use Rattle.std.proofs.lemmas.Bool.{eqb-true, eq-eqb}
 use Rattle.uc_machine.specs.declared.exec.Exec.{Exec}
-use Rattle.uc_machine.specs.Pieces.{Link, Slot, FieldAt, Value, Active, further}
+use Rattle.uc_machine.specs.declared.exec.Owner.TheVariants.{Fields}
+use Rattle.uc_machine.specs.Pieces.{Link, Slot, FieldAt, Value, Number, Place, Running, Object, Nothing, Active, further}
 use Rattle.uc_typing.specs.Typing.{Ty, Cell, Obj}
-use Rattle.uc_life_laws.specs.Things.{Stands, lies}
-use Rattle.uc_putting_laws.specs.CleanedSpots.{HoldsObjects, Reach}
-use Rattle.uc_putting_laws.specs.ObjectsAtHand.{same_place, further_on, LiesUnder, LiesIn, there, variable, OwnMarked}
+use Rattle.uc_life_laws.specs.Things.{Few, Stands, lies}
+use Rattle.uc_life_laws.specs.Ending.{Spot, OfVariable, OfField}
+use Rattle.uc_putting_laws.specs.CleanedSpots.{HoldsObjects, Reach, IsOf}
+use Rattle.uc_putting_laws.specs.ObjectsAtHand.{OwnedBy, BelongsBelow, same_place, further_on, LiesUnder, LiesIn, there, variable, OwnMarked, lets_go, IsBuilt}
 use Rattle.uc_putting_laws.specs.Seats.{Searched, IsSeated}
-use Rattle.uc_putting_laws.specs.Putting.{Setting, around, Left}
-use Rattle.uc_putting_laws.proofs.ObjectsWithin.{Outermost, outermost, within_under, under_below, in_below, not_below}
+use Rattle.uc_putting_laws.specs.Putting.{Setting, Around, around, spot_at, Left}
+use Rattle.uc_putting_laws.proofs.ObjectsWithin.{Outermost, outermost, within_under, under_below, in_below, not_below, owned_further, no_circle, below_own}
 use Rattle.uc_putting_laws.proofs.Searches.{guards_left}
-use Rattle.uc_putting_laws.proofs.OwnMarks.{fields_in}
+use Rattle.uc_putting_laws.proofs.OwnMarks.{fields_in, lets_builds, home_below}
 
 no_both : {A : Type 0} (b : Bool) → b ≡ true → b ≡ false → A
 no_both b h k = absurd (cc)
+
+-- a place is no object
+further_place : (l : Link) (v : Value) (o : ℕ) → further l v ≡ Object o → ⊥
+further_place l (Number z) o e = absurd (cc)
+further_place l (Place q p) o e = absurd (cc)
+further_place l (Running x) o e = absurd (cc)
+further_place l (Object q) o e = absurd (cc)
+further_place l Nothing o e = absurd (cc)
+
+pub no_object : (few : Few) (A : Around) (p : Spot) (v : Value) (o : ℕ) → LiesUnder (spot_at few A p) v → v ≡ Object o → ⊥
+no_object few A (OfVariable k) v o same_place e = absurd (cc)
+no_object few A (OfField h i) v o same_place e = further_place (FieldAt h i) A.this o e
+no_object few A p v o (further_on {v = w} l u) e = further_place l w o e
+
+pub same_object : (o q : ℕ) → Object o ≡ Object q → o ≡ q
+same_object o q e = cc
 
 module _ (g : Setting) (n : Exec) (a : Active) (older : List Active) (made : Reach) (this : IsSeated g.table g.source g.special g.few made n older a.frame a.handles a.this) (left : Left g (around n a older) made a.control) where
   abbrev Own : Value → Ty → Type 0
@@ -27,12 +45,39 @@ module _ (g : Setting) (n : Exec) (a : Active) (older : List Active) (made : Rea
     pub cell : ℕ
     pub spare : (k : ℕ) (v : Value) (e : ℕ) → LiesIn g.few (variable n f k) v → Stands g.table g.few (OwnMarked g.table n (a ∷ older)) (Cell (Obj e)) v → k < cell
     pub past : made.builds ≡ true → HoldsObjects g.table made.class → (k : ℕ) (l : Link) (v : Value) → LiesIn g.few (variable n f k) v → LiesIn g.few (further l a.this) v → k < cell
+    pub built : (o : ℕ) → IsBuilt (a ∷ older) o → (k : ℕ) → LiesIn g.few (variable n f k) (g.few.home o) → k < cell
     pub code : Searched g.table g.source g.special cell None f (a ∷ older)
 
   -- nothing of the object at hand lies in the frame of the activation
   not_here : made.builds ≡ true → (k : ℕ) (l : Link) (v : Value) → LiesIn g.few (variable n a.frame k) v → LiesIn g.few (further l a.this) v → ⊥
   not_here b k l v i j =
       not_below g.few n a.frame a.frame (Slot k ∷ []) (omega arith) v i (in_below g.few n a.frame (further l a.this) v j (under_below g.few n a.frame a.this (further l a.this) (further_on l same_place) (this.own b)))
+
+  -- nor is the object at hand at home there, nor in its own fields
+  own_home : (o : ℕ) → a.this ≡ Object o → made.builds ≡ true → BelongsBelow g.few n a.frame (g.few.home o)
+  own_home o e b = home_below g.few n a.frame o (subst (BelongsBelow g.few n a.frame) e (this.own b))
+
+  not_at_home : (o : ℕ) → a.this ≡ Object o → made.builds ≡ true → (k : ℕ) → LiesIn g.few (variable n a.frame k) (g.few.home o) → ⊥
+  not_at_home o e b k i =
+      not_below g.few n a.frame a.frame (Slot k ∷ []) (omega arith) (g.few.home o) i (own_home o e b)
+
+  not_in_fields : (o : ℕ) → a.this ≡ Object o → made.builds ≡ true → (l : Link) → LiesIn g.few (further l a.this) (g.few.home o) → ⊥
+  not_in_fields o e b l i =
+      no_circle g.few n (further l a.this) o (subst (λ v. OwnedBy (Fields o) (further l v)) (sym e) (owned_further (Fields o) l (Object o) refl)) i (g.few.home o) (below_own g.few n a.frame (g.few.home o) (own_home o e b)) i
+
+  lets : lets_go a.control ≡ true → made.builds ≡ true
+  lets e = lets_builds g (around n a older) made a.control left e
+
+  -- so nothing that the activation or an older one builds or destroys is at home at a spot that it may name
+  pub spot_free : (p : Spot) → IsOf made p → (o : ℕ) → IsBuilt (a ∷ older) o → LiesIn g.few (spot_at g.few (around n a older) p) (g.few.home o) → ⊥
+  spot_free (OfVariable k) i o (inl m) l = not_at_home o m.0 (lets m.1) k l
+  spot_free (OfVariable k) i o (inr m) l = let c : k < made.low = this.built o m k l in let d : made.low ≤ k = i in omega (arith, c, d)
+  spot_free (OfField h j) i o (inl m) l = not_in_fields o m.0 i (FieldAt h j) l
+  spot_free (OfField h j) i o (inr m) l = this.free i o m (FieldAt h j) l
+
+  pub frame_built : (o : ℕ) → IsBuilt (a ∷ older) o → (k : ℕ) → LiesIn g.few (variable n a.frame k) (g.few.home o) → k < made.low
+  frame_built o (inl m) k l = absurd (not_at_home o m.0 (lets m.1) k l)
+  frame_built o (inr m) k l = this.built o m k l
 
   -- a field of it that is to be cleaned up
   abbrev Top : ℕ → ℕ → Type 0
@@ -56,6 +101,7 @@ module _ (g : Setting) (n : Exec) (a : Active) (older : List Active) (made : Rea
     cell = made.low;
     spare = λ k v e i st. frame_spare k v e i st;
     past = λ b h k l v i j. absurd (not_here b k l v i j);
+    built = λ o m k l. frame_built o m k l;
     code = (λ e. guards_left g (around n a older) made a.control left, this.after);
   }
 
@@ -64,6 +110,7 @@ module _ (g : Setting) (n : Exec) (a : Active) (older : List Active) (made : Rea
     cell = (this.beyond f ne).cell;
     spare = λ k v e i st. by k (outermost g.few n g.table f (Slot k ∷ []) (OwnMarked g.table n (a ∷ older)) v e i st);
     past = λ b h k l v i j. (this.beyond f ne).past h k l v i j;
+    built = λ o m k l. other o m k l;
     code = (λ e. absurd (ne (sym e)), (this.beyond f ne).code);
   }
     where
@@ -73,6 +120,10 @@ module _ (g : Setting) (n : Exec) (a : Active) (older : List Active) (made : Rea
           let u : LiesUnder (further (FieldAt x.shape x.number) a.this) o.place = subst (λ y. LiesUnder y o.place) x.at (within_under g.table o.thing o.type o.place (Cell (Obj o.class)) o.within) in
           (this.beyond f ne).past (x.holds o.place o.class o.within) k (FieldAt x.shape x.number) o.place o.in_it (there u)
       of k o (inr m) = (this.beyond f ne).spare k o.place o.class o.in_it (lies m o.within)
+
+      other : (o : ℕ) → IsBuilt (a ∷ older) o → (k : ℕ) → LiesIn g.few (variable n f k) (g.few.home o) → k < (this.beyond f ne).cell
+      other o (inl m) k l = (this.beyond f ne).held (lets m.1) o m.0 k l
+      other o (inr m) k l = (this.beyond f ne).built o m k l
 
       by : (k : ℕ) → Top f k → k < (this.beyond f ne).cell
       by k o = of k o o.is

@@ -1,5 +1,5 @@
 -- A quiet step of a state in which what is called is the execution's own leads to one.
-use Rattle.std.proofs.Common.{◌≡◌, ℕ, zero, suc, ◌<◌, ◌≤◌, ◌⊎◌, inl, inr, Bool, true, false, List, [], ◌∷◌, length, drop, Option, Some, None, refl, sym, ap, subst, arith}
+use Rattle.std.proofs.Common.{◌≡◌, ℕ, zero, suc, ◌<◌, ◌≤◌, ◌⊎◌, inl, inr, Bool, true, false, List, [], ◌∷◌, length, drop, Option, Some, None, refl, sym, ap, ◌∙◌, subst, arith}
 use Rattle.std.specs.Prelude.{nat_eq, nat_lt}
 use Rattle.std.proofs.lemmas.Bool.{eqb-true, eq-eqb}
 use Rattle.uc_tree.specs.declared.limits.TheConstants.{CALLS}
@@ -28,12 +28,12 @@ use Rattle.uc_life_laws.specs.Ending.{Spot, OfVariable, OfField}
 use Rattle.uc_place_laws.proofs.AsideKeeping as kept
 use Rattle.uc_place_laws.proofs.AsideKeeping.{either}
 use Rattle.uc_putting_laws.specs.CleanedSpots.{Site, One, Each, Under, site_spot, AnySite, AnyPlace, HasSome, spot_of, HoldsObjects, MayHold, LiesInClass, Reach, reach_of, from_variable, apart, IsOf, IsIn, AllBelow, IsOutermost, Ascends}
-use Rattle.uc_putting_laws.specs.ObjectsAtHand.{LiesUnder, same_place, further_on, LiesIn, there, BelongsBelow, in_object, OwnMarked, NoneWithin}
+use Rattle.uc_putting_laws.specs.ObjectsAtHand.{LiesUnder, same_place, further_on, LiesIn, there, BelongsBelow, in_object, OwnMarked, NoneWithin, IsBuilt}
 use Rattle.uc_putting_laws.specs.Seats.{Searched, Beyond, IsSeated}
 use Rattle.uc_putting_laws.specs.Calling.{opens_object, opens_at, is_opening, PlainNew, Binds, PlaceAt, CallsAt, MakesAt, MakesEach, EndsAt, EndsEach, EndsNumber, CleansBy}
 use Rattle.uc_putting_laws.specs.Putting.{Setting, Around, around, IsHome, Mark, Any, At, Homed, rest, rests, anys, FirstUnder, FirstAt, FirstHome, IsEnding, OfObjects, OpensRest, Located, Enters, Loads, spot_at, StandsAt, HomedAt, Holds, BehindBy, SeatAt, Counts, Plain, CodeStmt, CodeStmts, CodeHandlers, CodeSweep, CodeSpine, CodeRest, CodeScope, CodeRoutine, made_marks, LeftBy, Ok, Left, Finds, Runs, Waits, PutState, PutStep}
 use Rattle.uc_putting_laws.proofs.CleanedSpots.{apart_outermost, apart_class, next_mark}
-use Rattle.uc_putting_laws.proofs.ObjectsWithin.{in_under, in_object_home, below_own, below_more, not_standing}
+use Rattle.uc_putting_laws.proofs.ObjectsWithin.{in_under, in_object_home, below_own, below_more, not_below, not_standing}
 use Rattle.uc_putting_laws.proofs.VariableMarks.{variable_one}
 use Rattle.uc_putting_laws.proofs.Searches as searches
 use Rattle.uc_putting_laws.proofs.Searches.{FoundCode, PathOf}
@@ -41,7 +41,7 @@ use Rattle.uc_putting_laws.proofs.Seats as seats
 use Rattle.uc_putting_laws.proofs.Seats.{RoundIn}
 use Rattle.uc_putting_laws.proofs.Marks as marks
 use Rattle.uc_putting_laws.proofs.Marks.{place_plain, holds_below, holds_drop, holds_anys, rests_anys, drop_set, set_top, stands_under, under_spot, stands_some, site_there, OfIndex, waits_left}
-use Rattle.uc_putting_laws.proofs.OwnMarks.{FramesWithin, frames_below, own_below, first_seat}
+use Rattle.uc_putting_laws.proofs.OwnMarks.{FramesWithin, frames_below, own_below, built_below, first_seat}
 use Rattle.uc_putting_laws.proofs.PuttingTodos as todos
 
 no_both : {A : Type 0} (b : Bool) → b ≡ true → b ≡ false → A
@@ -217,7 +217,7 @@ module _ (g : Setting) where
 
     -- those of a constructor or a destructor, which puts marks for fields in order
     own_scope : (c : CleanUp) (todo : List Todo) → CountedClean g.source c → CleansBy g.table g.source g.special made c → IsOutermost (spot_of c) todo → LiesInClass g.table made.class c → CodeScope g (here s) made c todo
-    own_scope src.Ends todo n k o l = tt
+    own_scope src.Ends todo n k o l = absurd k
     own_scope (src.Frees r) todo n k o l = absurd k
     own_scope c todo n k o l = (n, k, o, l)
 
@@ -240,8 +240,8 @@ module _ (g : Setting) where
     rest_of (src.Then a ss) todo (inr (inl n)) h = anew _ _ ((n.0.0.0, n.0.1.0), (inr (inl ((n.0.0.1, n.0.1.1), n.1, n.2)), h))
     rest_of (src.Scoped c ss) todo (inr (inl n)) h = own_scoped c ss todo n h
     rest_of (src.Built c ss) todo (inr (inl n)) h = own_built c ss todo n h
-    rest_of (src.Scoped src.Ends ss) todo (inr (inr n)) h = anew _ _ (inr (inl ((n.1.1, n.2.0), (0, (tt, n.3), n.2.1), n.5.1)), (tt, h))
-    rest_of (src.Scoped (src.Frees r) ss) todo (inr (inr n)) h = anew _ _ (inr (inl ((n.1.1, n.2.1), (0, (tt, n.3), n.2.2), n.5.1)), ((n.2.0, n.4), h))
+    rest_of (src.Scoped src.Ends ss) todo (inr (inr n)) h = anew _ _ (inr (inl ((n.1.1, n.2.0), (0, (tt, n.3), n.2.1), n.5.1)), (n.0, h))
+    rest_of (src.Scoped (src.Frees r) ss) todo (inr (inr n)) h = anew _ _ (inr (inl ((n.1.1, n.2.1), (0, (tt, n.3), n.2.2), n.5.1)), ((n.2.0, n.4, n.0), h))
     rest_of ss todo (inr (inr n)) h = absurd n.2
 
     pub land : (o : Option UnwindReason) (ms : List Mark) (todo : List Todo) → H ms s.run.operands → O ms todo → PutStep g (quiet.land_step o todo s)
@@ -273,12 +273,16 @@ module _ (g : Setting) where
         this = record {
           own = λ q. absurd (cc);
           alone = λ q. absurd (cc);
+          free = λ q. absurd (cc);
           spare = (rounds f.frame).spare;
+          built = (rounds f.frame).built;
           after = y.path (rounds f.frame).cell f.frame (rounds f.frame).code;
           beyond = λ d q. record {
             cell = (rounds d).cell;
             spare = (rounds d).spare;
             past = λ h. absurd h;
+            held = λ q. absurd (cc);
+            built = (rounds d).built;
             code = y.path (rounds d).cell d (rounds d).code;
           };
         };
@@ -588,6 +592,7 @@ module _ (g : Setting) where
         own : b ≡ true → BelongsBelow g.few s.env.exec (length s.env.frames) v
         alone : b ≡ true → NoneWithin g.table g.few (Outward g.table s.env.exec s.run.frame s.run.this s.callers todo) v
         lone : b ≡ true → opens_object x.body ≡ true → LoneIn (piece.object_in v) todo
+        free : b ≡ true → L todo → (vs : List Value) (q : ℕ) → IsBuilt (Waiting todo vs ∷ s.callers) q → (k : Link) → LiesIn g.few (piece.further k v) (g.few.home q) → ⊥
         beyond : L todo → (vs : List Value) (f : ℕ) → SeatBeyond b o v todo vs f
 
       -- the frame is one of those of the execution
@@ -615,6 +620,8 @@ module _ (g : Setting) where
         cell = (rounds todo vs l f).cell;
         spare = (rounds todo vs l f).spare;
         past = λ h. absurd h;
+        held = λ q. absurd (cc);
+        built = (rounds todo vs l f).built;
         code = (rounds todo vs l f).code;
       }
 
@@ -622,14 +629,20 @@ module _ (g : Setting) where
       abbrev LiesAt : Spot → Value → Type 0
       LiesAt p v = (k : Link) (w : Value) → LiesIn g.few (piece.further k v) w → LiesIn g.few (spot_at g.few (here s) p) w
 
-      beyond_at : (b : Bool) (o : Option ℕ) (x : Site) (p : Spot) (v : Value) (todo : List Todo) → BehindBy g (here s) made todo p x → IsOf made p → (HoldsObjects g.table o → MayHold g.table x) → HasSome x → LiesAt p v → L todo → (vs : List Value) (f : ℕ) → SeatBeyond b o v todo vs f
-      beyond_at b o x (OfVariable j) v todo y i may some lies l vs f = by (nat_eq f s.run.frame) refl
+      -- and so does the home of a mutex object
+      abbrev HomeAt : Site → Spot → Value → Type 0
+      HomeAt x p v = (q : ℕ) → v ≡ Object q → MayHold g.table x × LiesIn g.few (spot_at g.few (here s) p) (g.few.home q)
+
+      beyond_at : (b : Bool) (o : Option ℕ) (x : Site) (p : Spot) (v : Value) (todo : List Todo) → BehindBy g (here s) made todo p x → IsOf made p → (HoldsObjects g.table o → MayHold g.table x) → HasSome x → LiesAt p v → HomeAt x p v → L todo → (vs : List Value) (f : ℕ) → SeatBeyond b o v todo vs f
+      beyond_at b o x (OfVariable j) v todo y i may some lies at l vs f = by (nat_eq f s.run.frame) refl
         where
           own_frame : SeatBeyond b o v todo vs s.run.frame
           own_frame = record {
             cell = y.0;
             spare = λ k w e q st. let a : k < made.low = seats.frame_spare g s.env.exec (Waiting todo vs) s.callers made this l k w e q st in let c : made.low ≤ y.0 = y.1 in omega (arith, a, c);
             past = λ h k m w q u. let a : k ≡ j = (variable_one g.few s.env.exec s.run.frame k s.run.frame j w q (lies m w u)).1 in let c : j < y.0 = y.4 (may (class_of b o h)) some in omega (arith, a, c);
+            held = λ h q e k w. let z = at q e in let a : k ≡ j = (variable_one g.few s.env.exec s.run.frame k s.run.frame j (g.few.home q) w z.1).1 in let c : j < y.0 = y.4 z.0 some in omega (arith, a, c);
+            built = λ q m k w. let a : k < made.low = seats.frame_built g s.env.exec (Waiting todo vs) s.callers made this l q m k w in let c : made.low ≤ y.0 = y.1 in omega (arith, a, c);
             code = (λ e. y.2, y.3);
           }
 
@@ -638,16 +651,20 @@ module _ (g : Setting) where
             cell = (rounds todo vs l f).cell;
             spare = (rounds todo vs l f).spare;
             past = λ h k m w q u. absurd (ne (variable_one g.few s.env.exec f k s.run.frame j w q (lies m w u)).0);
+            held = λ h q e k w. absurd (ne (variable_one g.few s.env.exec f k s.run.frame j (g.few.home q) w (at q e).1).0);
+            built = (rounds todo vs l f).built;
             code = (rounds todo vs l f).code;
           }
 
           by : (c : Bool) → nat_eq f s.run.frame ≡ c → SeatBeyond b o v todo vs f
           by true e = subst (SeatBeyond b o v todo vs) (sym (eqb-true f s.run.frame e)) own_frame
           by false e = other (λ q. no_both (nat_eq f s.run.frame) (eq-eqb f s.run.frame q) e)
-      beyond_at b o x (OfField h j) v todo y i may some lies l vs f = record {
+      beyond_at b o x (OfField h j) v todo y i may some lies at l vs f = record {
         cell = (rounds todo vs l f).cell;
         spare = (rounds todo vs l f).spare;
         past = λ c k m w q u. (rounds todo vs l f).past i (y (may (class_of b o c)) some) k (piece.FieldAt h j) w q (lies m w u);
+        held = λ c q e k w. let z = at q e in (rounds todo vs l f).past i (y z.0 some) k (piece.FieldAt h j) (g.few.home q) w z.1;
+        built = (rounds todo vs l f).built;
         code = (rounds todo vs l f).code;
       }
 
@@ -656,7 +673,8 @@ module _ (g : Setting) where
         own = λ q. under_spot g.few (here s) made this.own (length s.env.frames) (below_next z) p i v u.1;
         alone = λ q k w c h. l.0 w c (in_under g.few (spot_at g.few (here s) p) (piece.further k v) (further_on k u.1) w h);
         lone = λ q o. no_both (opens_object x.body) o e;
-        beyond = beyond_at b o (Under o n p) p v todo l.1 i (λ h. h) u.0 (λ k w h. in_under g.few (spot_at g.few (here s) p) (piece.further k v) (further_on k u.1) w h);
+        free = λ q c vs d m k w. seats.spot_free g s.env.exec (Waiting todo vs) s.callers made this c p i d m (in_under g.few (spot_at g.few (here s) p) (piece.further k v) (further_on k u.1) (g.few.home d) w);
+        beyond = beyond_at b o (Under o n p) p v todo l.1 i (λ h. h) u.0 (λ k w h. in_under g.few (spot_at g.few (here s) p) (piece.further k v) (further_on k u.1) w h) (λ d q. absurd (seats.no_object g.few (here s) p v d u.1 q));
       }
 
       holds_some : (y : Site) → OfObjects y → MayHold g.table y
@@ -677,12 +695,13 @@ module _ (g : Setting) where
             own = λ q. subst (BelongsBelow g.few s.env.exec (length s.env.frames)) (sym h.2.object) (in_object below);
             alone = λ q. subst (NoneWithin g.table g.few (Outward g.table s.env.exec s.run.frame s.run.this s.callers todo)) (sym h.2.object) none;
             lone = λ q e. subst (λ w. LoneIn (piece.object_in w) todo) (sym h.2.object) lone;
-            beyond = beyond_at b c y p v todo l.1 i (λ h. holds_some y m) (stands_some g.few (here s) y h.0 h.1) lies;
+            free = λ q n vs d t k w. seats.spot_free g s.env.exec (Waiting todo vs) s.callers made this n p i d t (lies k (g.few.home d) w);
+            beyond = beyond_at b c y p v todo l.1 i (λ h. holds_some y m) (stands_some g.few (here s) y h.0 h.1) lies (λ d q. (holds_some y m, subst (λ (x : ℕ). LiesIn g.few (spot_at g.few (here s) p) (g.few.home x)) (seats.same_object o d (sym h.2.object ∙ q)) (there u)));
           }
 
       no_finding : (b : Bool) (o : Option ℕ) (x : Routine) (v : Value) (todo : List Todo) → b ≡ false → Finding b o x v todo
       no_finding b o x v todo e =
-          record { own = λ q. no_both b q e; alone = λ q. no_both b q e; lone = λ q o. no_both b q e; beyond = plain_beyond b o v todo e }
+          record { own = λ q. no_both b q e; alone = λ q. no_both b q e; lone = λ q o. no_both b q e; free = λ q. no_both b q e; beyond = plain_beyond b o v todo e }
 
       finding : (z : InFrames) (b : Bool) (o : Option ℕ) (x : Routine) (todo : List Todo) → FitsFor b o (Some x) todo → Finding b o x (top (drop x.params s.run.operands)) todo
       finding z b o x todo (inl e) = no_finding b o x (top (drop x.params s.run.operands)) todo e
@@ -698,7 +717,9 @@ module _ (g : Setting) where
       next_seat z b o x v ns todo vs h f = record {
         own = f.own;
         alone = f.alone;
+        free = λ q. f.free q (gone (Any ∷ ns) todo h) vs;
         spare = λ k w e i st. absurd (not_standing g.few s.env.exec g.table (length s.env.frames) (piece.Slot k ∷ []) (OwnMarked g.table s.env.exec round) below _ w i st);
+        built = λ q m k w. absurd (not_below g.few s.env.exec (length s.env.frames) (length s.env.frames) (piece.Slot k ∷ []) (omega arith) (g.few.home q) w (let c = z.count in below_more g.few s.env.exec (length round) (length s.env.frames) (omega (arith, c)) (g.few.home q) (built_below g s.env.exec round (record { made = made; rest = gone (Any ∷ ns) todo h; seat = this }, waits_left g s.env.exec s.callers callers) (z.low, z.within) q m)));
         after = searches.fresh g.table g.source g.special 0 None (length s.env.frames) round (frames_below (length s.env.frames) round (let c = z.count in omega (arith, c)) (z.low, z.within));
         beyond = λ d q. f.beyond (gone (Any ∷ ns) todo h) vs d;
       }

@@ -1,5 +1,5 @@
 -- Objects that have been built, and objects that are entered to be destroyed: each is at home in what is the execution's own, and nothing that is still to be
--- cleaned up stands around it.
+-- cleaned up stands around it; and what is entered to be destroyed no activation of the execution builds or destroys.
 use Rattle.std.specs.Prelude.{◌≡◌, true, List, ◌∷◌}
 use Rattle.uc_tree.specs.Source.{Source}
 use Rattle.uc_machine.specs.Monitors.{this_object}
@@ -10,11 +10,13 @@ use Rattle.uc_depth_laws.specs.Owing.{entering}
 use Rattle.uc_life_laws.specs.Things.{Few}
 use Rattle.uc_life_laws.specs.Ending.{LoneBefore}
 use Rattle.uc_putting_laws.specs.Calling.{CallingSource}
+use Rattle.uc_putting_laws.specs.ObjectsAtHand.{IsBuilt}
 use Rattle.uc_putting_laws.specs.Putting.{Setting, PutState}
 
 module _ (t : Table) (few : Few) (source : Source) where
   abbrev pub LoneObjectAt : List Todo → State → Type 0
-  LoneObjectAt (EnterNow m r ∷ todo) s = is_ending source r ≡ true → LoneBefore t few (entering source r s) todo s
+  LoneObjectAt (EnterNow m r ∷ todo) s = is_ending source r ≡ true →
+      LoneBefore t few (entering source r s) todo s × (IsBuilt (s.run ∷ s.callers) (entering source r s) → ⊥)
   LoneObjectAt (MadeNow ∷ todo) s = LoneBefore t few (this_object s) todo s
   LoneObjectAt (SpawnNow r ∷ todo) s = LoneBefore t few (this_object s) todo s
   LoneObjectAt todo s = Unit {0}

@@ -234,10 +234,11 @@ module _ (g : Setting) where
   abbrev pub IsLone : Around → List Todo → Type 0
   IsLone A todo = Lone g.table g.few A.exec A.frame A.this A.older todo
 
-  -- a scope; of that in which the mutex object at hand is built its main is told, and that nothing is cleaned up around the object outwards of it
+  -- a scope; of that in which the mutex object at hand is built its main is told, and that nothing is cleaned up around the object outwards of it; there, and
+  -- where it is destroyed, the activation builds or destroys something
   abbrev pub CodeScope : Around → Reach → CleanUp → List Todo → Type 0
-  CodeScope A r Ends todo = Unit {0}
-  CodeScope A r (Frees q) todo = Begins g.table g.source g.special q × IsLone A todo
+  CodeScope A r Ends todo = (r.builds ≡ true)
+  CodeScope A r (Frees q) todo = Begins g.table g.source g.special q × IsLone A todo × (r.builds ≡ true)
   CodeScope A r c todo = CountedClean g.source c × CleansBy g.table g.source g.special r c × IsOutermost (spot_of c) todo ×
       LiesInClass g.table r.class c
 

@@ -4,13 +4,13 @@ use Rattle.std.specs.Prelude.{◌≡◌, ℕ, ◌<◌, Bool, true, false, List, 
 use Rattle.uc_tree.specs.Source.{Source}
 use Rattle.uc_machine.specs.declared.exec.Exec.{Exec}
 use Rattle.uc_machine.specs.declared.exec.Visited.{Visited}
-use Rattle.uc_machine.specs.Pieces.{Link, Value, further, Todo, Sort, sort, IsGuard, Active}
+use Rattle.uc_machine.specs.Pieces.{Link, Value, Object, further, Todo, Sort, sort, IsGuard, Active}
 use Rattle.uc_machine.specs.Raising.{within}
 use Rattle.uc_typing.specs.Typing.{Cell, Obj, Table}
 use Rattle.uc_life_laws.specs.Things.{Few, Stands}
 use Rattle.uc_life_laws.specs.Marks.{Marked}
 use Rattle.uc_putting_laws.specs.CleanedSpots.{HoldsObjects, Reach, from_variable}
-use Rattle.uc_putting_laws.specs.ObjectsAtHand.{LiesIn, BelongsBelow, variable, OwnMarked, NoneWithin}
+use Rattle.uc_putting_laws.specs.ObjectsAtHand.{LiesIn, BelongsBelow, variable, OwnMarked, NoneWithin, IsBuilt}
 use Rattle.uc_putting_laws.specs.Calling.{CallingHandlers}
 
 module _ (t : Table) (source : Source) (special : ℕ → Bool) where
@@ -36,23 +36,27 @@ module _ (t : Table) (source : Source) (special : ℕ → Bool) where
 
   module _ (few : Few) where
     -- in the frame f, of an activation of the execution n with this object, before these older ones: a variable behind all those in which a field stands
-    -- that older ones have to clean up, and behind that in which the object lies, where mutex objects may lie in that; and handlers that a search finds
-    -- which goes out from it name variables from that one on
+    -- that older ones have to clean up, or a mutex object that they build or destroy, and behind that in which the object lies, where mutex objects may lie
+    -- in that, or it is one itself; and handlers that a search finds which goes out from it name variables from that one on
     pub record Beyond (r : Reach) (n : Exec) (older : List Active) (handles : Option Visited) (this : Value) (f : ℕ) : Type 0 where
       pub cell : ℕ
       pub spare : (k : ℕ) (v : Value) (e : ℕ) → LiesIn few (variable n f k) v →
           Stands t few (OwnMarked t n older) (Cell (Obj e)) v → k < cell
       pub past : HoldsObjects t r.class → (k : ℕ) (l : Link) (v : Value) → LiesIn few (variable n f k) v →
           LiesIn few (further l this) v → k < cell
+      pub held : r.builds ≡ true → (o : ℕ) → this ≡ Object o → (k : ℕ) → LiesIn few (variable n f k) (few.home o) → k < cell
+      pub built : (o : ℕ) → IsBuilt older o → (k : ℕ) → LiesIn few (variable n f k) (few.home o) → k < cell
       pub code : Searched cell handles f older
 
-    -- of an activation of the execution n with this frame and this object, before these older ones: the object, where it builds or destroys that; that
-    -- variables of its frame in which a field stands that older ones have to clean up are none of those that it names, nor of those that handlers name
-    -- which a search finds there; and so it is in other frames
+    -- of an activation of the execution n with this frame and this object, before these older ones: the object, where it builds or destroys that, in which
+    -- older ones build and destroy nothing; that variables of its frame in which a field stands that older ones have to clean up, or a mutex object that
+    -- they build or destroy, are none of those that it names, nor of those that handlers name which a search finds there; and so it is in other frames
     pub record IsSeated (r : Reach) (n : Exec) (older : List Active) (frame : ℕ) (handles : Option Visited) (this : Value) : Type 0 where
       pub own : r.builds ≡ true → BelongsBelow few n frame this
       pub alone : r.builds ≡ true → NoneWithin t few (Marked t n older) this
+      pub free : r.builds ≡ true → (o : ℕ) → IsBuilt older o → (l : Link) → LiesIn few (further l this) (few.home o) → ⊥
       pub spare : (k : ℕ) (v : Value) (e : ℕ) → LiesIn few (variable n frame k) v →
           Stands t few (OwnMarked t n older) (Cell (Obj e)) v → k < r.low
+      pub built : (o : ℕ) → IsBuilt older o → (k : ℕ) → LiesIn few (variable n frame k) (few.home o) → k < r.low
       pub after : Searched r.low handles frame older
       pub beyond : (f : ℕ) → (f ≡ frame → ⊥) → Beyond r n older handles this f

@@ -32,7 +32,7 @@ use uc_coroutine::switching::{finish, leave_main, resume, suspend, take_down};
 use uc_coroutine::testing::{TaskMainEnd, end_block, end_call, end_task_main};
 use uc_coroutine::unwinding::unwind;
 use uc_entry::fault::RunFault;
-use uc_entry::request::{Asked, Request};
+use uc_entry::request::Request;
 use uc_except::found::Found;
 use uc_except::handling::{handle, throw};
 use uc_except::seeking::{catching_row, propagate};
@@ -41,6 +41,7 @@ use uc_frames::search::is_covered;
 use uc_frames::work::Work;
 use uc_machine::exec::UnwindReason;
 use uc_step::effect::Stop;
+use uc_step::slot::Slot;
 
 /// How a stop ends with what an event or a switch leads to by it: the task goes on, or it asks what is then written where a request was
 /// lent.
@@ -82,7 +83,7 @@ pub(crate) fn settle(
     code: &Code,
     work: &mut Work,
     stop: &Stop,
-    asked: &mut Asked,
+    asked: &mut Slot,
 ) -> Result<OpEnd, AllocError>
     requires paced { IsPaced (laid_of code.now) code.now.routines }
     requires below { (w : ℕ) × FallsBelow code.now w (stopping stop.now asked.old) work.old }
@@ -107,7 +108,7 @@ fn settle_stop(
     code: &Code,
     work: &mut Work,
     stop: &Stop,
-    asked: &mut Asked,
+    asked: &mut Slot,
 ) -> Result<OpEnd, AllocError>
     requires paced { IsPaced (laid_of code.now) code.now.routines }
     requires below { (w : ℕ) × FallsBelow code.now w (stopping stop.now asked.old) work.old }
@@ -137,7 +138,7 @@ fn settle_stop(
                 let end = unwinds(code, work, asked)?;
                 Ok(end)
             } else {
-                *asked = asks(code, 0, work, Request::End);
+                put_request(code, 0, work, asked, Request::End);
                 Ok(OpEnd::Asks)
             }
         }
@@ -149,14 +150,14 @@ fn settle_stop(
         }
         Stop::EndMain => Ok(settle_end(code, work, asked)),
         Stop::Astray => {
-            *asked = asks(code, 0, work, Request::End);
+            put_request(code, 0, work, asked, Request::End);
             Ok(OpEnd::Asks)
         }
     }
 }
 
 // Resumes the execution of the coroutine whose member runs; in a main, the one that runs, which is a fault.
-fn settle_resume(code: &Code, work: &mut Work, asked: &mut Asked) -> OpEnd
+fn settle_resume(code: &Code, work: &mut Work, asked: &mut Slot) -> OpEnd
     ensures source { (source : Source) (s : State) →
         Follow (laid_of code.now) source effect.Resume work.old s →
         Follow (laid_of code.now) source (how_settled result asked.new) work.new s }
@@ -169,7 +170,7 @@ fn settle_resume(code: &Code, work: &mut Work, asked: &mut Asked) -> OpEnd
 }
 
 // The running execution is suspended.
-fn settle_suspend(code: &Code, work: &mut Work, asked: &mut Asked) -> OpEnd
+fn settle_suspend(code: &Code, work: &mut Work, asked: &mut Slot) -> OpEnd
     ensures source { (source : Source) (s : State) →
         Follow (laid_of code.now) source effect.Suspend work.old s →
         Follow (laid_of code.now) source (how_settled result asked.new) work.new s }
@@ -182,7 +183,7 @@ fn settle_suspend(code: &Code, work: &mut Work, asked: &mut Asked) -> OpEnd
 }
 
 // The main of a coroutine ends.
-fn settle_end(code: &Code, work: &mut Work, asked: &mut Asked) -> OpEnd
+fn settle_end(code: &Code, work: &mut Work, asked: &mut Slot) -> OpEnd
     ensures source { (source : Source) (s : State) →
         Follow (laid_of code.now) source effect.EndMain work.old s →
         Follow (laid_of code.now) source (how_settled result asked.new) work.new s }
@@ -196,7 +197,7 @@ fn settle_end(code: &Code, work: &mut Work, asked: &mut Asked) -> OpEnd
 
 // What is asked behind the op of a switch, where that is a fault, in the line of the op before the next one, or of the newest call around it
 // that has one.
-fn switched(code: &Code, work: &Work, fault: Option<RunFault>, asked: &mut Asked) -> OpEnd
+fn switched(code: &Code, work: &Work, fault: Option<RunFault>, asked: &mut Slot) -> OpEnd
     ensures { how_settled result asked.new
         ≡ stop_by (behind_line (laid_of code.now) work.now) fault }
 {
@@ -204,17 +205,14 @@ fn switched(code: &Code, work: &Work, fault: Option<RunFault>, asked: &mut Asked
         None => OpEnd::On,
         Some(fault) => {
             let number = fault.number();
-            *asked = Asked {
-                request: Request::Fault { number },
-                line: work.line_behind(code),
-            };
+            asked.put(Request::Fault { number }, work.line_behind(code));
             OpEnd::Asks
         }
     }
 }
 
 // The handler begins that the event finds; where it finds none, it is thrown.
-fn raise(code: &Code, work: &mut Work, event: Event, asked: &mut Asked) -> Result<OpEnd, AllocError>
+fn raise(code: &Code, work: &mut Work, event: Event, asked: &mut Slot) -> Result<OpEnd, AllocError>
     requires paced { IsPaced (laid_of code.now) code.now.routines }
     requires below { (w : ℕ) × FallsBelow code.now w (effect.Raise event) work.old }
     ensures source { IfOk result (λ end. (source : Source) (s : State) → Lowered source code.now →
@@ -239,7 +237,7 @@ fn raise(code: &Code, work: &mut Work, event: Event, asked: &mut Asked) -> Resul
 }
 
 // Step after step, as long as it unwinds.
-fn unwinds(code: &Code, work: &mut Work, asked: &mut Asked) -> Result<OpEnd, AllocError>
+fn unwinds(code: &Code, work: &mut Work, asked: &mut Slot) -> Result<OpEnd, AllocError>
     requires paced { IsPaced (laid_of code.now) code.now.routines }
     requires below { (w : ℕ) × FallsBelow code.now w effect.Unwind work.old }
     ensures source { IfOk result (λ end. (source : Source) (s : State) → Lowered source code.now →
@@ -260,7 +258,7 @@ fn unwinds(code: &Code, work: &mut Work, asked: &mut Asked) -> Result<OpEnd, All
 
 // One step: a clean-up of the running activation begins, or the test at the end of a block or of a main is made; or the handler that catches
 // the event begins; or the activation is left.
-fn unwind_once(code: &Code, work: &mut Work, asked: &mut Asked) -> Result<UnwindEnd, AllocError>
+fn unwind_once(code: &Code, work: &mut Work, asked: &mut Slot) -> Result<UnwindEnd, AllocError>
     requires paced { IsPaced (laid_of code.now) code.now.routines }
     ensures source { IfOk result (λ after. (source : Source) (s : State) → Lowered source code.now →
         Unwinds (laid_of code.now) work.old s →
@@ -332,7 +330,7 @@ fn row_in(caught: Option<Caught>) -> Option<u32>
 }
 
 // What begins: a test ends the unwinding, or lets it go on; a clean-up is executed.
-fn begin(code: &Code, work: &mut Work, asked: &mut Asked) -> Result<UnwindEnd, AllocError>
+fn begin(code: &Code, work: &mut Work, asked: &mut Slot) -> Result<UnwindEnd, AllocError>
     requires paced { IsPaced (laid_of code.now) code.now.routines }
     ensures source { IfOk result (λ after. (source : Source) (s : State) → Lowered source code.now →
         Begins source (laid_of code.now) work.old s →
@@ -394,7 +392,7 @@ fn end_on(
     code: &Code,
     work: &mut Work,
     line: u32,
-    asked: &mut Asked,
+    asked: &mut Slot,
 ) -> Result<UnwindEnd, AllocError>
     requires { slice_get code.now.ops work.old.run.control
         ≡ Some (record { op = Op.Unhandled; line = line }) }
@@ -407,23 +405,23 @@ fn end_on(
     let end = end_task_main(work)?;
     match end {
         TaskMainEnd::Ended => {
-            *asked = asks(code, line, work, Request::End);
+            put_request(code, line, work, asked, Request::End);
             Ok(UnwindEnd::Asks)
         }
         TaskMainEnd::Returned => Ok(UnwindEnd::On),
         TaskMainEnd::Unhandled => {
-            *asked = faults(code, line, work, RunFault::Unhandled);
+            put_fault(code, line, work, asked, RunFault::Unhandled);
             Ok(UnwindEnd::Asks)
         }
         TaskMainEnd::HeldUp => {
-            *asked = faults(code, line, work, RunFault::BlockedInside);
+            put_fault(code, line, work, asked, RunFault::BlockedInside);
             Ok(UnwindEnd::Asks)
         }
     }
 }
 
 // The main of a coroutine that is unwound is left, by an op of this line: another execution goes on, or none can.
-fn leave_coroutine(code: &Code, work: &mut Work, line: u32, asked: &mut Asked) -> UnwindEnd
+fn leave_coroutine(code: &Code, work: &mut Work, line: u32, asked: &mut Slot) -> UnwindEnd
     requires { slice_get code.now.ops work.old.run.control
         ≡ Some (record { op = Op.Escape; line = line }) }
     ensures source { (source : Source) (s : State) → Lowered source code.now →
@@ -435,14 +433,14 @@ fn leave_coroutine(code: &Code, work: &mut Work, line: u32, asked: &mut Asked) -
     match leave_main(work) {
         None => UnwindEnd::On,
         Some(fault) => {
-            *asked = faults(code, line, work, fault);
+            put_fault(code, line, work, asked, fault);
             UnwindEnd::Asks
         }
     }
 }
 
 // The running activation, of which nothing is left, is left.
-fn leave_on(code: &Code, work: &mut Work, asked: &mut Asked) -> Result<UnwindEnd, AllocError>
+fn leave_on(code: &Code, work: &mut Work, asked: &mut Slot) -> Result<UnwindEnd, AllocError>
     ensures source { IfOk result (λ after. (source : Source) (s : State) →
         LeavesNow (laid_of code.now) work.old s →
         Follow (laid_of code.now) source (how_unwound after asked.new) work.new s) }
@@ -452,12 +450,12 @@ fn leave_on(code: &Code, work: &mut Work, asked: &mut Asked) -> Result<UnwindEnd
     let left = leave(work)?;
     match left {
         Left::Ended => {
-            *asked = asks(code, 0, work, Request::End);
+            put_request(code, 0, work, asked, Request::End);
             Ok(UnwindEnd::Asks)
         }
         Left::Returned => Ok(UnwindEnd::On),
         Left::Escaped => {
-            *asked = faults(code, 0, work, RunFault::EscapeInUnwind);
+            put_fault(code, 0, work, asked, RunFault::EscapeInUnwind);
             Ok(UnwindEnd::Asks)
         }
         Left::PassedOn => Ok(UnwindEnd::Still),
@@ -465,24 +463,23 @@ fn leave_on(code: &Code, work: &mut Work, asked: &mut Asked) -> Result<UnwindEnd
 }
 
 // The task asks, by an op of this line, or of the newest call around it that has one.
-fn asks(code: &Code, line: u32, work: &Work, request: Request) -> Asked
-    ensures { result ≡ record {
+fn put_request(code: &Code, line: u32, work: &Work, asked: &mut Slot, request: Request)
+    ensures { asked.new ≡ record {
       request = request;
       line = line_at code.now.ops line work.now.callers;
     } }
 {
-    let line = work.line(code, line);
-    Asked { request, line }
+    asked.put(request, work.line(code, line));
 }
 
 // A run fault, by an op of this line.
-fn faults(code: &Code, line: u32, work: &Work, fault: RunFault) -> Asked
-    ensures { result ≡ record {
+fn put_fault(code: &Code, line: u32, work: &Work, asked: &mut Slot, fault: RunFault)
+    ensures { asked.new ≡ record {
       request = ask.Fault
           (fault_number fault);
       line = line_at code.now.ops line work.now.callers;
     } }
 {
     let number = fault.number();
-    asks(code, line, work, Request::Fault { number })
+    put_request(code, line, work, asked, Request::Fault { number });
 }

@@ -20,12 +20,13 @@ use std::alloc::AllocError;
 use uc_code::code::Code;
 use uc_code::op::Op;
 use uc_code::rows::RoutineCode;
-use uc_entry::request::{Answer, Asked, Request};
+use uc_entry::request::{Answer, Request};
 use uc_frames::task::Task;
 use uc_frames::work::Work;
 use uc_fused::fused::Fused;
 use uc_outside::Gate;
 use uc_step::effect::Stop;
+use uc_step::slot::Slot;
 use uc_step::step::{answer as give, run};
 
 /// How a ride ended: the task with its hand, the new task where one is spawned, and the ticks.
@@ -48,7 +49,7 @@ pub fn ride<G: Gate>(
     work: Work,
     answer: Answer,
     quantum: u32,
-    asked: &mut Asked,
+    asked: &mut Slot,
     gate: &G,
     processor: u32,
     dispatches: u64,
@@ -72,7 +73,7 @@ pub fn ride<G: Gate>(
     let mut work = work;
     give(code, &mut work, answer)?;
     let ticks = go_on(code, fused, &mut work, quantum, asked)?;
-    let child = spawn(code, &work, &asked.request)?;
+    let child = spawn(code, &work, &asked.get().request)?;
     Ok(Ridden { work, child, ticks })
 }
 
@@ -132,7 +133,7 @@ fn go_on(
     fused: &[Fused],
     work: &mut Work,
     quantum: u32,
-    asked: &mut Asked,
+    asked: &mut Slot,
 ) -> Result<u32, AllocError>
     requires fused { IsFused code.now.ops fused.now }
     requires some { 1 ≤ quantum }
@@ -145,13 +146,14 @@ fn go_on(
     ensures kept { IfOk result (λ ticks. KeepsAfter code.now asked.new.request work.new) }
 {
     let mut left = quantum;
-    let mut stop = Stop::Astray;
+    // As most rides end.
+    let mut stop = Stop::Ask;
     'ticks: loop {
         let before = left;
         'stops: loop {
             let last = run(code, fused, work, &mut left, &mut stop, asked)?;
             if last {
-                *asked = slice(code, work);
+                slice(code, work, asked);
                 return Ok(quantum);
             }
             let after = settle(code, work, &stop, asked)?;
@@ -166,16 +168,14 @@ fn go_on(
     }
 }
 
-// A slice is asked, in the line of the tick.
-fn slice(code: &Code, work: &Work) -> Asked
-    ensures { result ≡ record {
+// A slice is asked, in the line of the tick. It stands apart, so that a ride has no room for another request.
+#[inline(never)]
+fn slice(code: &Code, work: &Work, asked: &mut Slot)
+    ensures { asked.new ≡ record {
       request = ask.Slice;
       line = behind_line
           (laid_of code.now) work.now;
     } }
 {
-    Asked {
-        request: Request::Slice,
-        line: work.line_behind(code),
-    }
+    asked.put(Request::Slice, work.line_behind(code));
 }

@@ -3,8 +3,6 @@
 ghost use Rattle.uc_running_laws.specs.OwnPrograms.{LawOwnPrograms};
 ghost use Rattle.uc_running_laws.specs.Running.{LawRunning};
 ghost use Rattle.uc_running_laws.specs.Away.{LawAway};
-ghost use Rattle.uc_running_laws.specs.OtherNames.{LawNames};
-ghost use Rattle.uc_running_laws.specs.OtherRuns.{LawNamesRuns};
 
 /// In each run of a program that breaks no rule in which all that was asked so far fits, nothing else
 /// is owed to what tasks let go of, and no step forgets the execution that runs, the running execution
@@ -23,17 +21,4 @@ pub fn law_own_programs()
 /// is owed to what is let go of, who builds or destroys an object is not at home there.
 pub fn law_away()
     ensures { LawAway }
-{}
-
-/// No execution has its own name at hand, and none stands in what is its own; nor does any value name the
-/// main of a task. A task begins so, and each quiet step keeps it, of whatever source, that binds what is
-/// its own alone and, in the execution of a coroutine, reads no such name in what is another's; so does
-/// each answer. And no such step forgets the running execution.
-pub fn law_names()
-    ensures { LawNames }
-{}
-
-/// So no step of such a run forgets the execution that runs, and none on the way to what is asked next.
-pub fn law_names_runs()
-    ensures { LawNamesRuns }
 {}

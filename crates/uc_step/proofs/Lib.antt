@@ -18,6 +18,7 @@ pub mod WeightFallsLemmas
 pub mod RunsLemmas
 pub mod Carrying
 pub mod TogetherLemmas
+pub mod GivenBack
 pub mod Apart
 pub mod Idles
 pub mod SimulateSwitches

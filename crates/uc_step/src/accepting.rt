@@ -8,6 +8,7 @@ ghost use Rattle.uc_step.specs.declared.effect.Stop.{Stop};
 
 use crate::effect::{QuietResult, Stop, put_fault, put_request};
 use crate::mutex::this_object;
+use crate::slot::Slot;
 use std::alloc::AllocError;
 use uc_code::code::Code;
 use uc_code::op::Op;
@@ -24,7 +25,7 @@ pub(crate) fn accept(
     line: u32,
     work: &mut Work,
     stop: &mut Stop,
-    asked: &mut Asked,
+    asked: &mut Slot,
     site: u32,
     guards: u32,
     end: u32,

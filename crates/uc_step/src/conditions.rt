@@ -7,11 +7,12 @@ ghost use Rattle.uc_step.specs.OpEffects.{condition_in, Does};
 use crate::effect::{QuietResult, Stop, put_fault, put_request};
 use crate::memory::index_below;
 use crate::mutex::this_object;
+use crate::slot::Slot;
 use std::alloc::AllocError;
 use uc_code::code::Code;
 use uc_code::op::Op;
 use uc_entry::fault::RunFault;
-use uc_entry::request::{Asked, Request};
+use uc_entry::request::Request;
 use uc_frames::cell::{Cell, number_in};
 use uc_frames::work::Work;
 use uc_tree::limits::LAST_CONDITION;
@@ -36,7 +37,7 @@ pub(crate) fn condition(
     line: u32,
     work: &mut Work,
     stop: &mut Stop,
-    asked: &mut Asked,
+    asked: &mut Slot,
     first: u32,
     count: u32,
 ) -> Result<QuietResult, AllocError>
@@ -62,7 +63,7 @@ pub(crate) fn wait(
     line: u32,
     work: &mut Work,
     stop: &mut Stop,
-    asked: &mut Asked,
+    asked: &mut Slot,
 ) -> Result<QuietResult, AllocError>
     ensures ok { IfOk result (λ how. Does code.now line Op.Wait work.old
         (ended how stop.new asked.new) work.new) }
@@ -90,7 +91,7 @@ pub(crate) fn signal(
     line: u32,
     work: &mut Work,
     stop: &mut Stop,
-    asked: &mut Asked,
+    asked: &mut Slot,
 ) -> Result<QuietResult, AllocError>
     ensures ok { IfOk result (λ how. Does code.now line Op.Signal work.old
         (ended how stop.new asked.new) work.new) }
@@ -115,7 +116,7 @@ pub(crate) fn signal_block(
     line: u32,
     work: &mut Work,
     stop: &mut Stop,
-    asked: &mut Asked,
+    asked: &mut Slot,
 ) -> Result<QuietResult, AllocError>
     ensures ok { IfOk result (λ how. Does code.now line Op.SignalBlock work.old
         (ended how stop.new asked.new) work.new) }
@@ -142,7 +143,7 @@ pub(crate) fn empty(
     line: u32,
     work: &mut Work,
     stop: &mut Stop,
-    asked: &mut Asked,
+    asked: &mut Slot,
 ) -> Result<QuietResult, AllocError>
     ensures ok { IfOk result (λ how. Does code.now line Op.Empty work.old
         (ended how stop.new asked.new) work.new) }
@@ -166,7 +167,7 @@ pub(crate) fn front(
     line: u32,
     work: &mut Work,
     stop: &mut Stop,
-    asked: &mut Asked,
+    asked: &mut Slot,
 ) -> Result<QuietResult, AllocError>
     ensures ok { IfOk result (λ how. Does code.now line Op.Front work.old
         (ended how stop.new asked.new) work.new) }

@@ -6,6 +6,7 @@ ghost use Rattle.uc_step.specs.OpEffects.{at_op, lives_below, Does, DoesAlone};
 
 use crate::effect::{QuietResult, Stop, put_end, put_fault};
 use crate::jumps::unwind;
+use crate::slot::Slot;
 use uc_code::code::Code;
 use uc_code::op::Op;
 use uc_entry::fault::RunFault;
@@ -18,7 +19,7 @@ pub(crate) fn alive(
     line: u32,
     work: &mut Work,
     stop: &mut Stop,
-    asked: &mut Asked,
+    asked: &mut Slot,
     number: u32,
 ) -> QuietResult
     ensures { Does code.now line (Op.Alive number) work.old (ended result stop.new asked.new) work.new }

@@ -8,12 +8,12 @@ ghost use Rattle.uc_frames.specs.Machine.{line_at};
 ghost use Rattle.uc_step.specs.Effects as effect;
 ghost use Rattle.uc_step.specs.Effects.{ended};
 
+use crate::slot::Slot;
 use uc_code::code::Code;
 use uc_entry::fault::RunFault;
-use uc_entry::request::{Asked, Piece, Request};
+use uc_entry::request::{Piece, Request};
 use uc_frames::cell::Cell;
 use uc_frames::event::Event;
-use uc_frames::pieces::put_print;
 use uc_frames::work::Work;
 
 /// How an op ends: going on; going on after a tick; or otherwise, as the stop that the op was lent tells.
@@ -43,6 +43,16 @@ pub enum Stop {
     Astray,
 }
 
+// It waits for the answer to a request. A stop has room for an event, so it is written only where it was another.
+#[inline(always)]
+pub(crate) fn put_ask(stop: &mut Stop)
+    ensures { stop.new ≡ Stop.Ask }
+{
+    if !matches!(*stop, Stop::Ask) {
+        *stop = Stop::Ask;
+    }
+}
+
 // It asks, by an op of this line. A part of the op that asks, so that the request is written where it is lent as it is made, and is not copied.
 #[inline(always)]
 pub(crate) fn put_request(
@@ -50,16 +60,17 @@ pub(crate) fn put_request(
     line: u32,
     work: &Work,
     stop: &mut Stop,
-    asked: &mut Asked,
+    asked: &mut Slot,
     request: Request,
 ) -> QuietResult
     ensures { ended result stop.new asked.new
         ≡ effect.Ask
         (record { request = request; line = line_at code.now.ops line work.now.callers }) }
 {
-    asked.line = work.line(code, line);
-    asked.request = request;
-    *stop = Stop::Ask;
+    asked.is_item = false;
+    asked.asked.line = work.line(code, line);
+    asked.asked.request = request;
+    put_ask(stop);
     QuietResult::Stops
 }
 
@@ -70,16 +81,15 @@ pub(crate) fn put_item(
     line: u32,
     work: &Work,
     stop: &mut Stop,
-    asked: &mut Asked,
+    asked: &mut Slot,
     piece: Piece,
 ) -> QuietResult
     ensures { ended result stop.new asked.new
         ≡ effect.Ask
         (record { request = print_of (piece ∷ []); line = line_at code.now.ops line work.now.callers }) }
 {
-    asked.line = work.line(code, line);
-    put_print(&mut asked.request, &[piece]);
-    *stop = Stop::Ask;
+    asked.put_item(piece, work.line(code, line));
+    put_ask(stop);
     QuietResult::Stops
 }
 
@@ -90,7 +100,7 @@ pub(crate) fn put_end(
     line: u32,
     work: &Work,
     stop: &mut Stop,
-    asked: &mut Asked,
+    asked: &mut Slot,
 ) -> QuietResult
     ensures { ended result stop.new asked.new
         ≡ effect.Ask
@@ -106,7 +116,7 @@ pub(crate) fn put_fault(
     line: u32,
     work: &Work,
     stop: &mut Stop,
-    asked: &mut Asked,
+    asked: &mut Slot,
     fault: RunFault,
 ) -> QuietResult
     ensures { ended result stop.new asked.new

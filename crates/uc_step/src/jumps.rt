@@ -5,6 +5,7 @@ ghost use Rattle.uc_step.specs.Effects.{Quiet, ended};
 ghost use Rattle.uc_step.specs.OpEffects.{act_return, act_end, Does, DoesAlone, Ends};
 
 use crate::effect::{QuietResult, Stop, put_end, put_fault};
+use crate::slot::Slot;
 use std::alloc::AllocError;
 use uc_code::code::Code;
 use uc_code::op::Op;
@@ -21,7 +22,7 @@ pub(crate) fn end(
     given: Cell,
     work: &mut Work,
     stop: &mut Stop,
-    asked: &mut Asked,
+    asked: &mut Slot,
 ) -> Result<QuietResult, AllocError>
     ensures ok { IfOk result (λ how. Ends
         (act_end code.now line given work.old.run.handles work.old) (ended how stop.new asked.new) work.new) }
@@ -45,7 +46,7 @@ pub(crate) fn give_back(
     line: u32,
     work: &mut Work,
     stop: &mut Stop,
-    asked: &mut Asked,
+    asked: &mut Slot,
     given: Cell,
 ) -> Result<QuietResult, AllocError>
     ensures ok { IfOk result (λ how. Ends (act_return code.now line given work.old.callers work.old)
@@ -67,7 +68,7 @@ pub(crate) fn fall_off(
     line: u32,
     work: &mut Work,
     stop: &mut Stop,
-    asked: &mut Asked,
+    asked: &mut Slot,
 ) -> Result<QuietResult, AllocError>
     ensures ok { IfOk result (λ how. Does code.now line Op.Return work.old
         (ended how stop.new asked.new) work.new) }
@@ -81,7 +82,7 @@ pub(crate) fn return_value(
     line: u32,
     work: &mut Work,
     stop: &mut Stop,
-    asked: &mut Asked,
+    asked: &mut Slot,
 ) -> Result<QuietResult, AllocError>
     ensures ok { IfOk result (λ how. Does code.now line Op.ReturnValue work.old
         (ended how stop.new asked.new) work.new) }
@@ -95,7 +96,7 @@ pub(crate) fn return_none(
     line: u32,
     work: &mut Work,
     stop: &mut Stop,
-    asked: &mut Asked,
+    asked: &mut Slot,
 ) -> Result<QuietResult, AllocError>
     ensures ok { IfOk result (λ how. Does code.now line Op.ReturnNone work.old
         (ended how stop.new asked.new) work.new) }
@@ -109,7 +110,7 @@ pub(crate) fn end_task(
     line: u32,
     work: &mut Work,
     stop: &mut Stop,
-    asked: &mut Asked,
+    asked: &mut Slot,
 ) -> Result<QuietResult, AllocError>
     ensures ok { IfOk result (λ how. Does code.now line Op.EndTask work.old
         (ended how stop.new asked.new) work.new) }
@@ -133,35 +134,30 @@ pub(crate) fn unwind(work: &mut Work, stop: &mut Stop) -> QuietResult
     QuietResult::Stops
 }
 
-// Calls this routine, where there is one, and one call more may be active. Else the answer is false, and all stays as it is.
+// Calls this routine, where there is one, one call more may be active, and that needs no more room. Else the answer is false, and all
+// stays as it is.
 #[inline(always)]
-pub(crate) fn called(code: &Code, number: u32, work: &mut Work) -> Result<bool, AllocError>
-    ensures calls { IfOk result (λ b. b ≡ true → (line : ℕ) →
-        Does code.now line (Op.Call number) work.old Quiet work.new) }
-    ensures stays { IfOk result (λ b. b ≡ false → work.new ≡ work.old) }
+pub(crate) fn called(code: &Code, number: u32, work: &mut Work) -> bool
+    ensures calls { result ≡ true → (line : ℕ) →
+        Does code.now line (Op.Call number) work.old Quiet work.new }
+    ensures stays { result ≡ false → work.new ≡ work.old }
 {
     match code.routine(number) {
-        Some(routine) if work.calls() < CALLS => {
-            work.call(routine)?;
-            Ok(true)
-        }
-        _ => Ok(false),
+        Some(routine) if work.calls() < CALLS => work.call_in_place(routine),
+        _ => false,
     }
 }
 
 // The same as a member of the place below its arguments.
 #[inline(always)]
-pub(crate) fn called_on(code: &Code, number: u32, work: &mut Work) -> Result<bool, AllocError>
-    ensures calls { IfOk result (λ b. b ≡ true → (line : ℕ) →
-        Does code.now line (Op.CallOn number) work.old Quiet work.new) }
-    ensures stays { IfOk result (λ b. b ≡ false → work.new ≡ work.old) }
+pub(crate) fn called_on(code: &Code, number: u32, work: &mut Work) -> bool
+    ensures calls { result ≡ true → (line : ℕ) →
+        Does code.now line (Op.CallOn number) work.old Quiet work.new }
+    ensures stays { result ≡ false → work.new ≡ work.old }
 {
     match code.routine(number) {
-        Some(routine) if work.calls() < CALLS => {
-            work.call_on(routine, true)?;
-            Ok(true)
-        }
-        _ => Ok(false),
+        Some(routine) if work.calls() < CALLS => work.call_on_in_place(routine),
+        _ => false,
     }
 }
 
@@ -170,7 +166,7 @@ pub(crate) fn call(
     line: u32,
     work: &mut Work,
     stop: &mut Stop,
-    asked: &mut Asked,
+    asked: &mut Slot,
     number: u32,
 ) -> Result<QuietResult, AllocError>
     ensures ok { IfOk result (λ how. Does code.now line (Op.Call number) work.old
@@ -195,7 +191,7 @@ pub(crate) fn call_on(
     line: u32,
     work: &mut Work,
     stop: &mut Stop,
-    asked: &mut Asked,
+    asked: &mut Slot,
     number: u32,
 ) -> Result<QuietResult, AllocError>
     ensures ok { IfOk result (λ how. Does code.now line (Op.CallOn number) work.old
@@ -221,7 +217,7 @@ pub(crate) fn call_unwritten(
     line: u32,
     work: &mut Work,
     stop: &mut Stop,
-    asked: &mut Asked,
+    asked: &mut Slot,
     number: u32,
 ) -> Result<QuietResult, AllocError>
     ensures ok { IfOk result (λ how. Does code.now line (Op.CallUnwritten number) work.old

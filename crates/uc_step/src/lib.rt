@@ -18,5 +18,6 @@ mod outside;
 mod places;
 mod plain;
 mod polls;
+pub mod slot;
 pub mod step;
 mod together;

@@ -7,11 +7,12 @@ ghost use Rattle.uc_machine.specs.Insides.{is_last};
 ghost use Rattle.uc_frames.specs.Objects.{by_event, object_in, this_object};
 
 use crate::effect::{QuietResult, Stop, put_end, put_fault, put_request};
+use crate::slot::Slot;
 use std::alloc::AllocError;
 use uc_code::code::Code;
 use uc_code::op::Op;
 use uc_entry::fault::RunFault;
-use uc_entry::request::{Asked, Request};
+use uc_entry::request::Request;
 use uc_frames::cell::Cell;
 use uc_frames::work::Work;
 use uc_machine::exec::UnwindReason;
@@ -47,7 +48,7 @@ pub(crate) fn enter(
     line: u32,
     work: &mut Work,
     stop: &mut Stop,
-    asked: &mut Asked,
+    asked: &mut Slot,
     member: u8,
     number: u32,
 ) -> Result<QuietResult, AllocError>
@@ -101,7 +102,7 @@ pub(crate) fn leave(
     line: u32,
     work: &mut Work,
     stop: &mut Stop,
-    asked: &mut Asked,
+    asked: &mut Slot,
     to: u32,
 ) -> QuietResult
     ensures { Does code.now line (Op.Leave to) work.old (ended result stop.new asked.new) work.new }
@@ -139,7 +140,7 @@ pub(crate) fn make(
     line: u32,
     work: &mut Work,
     stop: &mut Stop,
-    asked: &mut Asked,
+    asked: &mut Slot,
     class: u32,
     number: u32,
 ) -> Result<QuietResult, AllocError>
@@ -163,7 +164,7 @@ pub(crate) fn bind_made(
     line: u32,
     work: &mut Work,
     stop: &mut Stop,
-    asked: &mut Asked,
+    asked: &mut Slot,
     number: u32,
 ) -> QuietResult
     ensures { (class : ℕ) →
@@ -186,7 +187,7 @@ pub(crate) fn built(
     line: u32,
     work: &mut Work,
     stop: &mut Stop,
-    asked: &mut Asked,
+    asked: &mut Slot,
     object: u32,
     request: Request,
 ) -> QuietResult

@@ -8,10 +8,10 @@ ghost use Rattle.uc_step.specs.OperatorResults.{operator_of};
 
 use crate::effect::{QuietResult, Stop, put_fault};
 use crate::numbers::{Computed, Operator, in_range};
+use crate::slot::Slot;
 use std::alloc::AllocError;
 use uc_code::code::Code;
 use uc_code::op::Op;
-use uc_entry::request::Asked;
 use uc_frames::cell::{Cell, number_in};
 use uc_frames::work::Work;
 use uc_tree::int::negated;
@@ -23,7 +23,7 @@ pub(crate) fn two(
     line: u32,
     work: &mut Work,
     stop: &mut Stop,
-    asked: &mut Asked,
+    asked: &mut Slot,
     operator: Operator,
 ) -> Result<QuietResult, AllocError>
     ensures ok { IfOk result (λ how. Ends
@@ -49,7 +49,7 @@ pub(crate) fn negate(
     line: u32,
     work: &mut Work,
     stop: &mut Stop,
-    asked: &mut Asked,
+    asked: &mut Slot,
 ) -> Result<QuietResult, AllocError>
     ensures ok { IfOk result (λ how. Does code.now line Op.Negate work.old
         (ended how stop.new asked.new) work.new) }

@@ -7,11 +7,12 @@ ghost use Rattle.uc_step.specs.Effects.{ended};
 ghost use Rattle.uc_step.specs.OpEffects.{act_pend_at, with_operands, without_event, Does, Ends};
 
 use crate::effect::{QuietResult, Stop, put_fault, put_request};
+use crate::slot::Slot;
 use std::alloc::AllocError;
 use uc_code::code::Code;
 use uc_code::op::Op;
 use uc_entry::fault::RunFault;
-use uc_entry::request::{Asked, Request};
+use uc_entry::request::Request;
 use uc_frames::cell::{Cell, exec_in};
 use uc_frames::event::Event;
 use uc_frames::work::Work;
@@ -24,7 +25,7 @@ pub(crate) fn raise_at(
     line: u32,
     work: &mut Work,
     stop: &mut Stop,
-    asked: &mut Asked,
+    asked: &mut Slot,
 ) -> Result<QuietResult, AllocError>
     ensures ok { IfOk result (λ how. Does code.now line Op.RaiseAt work.old
         (ended how stop.new asked.new) work.new) }
@@ -77,7 +78,7 @@ fn pend_at(
     line: u32,
     work: &mut Work,
     stop: &mut Stop,
-    asked: &mut Asked,
+    asked: &mut Slot,
     exec: Option<Exec>,
 ) -> Result<QuietResult, AllocError>
     ensures ok { IfOk result (λ how. Ends

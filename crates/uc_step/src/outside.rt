@@ -4,22 +4,23 @@ ghost use Rattle.std.specs.Prelude.{◌≡◌, IfOk, OnErr};
 ghost use Rattle.uc_step.specs.Effects.{ended};
 ghost use Rattle.uc_step.specs.OpEffects.{Does};
 
-use crate::effect::{QuietResult, Stop, put_item};
+use crate::effect::{QuietResult, Stop, put_ask, put_item};
+use crate::slot::Slot;
 use std::alloc::AllocError;
 use uc_code::code::Code;
 use uc_code::op::Op;
-use uc_entry::request::{Asked, Piece, TEXT_FORM};
+use uc_entry::request::{Piece, TEXT_FORM};
 use uc_frames::cell::number_in;
 use uc_frames::work::Work;
 use uc_tree::kinds::ValueForm;
 
-#[inline(never)]
+#[inline(always)]
 pub(crate) fn print(
     code: &Code,
     line: u32,
     work: &mut Work,
     stop: &mut Stop,
-    asked: &mut Asked,
+    asked: &mut Slot,
     form: ValueForm,
 ) -> Result<QuietResult, AllocError>
     ensures ok { IfOk result (λ how. Does code.now line (Op.Print form) work.old
@@ -40,13 +41,13 @@ pub(crate) fn print(
     }
 }
 
-#[inline(never)]
+#[inline(always)]
 pub(crate) fn text(
     code: &Code,
     line: u32,
     work: &mut Work,
     stop: &mut Stop,
-    asked: &mut Asked,
+    asked: &mut Slot,
     number: u32,
 ) -> Result<QuietResult, AllocError>
     ensures ok { IfOk result (λ how. Does code.now line (Op.Text number) work.old
@@ -70,16 +71,15 @@ pub(crate) fn flush(
     line: u32,
     work: &mut Work,
     stop: &mut Stop,
-    asked: &mut Asked,
+    asked: &mut Slot,
 ) -> QuietResult
     ensures { Does code.now line Op.Flush work.old (ended result stop.new asked.new) work.new }
 {
     match work.take_gathered() {
         None => QuietResult::Quiet,
         Some(pieces) => {
-            if pieces.put_request(&mut asked.request) {
-                asked.line = work.line(code, line);
-                *stop = Stop::Ask;
+            if asked.put_items(&pieces, work.line(code, line)) {
+                put_ask(stop);
                 QuietResult::Stops
             } else {
                 QuietResult::Quiet

@@ -6,6 +6,7 @@ ghost use Rattle.uc_step.specs.Effects.{ended};
 ghost use Rattle.uc_step.specs.OpEffects.{Does, DoesAlone};
 
 use crate::effect::{QuietResult, Stop, put_request};
+use crate::slot::Slot;
 use std::alloc::AllocError;
 use uc_code::code::Code;
 use uc_code::op::Op;
@@ -21,7 +22,7 @@ pub(crate) fn poll(
     line: u32,
     work: &mut Work,
     stop: &mut Stop,
-    asked: &mut Asked,
+    asked: &mut Slot,
     to: u32,
 ) -> Result<QuietResult, AllocError>
     ensures ok { IfOk result (λ how. Does code.now line (Op.Poll to) work.old

@@ -58,6 +58,7 @@ impl<T: Copy> Table<T> {
     }
 
     /// Gives a number another value.
+    #[inline(always)]
     pub fn set(&mut self, number: usize, value: T)
         requires { number < length self.old }
         ensures { self.new ≡ slice_set self.old number value }

@@ -93,8 +93,8 @@ module _ (t : Table) (heads : ℕ → ℕ → Bool) (kinds : List Sig) (s : Stat
 
   others_hold : OthersRight t heads kinds s → OthersHold t heads any kinds s
   others_hold h = record {
-    fields = λ c rest todo e k i d m f told. holds c todo (further (FieldAt (t.shape i) m) (Place (Frame s.env.exec s.run.frame) (Slot k ∷ []))) (t.fields i m) (h.fields c rest todo e k i d m f told);
-    arrays = λ c rest todo e k m i d. holds c todo (Place (Frame s.env.exec s.run.frame) (Slot k ∷ [])) (Row m (Obj i)) (h.arrays c rest todo e k m i d);
+    fields = λ c rest todo e k i d m f told some. holds c todo (further (FieldAt (t.shape i) m) (Place (Frame s.env.exec s.run.frame) (Slot k ∷ []))) (t.fields i m) (h.fields c rest todo e k i d m f told some);
+    arrays = λ c rest todo e k m i d some. holds c todo (Place (Frame s.env.exec s.run.frame) (Slot k ∷ [])) (Row m (Obj i)) (h.arrays c rest todo e k m i d some);
   }
 
 module _ (p : Program) (formed : IsFormed p) (accepted : breaks_of p ≡ []) where

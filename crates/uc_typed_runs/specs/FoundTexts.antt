@@ -19,7 +19,7 @@ use Rattle.uc_sound.specs.Tables.{table_of}
 use Rattle.uc_sound.specs.WellTyped.{IsTextOf}
 use Rattle.uc_state_laws.specs.Endings.{RunHolds, LeadsHold}
 use Rattle.uc_state_laws.specs.Limits.{IsWithinLimits}
-use Rattle.uc_life_laws.specs.Things.{IsField}
+use Rattle.uc_life_laws.specs.Things.{IsField, IsUnbound}
 use Rattle.uc_life_laws.specs.LifeStates.{frame_at, Outwards}
 use Rattle.uc_life_laws.specs.Lives.{OutwardsOrMade, LivesState}
 use Rattle.uc_life_laws.specs.Knowing.{KnowsState}
@@ -36,9 +36,11 @@ use Rattle.uc_typed_runs.specs.TypedRuns.{IsTyped}
 pub record OthersRight (t : Table) (heads : ℕ → ℕ → Bool) (kinds : List Sig) (s : State) : Type 0 where
   pub fields : (c : CleanUp) (rest : Stmts) (todo : List Todo) → s.run.control ≡ Rest (Scoped c rest) ∷ todo →
       (k i : ℕ) → CleansAt t (Obj i) (Variable k) c → (m : ℕ) → IsField t i m → heads i m ≡ false →
+      (IsUnbound t (t.fields i m) → ⊥) →
       HoldsRight t any s.env.exec (OutwardsOrMade kinds (Outwards t any s.env.exec s.run.frame s.run.this s.callers c todo) s.env.exec s.run.frame s.run.this s.callers) (Frame s.env.exec s.run.frame) (frame_at s.run.frame s.env.frames) (further (FieldAt (t.shape i) m) (Place (Frame s.env.exec s.run.frame) (Slot k ∷ []))) (t.fields i m)
   pub arrays : (c : CleanUp) (rest : Stmts) (todo : List Todo) → s.run.control ≡ Rest (Scoped c rest) ∷ todo →
-      (k m i : ℕ) → CleansAt t (Row m (Obj i)) (Variable k) c → VariableRight t any kinds c todo s k (Row m (Obj i))
+      (k m i : ℕ) → CleansAt t (Row m (Obj i)) (Variable k) c → (IsUnbound t (Row m (Obj i)) → ⊥) →
+      VariableRight t any kinds c todo s k (Row m (Obj i))
 
 -- nothing is bound yet at a field of the object at hand where that is to be bound; and by some kinds by which objects that are built hold what is known,
 -- what the next step reads is right, where no state tells it, and no constructor has bound it, and where scopes open, so are the other fields of plain

@@ -22,7 +22,7 @@ use std::sync::Wait;
 use std::thread;
 use std::thread::Threads;
 use uc_code::code::Code;
-use uc_entry::request::{Asked, Request};
+use uc_entry::request::Request;
 use uc_frames::members::Members;
 use uc_frames::task::Task;
 use uc_frames::work::Work;
@@ -31,6 +31,7 @@ use uc_kernel::given::{Back, Given};
 use uc_lock::{Seat, Shared};
 use uc_outside::Gate;
 use uc_ride::ride::{Ridden, ride};
+use uc_step::slot::Slot;
 
 // Takes the kernel for a task to go on with.
 fn begin<R: Wait>(rt: &R, lock: &Shared<Locked>, seat: &mut Seat<Locked>) -> Step
@@ -53,7 +54,7 @@ fn bring<R: Wait>(
     bell: &Bell,
     seat: &mut Seat<Locked>,
     back: Back<Option<Task>, Members>,
-    asked: &Asked,
+    asked: &Slot,
 ) -> Step
     requires ready { IsReady lock.now seat.old }
     requires own { seat.old.own ≡ made_by seat.old.number seat.old.seen }
@@ -63,10 +64,11 @@ fn bring<R: Wait>(
     ensures came { HasCome lock.now seat.new result }
 {
     let number = seat.number();
+    let what = asked.get();
     let mut held = lock.take(rt, seat);
-    let step = held.value().desk.act(number, back, asked);
+    let step = held.value().desk.act(number, back, what);
     lock.give(rt, seat, held);
-    if makes_work(&asked.request) {
+    if makes_work(&what.request) {
         bell.ring();
     }
     step
@@ -98,7 +100,7 @@ fn go<G: Gate>(
     gate: &G,
     dispatches: u64,
     given: Given<Task, Members>,
-    asked: &mut Asked,
+    asked: &mut Slot,
 ) -> Result<Back<Option<Task>, Members>, AllocError>
     requires fused { IsFused code.now.ops table.now }
     requires paced { IsPaced (laid_of code.now) code.now.routines }
@@ -121,7 +123,7 @@ fn go<G: Gate>(
     let Ridden { work, child, ticks } = ridden;
     let (task, mut members) = work.into_parts();
     members.room()?;
-    let task = going_on(&asked.request, task);
+    let task = going_on(asked, task);
     let child = boxed(child);
     Ok(Back {
         processor,
@@ -133,10 +135,10 @@ fn go<G: Gate>(
 }
 
 // A task that goes on behind a request.
-fn going_on(request: &Request, task: Task) -> Option<Task>
-    ensures { result ≡ value_after request.now task }
+fn going_on(asked: &Slot, task: Task) -> Option<Task>
+    ensures { result ≡ value_after asked.now.request task }
 {
-    if stops(request) {
+    if stops(&asked.get().request) {
         return None;
     }
     Some(task)
@@ -172,7 +174,7 @@ fn turn<R: Wait, G: Gate>(
     dispatches: u64,
     seat: &mut Seat<Locked>,
     given: Given<Task, Members>,
-    asked: &mut Asked,
+    asked: &mut Slot,
 ) -> Step
     requires ready { IsReady lock.now seat.old }
     requires code { lock.now.terms.key.code ≡ code.now }
@@ -209,10 +211,7 @@ pub fn work<R: Wait, G: Gate>(
     ensures { IsReady lock.now result × IsSame seat result }
 {
     let mut seat = seat;
-    let mut asked = Asked {
-        request: Request::Slice,
-        line: 0,
-    };
+    let mut asked = Slot::new();
     let mut step = Step::Idle;
     let mut dispatches: u64 = 0;
     let mut told: u64 = 0;

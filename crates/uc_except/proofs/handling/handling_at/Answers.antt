@@ -8,5 +8,5 @@ pub returns-in-Some : goal.returns-in-Some
 returns-in-Some c =
     let r = c.args.row in
     let a = c.in-Some.active.now in
-    ap (λ n. Some (let h : HandlerStart = record { entry = r.entry; this = a.this; frame = a.frame; visited = record { level = c.args.frame; rest = r.rest; home = n }; event = c.args.event } in h)) c.home_at.ensures
+    ap (λ n. Some (let h : HandlerStart = record { entry = r.entry; this = a.head.this; frame = a.head.frame; visited = record { level = c.args.frame; rest = r.rest; home = n }; event = c.args.event } in h)) c.home_at.ensures
     ∙ ap (option_map (handling_of r c.args.frame c.args.event)) (sym c.in-Some.ensures.1)

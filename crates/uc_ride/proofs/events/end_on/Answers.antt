@@ -21,7 +21,7 @@ returns-in-Ended-clause-source c =
     let same : n ≡ m = c.in_ok-end.ensures.now ∙ ap (λ e. main_over e m) c.in-Ended.is in
     λ source s low b.
     let f = ends source code low m n s c.args.line c.requires end.Ended (λ t h. subst (λ e. MainLeft source (laid_of code) e n t) c.in-Ended.is (c.in_ok-end.ensures.source source (laid_of code) t h)) b in
-    subst (λ a. Follow (laid_of code) source (Ask a) n s) (asked_now code ask.End c.args.line m n c.asks.result same c.asks.ensures) f
+    subst (λ a. Follow (laid_of code) source (Ask a) n s) (asked_now code ask.End c.args.line m n c.put_request.new.asked same c.put_request.ensures) f
 
 pub returns-in-Returned-clause-source : goal.returns-in-Returned-clause-source
 returns-in-Returned-clause-source c =
@@ -46,7 +46,7 @@ returns-in-Unhandled-clause-source c =
     let same : n ≡ m = c.in_ok-end.ensures.now ∙ ap (λ e. main_over e m) c.in-Unhandled.is in
     λ source s low b.
     let f = ends source code low m n s c.args.line c.requires end.Unhandled (λ t h. subst (λ e. MainLeft source (laid_of code) e n t) c.in-Unhandled.is (c.in_ok-end.ensures.source source (laid_of code) t h)) b in
-    subst (λ a. Follow (laid_of code) source (Ask a) n s) (asked_now code (ask.Fault (fault_number Unhandled)) c.args.line m n c.faults.result same c.faults.ensures) f
+    subst (λ a. Follow (laid_of code) source (Ask a) n s) (asked_now code (ask.Fault (fault_number Unhandled)) c.args.line m n c.put_fault.new.asked same c.put_fault.ensures) f
 
 pub returns-in-Ended-clause-falls : goal.returns-in-Ended-clause-falls
 returns-in-Ended-clause-falls c =
@@ -54,7 +54,7 @@ returns-in-Ended-clause-falls c =
     let m = c.args.work.now in
     let n = c.end_task_main.new.work in
     let same : n ≡ m = c.in_ok-end.ensures.now ∙ ap (λ e. main_over e m) c.in-Ended.is in
-    λ w left g. end_falls code w (λ v x. Entered code v left x) m n c.asks.result _ c.asks.ensures same g
+    λ w left g. end_falls code w (λ v x. Entered code v left x) m n c.put_request.new.asked _ c.put_request.ensures same g
 
 pub returns-in-Unhandled-clause-falls : goal.returns-in-Unhandled-clause-falls
 returns-in-Unhandled-clause-falls c =
@@ -62,7 +62,7 @@ returns-in-Unhandled-clause-falls c =
     let m = c.args.work.now in
     let n = c.end_task_main.new.work in
     let same : n ≡ m = c.in_ok-end.ensures.now ∙ ap (λ e. main_over e m) c.in-Unhandled.is in
-    λ w left g. fault_falls code w (λ v x. Entered code v left x) m n c.faults.result (fault_number Unhandled) _ c.faults.ensures same g
+    λ w left g. fault_falls code w (λ v x. Entered code v left x) m n c.put_fault.new.asked (fault_number Unhandled) _ c.put_fault.ensures same g
 
 pub returns-in-HeldUp-clause-source : goal.returns-in-HeldUp-clause-source
 returns-in-HeldUp-clause-source c =
@@ -72,7 +72,7 @@ returns-in-HeldUp-clause-source c =
     let same : n ≡ m = c.in_ok-end.ensures.now ∙ ap (λ e. main_over e m) c.in-HeldUp.is in
     λ source s low b.
     let f = ends source code low m n s c.args.line c.requires end.HeldUp (λ t h. subst (λ e. MainLeft source (laid_of code) e n t) c.in-HeldUp.is (c.in_ok-end.ensures.source source (laid_of code) t h)) b in
-    subst (λ a. Follow (laid_of code) source (Ask a) n s) (asked_now code (ask.Fault (fault_number BlockedInside)) c.args.line m n c.faults-in-HeldUp.result same c.faults-in-HeldUp.ensures) f
+    subst (λ a. Follow (laid_of code) source (Ask a) n s) (asked_now code (ask.Fault (fault_number BlockedInside)) c.args.line m n c.put_fault-in-HeldUp.new.asked same c.put_fault-in-HeldUp.ensures) f
 
 pub returns-in-HeldUp-clause-falls : goal.returns-in-HeldUp-clause-falls
 returns-in-HeldUp-clause-falls c =
@@ -80,4 +80,4 @@ returns-in-HeldUp-clause-falls c =
     let m = c.args.work.now in
     let n = c.end_task_main.new.work in
     let same : n ≡ m = c.in_ok-end.ensures.now ∙ ap (λ e. main_over e m) c.in-HeldUp.is in
-    λ w left g. fault_falls code w (λ v x. Entered code v left x) m n c.faults-in-HeldUp.result (fault_number BlockedInside) _ c.faults-in-HeldUp.ensures same g
+    λ w left g. fault_falls code w (λ v x. Entered code v left x) m n c.put_fault-in-HeldUp.new.asked (fault_number BlockedInside) _ c.put_fault-in-HeldUp.ensures same g

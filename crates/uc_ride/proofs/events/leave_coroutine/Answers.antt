@@ -31,7 +31,7 @@ returns-in-Some-clause-source c =
     let same : n ≡ m = moved_same (left_by m.run.raised m) m n c.in-Some.fault (sym c.in-Some.is ∙ c.leave_main.ensures.fault) c.leave_main.ensures.state in
     λ source s low b.
     let f = leaves_coroutine source code low m n s c.args.line c.requires (Some c.in-Some.fault) (λ t h. subst (λ o. SwitchedAs source (laid_of code) o n t) c.in-Some.is (c.leave_main.ensures.source source (laid_of code) t h)) b in
-    subst (λ a. Follow (laid_of code) source (Ask a) n s) (asked_now code (ask.Fault (fault_number c.in-Some.fault)) c.args.line m n c.faults.result same c.faults.ensures) f
+    subst (λ a. Follow (laid_of code) source (Ask a) n s) (asked_now code (ask.Fault (fault_number c.in-Some.fault)) c.args.line m n c.put_fault.new.asked same c.put_fault.ensures) f
 
 pub returns-in-Some-clause-falls : goal.returns-in-Some-clause-falls
 returns-in-Some-clause-falls c =
@@ -39,4 +39,4 @@ returns-in-Some-clause-falls c =
     let m = c.args.work.now in
     let n = c.leave_main.new.work in
     let same : n ≡ m = moved_same (left_by m.run.raised m) m n c.in-Some.fault (sym c.in-Some.is ∙ c.leave_main.ensures.fault) c.leave_main.ensures.state in
-    λ w left g. fault_falls code w (λ v x. Entered code v left x) m n c.faults.result (fault_number c.in-Some.fault) _ c.faults.ensures same g
+    λ w left g. fault_falls code w (λ v x. Entered code v left x) m n c.put_fault.new.asked (fault_number c.in-Some.fault) _ c.put_fault.ensures same g

@@ -21,7 +21,7 @@ returns-in-Ended-clause-source c =
     let same : n ≡ m = c.in_ok-left.ensures.ok ∙ ap (λ x. left_as x m) c.in-Ended.is in
     λ source s h.
     let f = leaves source code m n s left.Ended h (c.in_ok-left.ensures.ok ∙ ap (λ x. left_as x m) c.in-Ended.is) (subst (λ x. LeftAs source (laid_of code) x n s) c.in-Ended.is (c.in_ok-left.ensures.source source (laid_of code) s h)) in
-    subst (λ a. Follow (laid_of code) source (Ask a) n s) (asked_now code ask.End 0 m n c.asks.result same c.asks.ensures) f
+    subst (λ a. Follow (laid_of code) source (Ask a) n s) (asked_now code ask.End 0 m n c.put_request.new.asked same c.put_request.ensures) f
 
 pub returns-in-Returned-clause-source : goal.returns-in-Returned-clause-source
 returns-in-Returned-clause-source c =
@@ -45,7 +45,7 @@ returns-in-Escaped-clause-source c =
     let same : n ≡ m = c.in_ok-left.ensures.ok ∙ ap (λ x. left_as x m) c.in-Escaped.is in
     λ source s h.
     let f = leaves source code m n s left.Escaped h (c.in_ok-left.ensures.ok ∙ ap (λ x. left_as x m) c.in-Escaped.is) (subst (λ x. LeftAs source (laid_of code) x n s) c.in-Escaped.is (c.in_ok-left.ensures.source source (laid_of code) s h)) in
-    subst (λ a. Follow (laid_of code) source (Ask a) n s) (asked_now code (ask.Fault (fault_number EscapeInUnwind)) 0 m n c.faults.result same c.faults.ensures) f
+    subst (λ a. Follow (laid_of code) source (Ask a) n s) (asked_now code (ask.Fault (fault_number EscapeInUnwind)) 0 m n c.put_fault.new.asked same c.put_fault.ensures) f
 
 pub returns-in-PassedOn-clause-source : goal.returns-in-PassedOn-clause-source
 returns-in-PassedOn-clause-source c =
@@ -67,7 +67,7 @@ returns-in-Ended-clause-falls c =
     let m = c.args.work.now in
     let n = c.leave.new.work in
     let same : n ≡ m = c.in_ok-left.ensures.ok ∙ ap (λ x. left_as x m) c.in-Ended.is in
-    λ w u. end_falls code w (RunFalls code Unwind) m n c.asks.result _ c.asks.ensures same u
+    λ w u. end_falls code w (RunFalls code Unwind) m n c.put_request.new.asked _ c.put_request.ensures same u
 
 pub returns-in-Escaped-clause-falls : goal.returns-in-Escaped-clause-falls
 returns-in-Escaped-clause-falls c =
@@ -75,4 +75,4 @@ returns-in-Escaped-clause-falls c =
     let m = c.args.work.now in
     let n = c.leave.new.work in
     let same : n ≡ m = c.in_ok-left.ensures.ok ∙ ap (λ x. left_as x m) c.in-Escaped.is in
-    λ w u. fault_falls code w (RunFalls code Unwind) m n c.faults.result (fault_number EscapeInUnwind) _ c.faults.ensures same u
+    λ w u. fault_falls code w (RunFalls code Unwind) m n c.put_fault.new.asked (fault_number EscapeInUnwind) _ c.put_fault.ensures same u

@@ -22,7 +22,7 @@ returns-then-last-clause-rides c =
     let code = c.args.code.now in
     let w : HasArrived code c.args.quantum c.run.new.left c.args.work.now (halted c.in_ok-last.last (stopping c.run.new.stop c.run.new.asked)) c.run.new.work = way_ran code c.args.quantum _ _ _ _ _ _ c.stops.invariant.way c.in_ok-last.ensures.source in
     let t : HasArrived code c.args.quantum c.run.new.left c.args.work.now Tick c.run.new.work = subst (λ b. HasArrived code c.args.quantum c.run.new.left c.args.work.now (halted b (stopping c.run.new.stop c.run.new.asked)) c.run.new.work) c.if-last.true w in
-    way_sliced code c.args.quantum c.run.new.left c.args.work.now c.run.new.work c.slice.result (c.in_ok-last.ensures.last c.if-last.true) t c.slice.ensures
+    way_sliced code c.args.quantum c.run.new.left c.args.work.now c.run.new.work c.slice.new.asked (c.in_ok-last.ensures.last c.if-last.true) t c.slice.ensures
 
 pub returns-then-last-clause-kept : goal.returns-then-last-clause-kept
 returns-then-last-clause-kept c =

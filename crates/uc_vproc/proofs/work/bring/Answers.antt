@@ -1,4 +1,5 @@
 use Rattle.std.proofs.Common.{◌≡◌, sym, ap, ◌∙◌, subst}
+use Rattle.uc_entry.specs.declared.request.Asked.{Asked}
 use Rattle.uc_kernel.specs.KernelState.{with_asked}
 use Rattle.uc_lock.specs.Journals.{Extends}
 use Rattle.uc_vproc.specs.Makers.{Log}
@@ -15,7 +16,7 @@ act-step-requires g c =
     let saw : Saw n seen c.take-held.result.log = record { begins = t.seen; mine = t.own ∙ c.requires.own } in
     let br : Brings c.take-held.result.code n seen (with_asked c.args.back c.args.asked.now) = subst (λ (k : RunKey). Brings k.code n seen (with_asked c.args.back c.args.asked.now)) (sym t.key) c.requires.brings in
     record {
-      brings = subst (λ m. (x : Log) × Saw m x c.deref_mut.result.now.log × Brings c.deref_mut.result.now.code m x (with_asked c.args.back c.args.asked.now)) (sym c.number-number.ensures) (subst (λ (y : Table). (x : Log) × Saw n x y.log × Brings y.code n x (with_asked c.args.back c.args.asked.now)) (sym is) (seen, saw, br));
+      brings = subst (λ (a : Asked). (x : Log) × Saw c.number-number.result x c.deref_mut.result.now.log × Brings c.deref_mut.result.now.code c.number-number.result x (with_asked c.args.back a)) (sym c.get-what.ensures) (subst (λ m. (x : Log) × Saw m x c.deref_mut.result.now.log × Brings c.deref_mut.result.now.code m x (with_asked c.args.back c.args.asked.now)) (sym c.number-number.ensures) (subst (λ (y : Table). (x : Log) × Saw n x y.log × Brings y.code n x (with_asked c.args.back c.args.asked.now)) (sym is) (seen, saw, br)));
     }
 
 pub give-requires-clause-journal : goal.give-requires-clause-journal

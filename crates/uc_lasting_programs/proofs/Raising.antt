@@ -1,0 +1,104 @@
+-- An event is raised at an object that is at home in what is the own of who raises it, or in what that has of others.
+use Rattle.std.proofs.Common.{◌≡◌, ℕ, inl, inr, List, [], ◌∷◌, refl, sym, subst, ⊎_elim}
+use Rattle.uc_tree.specs.Source as src
+use Rattle.uc_tree.specs.Source.{CleanUp}
+use Rattle.uc_machine.specs.declared.exec.Exec.{Exec}
+use Rattle.uc_machine.specs.declared.exec.Owner.TheVariants.{Frame}
+use Rattle.uc_machine.specs.Pieces as piece
+use Rattle.uc_machine.specs.Pieces.{Value, Object, Todo, RaiseAtNow, Sort, Active, State, top}
+use Rattle.uc_typing.specs.Typing.{Ty, Cell, Obj, Raw, Row, Table}
+use Rattle.uc_life_laws.specs.Things.{Few, Within, itself, field, element, AtField, IsFor, Marks, InTodo, Base, Things, Stands, lies, inside}
+use Rattle.uc_life_laws.specs.Belonging.{Belongs, frame, object}
+use Rattle.uc_life_laws.specs.Knowing.{InMaking, KnowsState}
+use Rattle.uc_life_laws.specs.Marks.{Marked, OfClean, OfSort, AllLone, LoneStack}
+use Rattle.uc_life_laws.specs.Rooted.{IsPlace}
+use Rattle.uc_life_laws.proofs.Own.{further_own}
+use Rattle.uc_life_laws.proofs.Rooted.{things_split, stands_split, stands_things}
+use Rattle.uc_apart_laws.specs.Clear.{IsNoHome}
+use Rattle.uc_tasked_laws.specs.Aims.{IsAimed}
+use Rattle.uc_tasked_laws.proofs.Aiming.{law_aimed}
+use Rattle.uc_making_laws.specs.OwnThis.{ThisStack}
+use Rattle.uc_making_laws.proofs.NoOthers.{law_no_others}
+
+-- what marks are for is their execution's own: a variable of it, or a field of what is; so is what stands in that
+
+module _ (t : Table) (few : Few) (n : Exec) where
+  within_own : (w : Value) (a : Ty) (v : Value) (b : Ty) → Belongs few n w → Within t w a v b → Belongs few n v
+  within_own w a v b h itself = h
+  within_own w a v b h (field {v = x} {c} k i f) = further_own t few n _ x (within_own w a x (Obj c) h k)
+  within_own w a v b h (element {v = x} {m} {b = e} k j l) = further_own t few n _ x (within_own w a x (Row m e) h k)
+
+  stands_own : (K : Value → Ty → Type 0) → ((w : Value) (a : Ty) → K w a → Belongs few n w) → (b : Ty) (v : Value) → Stands t few K b v → Belongs few n v
+  stands_own K own b v (lies {w = w} {a} k h) = within_own w a v b (own w a k) h
+  stands_own K own b v (inside {o = o} {c} m k h) =
+      within_own (Object o) (Obj c) v b (object (stands_own K own (Cell (Obj c)) (few.home o) k)) h
+
+  module _ (f : ℕ) (this : Value) (older : List Active) where
+    abbrev At : CleanUp → Value → Ty → Type 0
+    At c w a = AtField t (Frame n f) this c w a
+
+    field_own : (c : CleanUp) (todo : List Todo) → OfClean t few n f this older c todo → (w : Value) (a : Ty) → At c w a → Belongs few n w
+    field_own src.Ends todo h w a k = absurd k.2
+    field_own (src.Frees r) todo h w a k = absurd k.2
+    field_own c todo h w a k = subst (Belongs few n) (sym k.3) (further_own t few n _ this (h.0 w a k))
+
+    mark_own : (c : CleanUp) (todo : List Todo) → OfClean t few n f this older c todo → (w : Value) (a : Ty) → IsFor t (Frame n f) this c w a → Belongs few n w
+    mark_own c todo h w a (inl k) = subst (Belongs few n) (sym k.2) (frame refl)
+    mark_own c todo h w a (inr k) = field_own c todo h w a k
+
+    sort_own : (s : Sort) (todo : List Todo) (R Q : Type 0) (w : Value) (a : Ty) → OfSort t few n f this older s todo R → (R → Q → Belongs few n w) → Marks (IsFor t (Frame n f) this) At s w a Q → Belongs few n w
+    sort_own (piece.IsClean c) todo R Q w a h next (inl k) = mark_own c todo h.0 w a k
+    sort_own (piece.IsClean c) todo R Q w a h next (inr k) = next h.1 k
+    sort_own (piece.IsPart c) todo R Q w a h next (inl k) = field_own c todo h.0 w a k
+    sort_own (piece.IsPart c) todo R Q w a h next (inr k) = next h.1 k
+    sort_own piece.Simple todo R Q w a h next k = next h k
+    sort_own (piece.IsLoop x y z q) todo R Q w a h next k = next h k
+    sort_own piece.IsWhole todo R Q w a h next k = next h k
+    sort_own (piece.IsFill x y z) todo R Q w a h next k = next h k
+    sort_own (piece.IsSweep x) todo R Q w a h next k = next h k
+    sort_own (piece.IsGuard x) todo R Q w a h next k = next h k
+    sort_own piece.IsFinish todo R Q w a h next k = next h k
+    sort_own piece.IsFinishCoroutine todo R Q w a h next k = next h k
+
+    by_sort : (p : Todo) (todo : List Todo) → AllLone t few n f this older (p ∷ todo) → OfSort t few n f this older (piece.sort p) todo (AllLone t few n f this older todo)
+    by_sort piece.GoneNow todo h = h.1
+    by_sort piece.GiveUpNow todo h = h.1
+    by_sort p todo h = h
+
+    todo_own : (todo : List Todo) → AllLone t few n f this older todo → (w : Value) (a : Ty) → InTodo (IsFor t (Frame n f) this) At todo w a → Belongs few n w
+    todo_own [] h w a k = absurd k
+    todo_own (p ∷ todo) h w a k =
+        sort_own (piece.sort p) todo _ _ w a (by_sort p todo h) (λ r q. todo_own todo r w a q) k
+
+  stack_own : (cs : List Active) → LoneStack t few n cs → (w : Value) (a : Ty) → Marked t n cs w a → Belongs few n w
+  stack_own [] h w a k = absurd k
+  stack_own (c ∷ older) h w a (inl k) = todo_own c.frame c.this older c.control h.0 w a k
+  stack_own (c ∷ older) h w a (inr k) = stack_own older h.1 w a k
+
+-- so where it is neither, nobody raises one: none of the activations is of the object, and it is known to them only as what they build or destroy
+module _ (t : Table) (few : Few) (places : (n : Exec) (w : Value) (b : Ty) → Base few n w b → IsPlace w) (s : State) (known : KnowsState t few [] s) (lone : LoneStack t few s.env.exec (s.run ∷ s.callers)) (this : ThisStack t few s.env.exec (s.run ∷ s.callers)) (o : ℕ) (zero : o ≡ 0 → ⊥) (foreign : Belongs few s.env.exec (few.home o) → ⊥) (unheld : IsNoHome t few o (Base few s.env.exec)) where
+  abbrev n : Exec
+  n = s.env.exec
+
+  abbrev all : List Active
+  all = s.run ∷ s.callers
+
+  no_home : IsNoHome t few o (Things t few s.env.exec (s.run ∷ s.callers))
+  no_home c h =
+      ⊎_elim (λ m. foreign (stands_own t few n (Marked t n all) (stack_own t few n all lone) (Cell (Obj c)) (few.home o) m)) (λ b. unheld c b) (stands_split t few (Things t few n all) (Marked t n all) (Base few n) (things_split t few n all) (Cell (Obj c)) (few.home o) h)
+
+  not_made : (i : ℕ) → InMaking known.sigs (s.run ∷ s.callers) (Object o) (Raw i) → ⊥
+  not_made i m =
+      law_no_others.making t few o known.sigs all (law_no_others.none t few o n all this zero foreign no_home) i m
+
+  not_placed : IsPlace (Object o) → ⊥
+  not_placed h = h
+
+  not_aimed : (i : ℕ) → IsAimed t few s.env.exec known.sigs (s.run ∷ s.callers) i o → ⊥
+  not_aimed i (inl h) = no_home i (stands_things t few n known.sigs all (Obj i) (few.home o) h)
+  not_aimed i (inr (inl (inl h))) = not_placed (places n (Object o) (Obj i) h)
+  not_aimed i (inr (inl (inr h))) = not_placed (places n (Object o) (Raw i) h)
+  not_aimed i (inr (inr h)) = not_made i h
+
+  pub not_raised : (todo : List Todo) → s.run.control ≡ RaiseAtNow ∷ todo → top s.run.operands ≡ Object o → ⊥
+  not_raised todo control at = let a = law_aimed t few s known todo control o at in not_aimed a.0 a.2
