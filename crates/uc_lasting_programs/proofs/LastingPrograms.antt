@@ -70,7 +70,7 @@ use Rattle.uc_making_laws.specs.ForgetsThis.{RunGoes, IsLeftNowhere}
 use Rattle.uc_lasting_programs.specs.Forgetting.{IsLeftOf}
 use Rattle.uc_lasting_programs.specs.LastingPrograms.{IsLeftFor, LawLastingPrograms}
 use Rattle.uc_lasting_programs.specs.Meeting.{RunHoldsAt}
-use Rattle.uc_lasting_programs.specs.Bases.{unbarred, based}
+use Rattle.uc_lasting_programs.specs.Bases.{based}
 use Rattle.uc_lasting_programs.specs.Seats.{ride_seats, run_seats, seated}
 use Rattle.uc_lasting_programs.specs.Telling.{main_class, is_main_home, few_of, IsTelling}
 use Rattle.uc_lasting_programs.specs.Ways.{RunHoldsOnWay}
@@ -240,7 +240,7 @@ module _ (p : Program) (formed : IsFormed p) (ok : breaks_of p ≡ []) (within :
 
   -- executions have the objects for which they were made
   has_seat : (n : Exec) (v : Value) (b : Ty) → IsPlace v → seated p input opts r d n v b ≡ true → Base few n v b
-  has_seat n (Place o l) b i h = right_true (is_main_home (main_class p) n o l b) (based p input opts r d n (Place o l) b) (left_true (seated p input opts r d n (Place o l) b) (unbarred Homes source input opts r d n (Place o l)) h)
+  has_seat n (Place o l) b i h = right_true (is_main_home (main_class p) n o l b) (based p input opts r d n (Place o l) b) (left_true (seated p input opts r d n (Place o l) b) _ h)
   has_seat n (Number z) b i h = absurd i
   has_seat n (Running m) b i h = absurd i
   has_seat n (Object o) b i h = absurd i
