@@ -13,6 +13,7 @@ use Rattle.uc_machine.specs.Executions.{Execution, exec_eq, at_depth, list_in, f
 use Rattle.uc_machine.specs.Pieces as piece
 use Rattle.uc_machine.specs.Pieces.{Link, Slot, FieldAt, At, Value, Number, Place, Running, Object, Nothing, Todo, Sort, Active, State, loaded, address, nought}
 use Rattle.uc_typing.specs.Typing.{Ty, Num, Cell, Obj, Raw, Row, Clu, Pro, Sig, Table, CleansAt, element_shape}
+use Rattle.uc_typing.specs.States.{Is}
 use Rattle.uc_life_laws.specs.Things.{Few, IsField, IsBinding, Within, itself, field, element, AtVariable, Nowhere, Marks, InTodo, Variables, Known, IsFew}
 use Rattle.uc_life_laws.specs.LifeStates.{frame_at, SlotBy}
 use Rattle.uc_life_laws.specs.Lives.{OutwardsOrMade}
@@ -221,17 +222,26 @@ module _ (t : Table) (few : Few) where
   few_is n m a (Object o) h = h
   few_is n m a Nothing h = tt
 
-  -- what another one knows is known, as far as it lies in what is at hand
-  module _ (gs : List Sig) (s : State) (n : Exec) where
-    by_another : (a : Ty) (v : Value) → IsBinding a → Known t few n All a v → LiesAtHand t few gs s a v → Known t few s.env.exec (Here t few gs s) a v
-    by_another Num v i h l = tt
-    by_another (Cell Num) v i h l = record { is = h.is; passes = few_is n s.env.exec (Cell Num) v h.passes; rooted = l.rooted; held = l.held; seated = λ z. absurd z }
-    by_another (Cell a) v i h l = absurd i
-    by_another (Obj c) v i h l = record { is = h.is; passes = few_is n s.env.exec (Obj c) v h.passes; rooted = l.rooted; held = l.held; seated = λ z. absurd z }
-    by_another (Raw c) v i h l = absurd i
-    by_another (Row m a) v i h l = absurd i
-    by_another Clu v i h l = record { is = h.is; passes = few_is n s.env.exec Clu v h.passes; rooted = l.rooted; held = l.held; seated = λ z. absurd z }
-    by_another Pro v i h l = record { is = h.is; passes = few_is n s.env.exec Pro v h.passes; rooted = l.rooted; held = l.held; seated = λ z. absurd z }
+  -- what another one knows is of its type, and known as far as it lies in what is at hand
+  another_is : (n m : Exec) (a : Ty) (v : Value) → IsBinding a → Known t few n All a v → Is t a v × IsFew t few m a v
+  another_is n m Num v i h = absurd i
+  another_is n m (Cell a) v i h = (h.is, few_is n m (Cell a) v h.passes)
+  another_is n m (Obj c) v i h = (h.is, few_is n m (Obj c) v h.passes)
+  another_is n m (Raw c) v i h = absurd i
+  another_is n m (Row k a) v i h = absurd i
+  another_is n m Clu v i h = (h.is, few_is n m Clu v h.passes)
+  another_is n m Pro v i h = (h.is, few_is n m Pro v h.passes)
+
+  module _ (gs : List Sig) (s : State) where
+    lying_known : (a : Ty) (v : Value) → IsBinding a → Is t a v × IsFew t few s.env.exec a v → LiesAtHand t few gs s a v → Known t few s.env.exec (Here t few gs s) a v
+    lying_known Num v i h l = tt
+    lying_known (Cell Num) v i h l = record { is = h.0; passes = h.1; rooted = l.rooted; held = l.held; seated = λ z. absurd z }
+    lying_known (Cell a) v i h l = absurd i
+    lying_known (Obj c) v i h l = record { is = h.0; passes = h.1; rooted = l.rooted; held = l.held; seated = λ z. absurd z }
+    lying_known (Raw c) v i h l = absurd i
+    lying_known (Row m a) v i h l = absurd i
+    lying_known Clu v i h l = record { is = h.0; passes = h.1; rooted = l.rooted; held = l.held; seated = λ z. absurd z }
+    lying_known Pro v i h l = record { is = h.0; passes = h.1; rooted = l.rooted; held = l.held; seated = λ z. absurd z }
 
 module _ (t : Table) (heads : ℕ → ℕ → Bool) (few : Few) (s : State) (x : BuiltState t heads few [] s) where
   abbrev gs : List Sig
@@ -243,13 +253,14 @@ module _ (t : Table) (heads : ℕ → ℕ → Bool) (few : Few) (s : State) (x :
   read : VariablesKnown t few gs s
   read = lives_read t few s gs (frames_length t few s.env.exec gs s.env.frames (s.run ∷ s.callers) x.0.frames) x.1.0
 
-  own : (a : Ty) (v : Value) → in_own t s a v ≡ true → Known t few s.env.exec Near a (loaded v s.env)
-  own a (Place (Frame n d) p) h =
+  pub own_known : (a : Ty) (v : Value) → in_own t s a v ≡ true → IsBinding a × Known t few s.env.exec Near a (loaded v s.env)
+  own_known a (Place (Frame n d) p) h =
+      let b = bound_is a (left_is (is_bound a) (exec_eq n s.env.exec && stack_has t (Cell a) p d (s.run ∷ s.callers)) h) in
       let r = right_is (is_bound a) (exec_eq n s.env.exec && stack_has t (Cell a) p d (s.run ∷ s.callers)) h in
       let e : n ≡ s.env.exec = exec_is n s.env.exec (left_is (exec_eq n s.env.exec) (stack_has t (Cell a) p d (s.run ∷ s.callers)) r) in
       let i = in_stack t s.env.exec d p (Cell a) (s.run ∷ s.callers) (right_is (exec_eq n s.env.exec) (stack_has t (Cell a) p d (s.run ∷ s.callers)) r) in
-      subst (λ m. Known t few s.env.exec Near a (loaded (Place (Frame m d) p) s.env)) (sym e) (read i.thing i.type d p a (bound_is a (left_is (is_bound a) (exec_eq n s.env.exec && stack_has t (Cell a) p d (s.run ∷ s.callers)) h)) i.there i.within)
-  own a v h = absurd (cc)
+      (b, subst (λ m. Known t few s.env.exec Near a (loaded (Place (Frame m d) p) s.env)) (sym e) (read i.thing i.type d p a b i.there i.within))
+  own_known a v h = absurd (cc)
 
   module _ (n : Exec) (d : ℕ) (p : List Link) (a : Ty) (i : IsBinding a) where
     abbrev Read : Option (Execution (List Todo) Value) → Type 0
@@ -274,17 +285,18 @@ module _ (t : Table) (heads : ℕ → ℕ → Bool) (few : Few) (s : State) (x :
     loaded_there e h =
         subst (λ (b : Bool). Known t few n All a (slice_index_or (list_in (at_depth (if b then s.env.frames else frames_in (parked_at n s.env)) d)) (address p) nought)) (sym e) h
 
-  others : (a : Ty) (v : Value) → in_others t s a v ≡ true → LiesAtHand t few gs s a (loaded v s.env) → Known t few s.env.exec Near a (loaded v s.env)
-  others a (Place (Frame n d) p) h l =
+  pub others_are : (a : Ty) (v : Value) → in_others t s a v ≡ true → IsBinding a × (Is t a (loaded v s.env) × IsFew t few s.env.exec a (loaded v s.env))
+  others_are a (Place (Frame n d) p) h =
       let b = bound_is a (left_is (is_bound a) (not (exec_eq n s.env.exec) && parked_has t (Cell a) p d (parked_at n s.env)) h) in
       let r = right_is (is_bound a) (not (exec_eq n s.env.exec) && parked_has t (Cell a) p d (parked_at n s.env)) h in
       let e = not_is (exec_eq n s.env.exec) (left_is (not (exec_eq n s.env.exec)) (parked_has t (Cell a) p d (parked_at n s.env)) r) in
       let y = in_slot n d p a b (parked_at n s.env) (parked_rests (ClaimsSlot t few (Built t heads few)) n s.env x.0.env) (right_is (not (exec_eq n s.env.exec)) (parked_has t (Cell a) p d (parked_at n s.env)) r) in
-      by_another t few gs s n a (loaded (Place (Frame n d) p) s.env) b (loaded_there n d p a b e y) l
-  others a v h l = absurd (cc)
+      (b, another_is t few n s.env.exec a (loaded (Place (Frame n d) p) s.env) b (loaded_there n d p a b e y))
+  others_are a v h = absurd (cc)
 
 pub law_scoped_reads : LawScopedReads
 law_scoped_reads = record {
-  own = λ t heads few s x a v h. own t heads few s x a v h;
-  others = λ t heads few s x a v h l. others t heads few s x a v h l;
+  own = λ t heads few s x a v h. (own_known t heads few s x a v h).1;
+  others = λ t heads few s x a v h. (others_are t heads few s x a v h).1;
+  lying = λ t heads few s x a v h l. let o = others_are t heads few s x a v h in lying_known t few x.0.sigs s a (loaded v s.env) o.0 o.1 l;
 }

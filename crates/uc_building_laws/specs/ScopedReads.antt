@@ -7,7 +7,8 @@ use Rattle.uc_machine.specs.declared.exec.Stage.TheVariants.{Fresh, Started, End
 use Rattle.uc_machine.specs.Executions.{Execution, exec_eq, parked_at}
 use Rattle.uc_machine.specs.Pieces.{Link, Slot, FieldAt, At, Value, Place, Todo, Sort, sort, IsClean, Active, State, loaded}
 use Rattle.uc_typing.specs.Typing.{Ty, Num, Cell, Obj, Raw, Row, Clu, Pro, Sig, Table, element_shape}
-use Rattle.uc_life_laws.specs.Things.{Few, IsTracked, IsMutex, LiesIn, Known}
+use Rattle.uc_typing.specs.States.{Is}
+use Rattle.uc_life_laws.specs.Things.{Few, IsTracked, IsMutex, IsFew, LiesIn, Known}
 use Rattle.uc_life_laws.specs.Knowing.{Here}
 use Rattle.uc_building_laws.specs.BuildingStates.{BuiltState}
 use Rattle.uc_building_laws.specs.BuiltReads.{ended_class}
@@ -131,11 +132,13 @@ pub record LiesAtHand (t : Table) (few : Few) (gs : List Sig) (s : State) (a : T
   pub rooted : IsTracked t a → LiesIn t few s.env.exec (Here t few gs s) a v
   pub held : IsMutex t a → LiesIn t few s.env.exec (Here t few gs s) a v
 
--- in a state in which all is known by kinds by which variables in scope hold what is known, what is read there is known: of what others have in scope as far as it
--- lies in what is at hand
+-- in a state in which all is known by kinds by which variables in scope hold what is known, what is read there is known; of what others have in scope it is of its type,
+-- and numbers are such, so it is known as far as it lies in what is at hand
 pub record LawScopedReads : Type 0 where
   pub own : (t : Table) (heads : ℕ → ℕ → Bool) (few : Few) (s : State) (x : BuiltState t heads few [] s) (a : Ty) (v : Value) →
       in_own t s a v ≡ true → Known t few s.env.exec (Here t few x.0.sigs s) a (loaded v s.env)
   pub others : (t : Table) (heads : ℕ → ℕ → Bool) (few : Few) (s : State) (x : BuiltState t heads few [] s) (a : Ty) (v : Value) →
+      in_others t s a v ≡ true → Is t a (loaded v s.env) × IsFew t few s.env.exec a (loaded v s.env)
+  pub lying : (t : Table) (heads : ℕ → ℕ → Bool) (few : Few) (s : State) (x : BuiltState t heads few [] s) (a : Ty) (v : Value) →
       in_others t s a v ≡ true → LiesAtHand t few x.0.sigs s a (loaded v s.env) →
       Known t few s.env.exec (Here t few x.0.sigs s) a (loaded v s.env)

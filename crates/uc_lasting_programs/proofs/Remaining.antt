@@ -186,7 +186,7 @@ module _ (p : Program) (formed : IsFormed p) (ok : breaks_of p ≡ []) (within :
     where
       by : (b : Bool) → reads_bound t (heads_of p) x.0.run.sig s ≡ b → Finds t few x.0.sigs x.0.run.sig x.0.run.scope s s.run.control x.0.run.own
       by true e = law_built_reads p formed ok few s x e
-      by false e = finds t few raws x.0.sigs x.0.run.sig x.0.run.scope s x.0.run.this there (record { own = law_scoped_reads.own t (heads_of p) few s x; others = law_scoped_reads.others t (heads_of p) few s x }) s.run.control refl x.0.run.own x.0.run.base x.0.run.ok seats placed homed (h e)
+      by false e = finds t few raws x.0.sigs x.0.run.sig x.0.run.scope s x.0.run.this there (record { own = law_scoped_reads.own t (heads_of p) few s x; others = law_scoped_reads.lying t (heads_of p) few s x }) s.run.control refl x.0.run.own x.0.run.base x.0.run.ok seats placed homed (h e)
 
   -- who runs in a journal, told its answer
   module _ (few : Few) (raws : RawsPass few) (j : Journal) (wholes : (c o : ℕ) → is_gone o j ≡ false → few.numbers (Raw c) o ≡ true → few.numbers (Obj c) o ≡ true) (w : World) (r : Runs source input opts j w) (f : RunFits source input opts j w r) (on : is_over j ≡ false) (clusters : (n : ℕ) → n < cluster_count j → few.numbers Clu n ≡ true) (homes : Few) (same : (o : ℕ) → few.home o ≡ homes.home o) (u processor : ℕ) (given : Answer) (runs_on : running processor j ≡ u ∷ []) (told : answer_to source.sites u j ≡ Some given) where
