@@ -14,7 +14,7 @@ use Rattle.uc_typing.specs.States.{Is}
 use Rattle.uc_life_laws.specs.Homes.{home_of}
 use Rattle.uc_life_laws.specs.Things.{Few, Base, itself, lies, LiesIn, Known}
 use Rattle.uc_lasting_programs.specs.Bases.{is_bare, of_others, unbarred, based}
-use Rattle.uc_lasting_programs.specs.OfOthers.{IsOfOthers}
+use Rattle.uc_lasting_programs.specs.OfOthers.{IsHad, IsOfOthers}
 use Rattle.uc_lasting_programs.specs.Seats.{seated}
 use Rattle.uc_lasting_programs.specs.Telling.{main_class, is_main_home, few_of}
 use Rattle.uc_lasting_programs.proofs.Seats.{both_true, right_true}
@@ -54,20 +54,35 @@ module _ (t : Table) (few : Few) (had : HasOthers few) (n : Exec) (K : Value →
   object_known c (Object o) plain i h = no_both false h refl
   object_known c Nothing plain i h = no_both false h refl
 
+  pub lies_of_others : (a : Ty) (v : Value) → IsHad t n a v → LiesIn t few n K a v
+  lies_of_others Num v h = absurd h
+  lies_of_others (Cell Num) v h = scalar_lies v h
+  lies_of_others (Cell (Cell a)) v h = absurd h
+  lies_of_others (Cell (Obj c)) v h = absurd h
+  lies_of_others (Cell (Raw c)) v h = absurd h
+  lies_of_others (Cell (Row m a)) v h = absurd h
+  lies_of_others (Cell Clu) v h = absurd h
+  lies_of_others (Cell Pro) v h = absurd h
+  lies_of_others (Obj c) v h = object_lies c v h.1
+  lies_of_others (Raw c) v h = absurd h
+  lies_of_others (Row m a) v h = absurd h
+  lies_of_others Clu v h = absurd h
+  lies_of_others Pro v h = absurd h
+
   pub known_of_others : (a : Ty) (v : Value) → IsOfOthers t n a v → Known t few n K a v
-  known_of_others Num v h = absurd h
+  known_of_others Num v h = absurd h.1
   known_of_others (Cell Num) v h = scalar_known v h.0 h.1
-  known_of_others (Cell (Cell a)) v h = absurd h
-  known_of_others (Cell (Obj c)) v h = absurd h
-  known_of_others (Cell (Raw c)) v h = absurd h
-  known_of_others (Cell (Row m a)) v h = absurd h
-  known_of_others (Cell Clu) v h = absurd h
-  known_of_others (Cell Pro) v h = absurd h
-  known_of_others (Obj c) v h = object_known c v h.0 h.1 h.2
-  known_of_others (Raw c) v h = absurd h
-  known_of_others (Row m a) v h = absurd h
-  known_of_others Clu v h = absurd h
-  known_of_others Pro v h = absurd h
+  known_of_others (Cell (Cell a)) v h = absurd h.1
+  known_of_others (Cell (Obj c)) v h = absurd h.1
+  known_of_others (Cell (Raw c)) v h = absurd h.1
+  known_of_others (Cell (Row m a)) v h = absurd h.1
+  known_of_others (Cell Clu) v h = absurd h.1
+  known_of_others (Cell Pro) v h = absurd h.1
+  known_of_others (Obj c) v h = object_known c v h.1.0 h.0 h.1.1
+  known_of_others (Raw c) v h = absurd h.1
+  known_of_others (Row m a) v h = absurd h.1
+  known_of_others Clu v h = absurd h.1
+  known_of_others Pro v h = absurd h.1
 
 -- so it is by what a run tells of others
 pub others_had : (p : Program) (input : List ℕ) (opts : Options) (j : Journal) (w : World) (r : Runs (source_of p) input opts j w) (q u k : ℕ) (s : State) (a : Asked) (d : AsksIn (source_of p) opts j w q u k s a) → HasOthers (few_of p input opts j w r (based p input opts r d))
