@@ -126,20 +126,20 @@ module _ (t : Table) (few : Few) (raws : RawsPass few) (gs : List Sig) (g : Sig)
   base_things [] v b h = h
   base_things (c ∷ cs) v b h = inr (base_things cs v b h)
 
-  more : (v : Value) (b : Ty) → Base few s.env.exec v b → Here t few gs s v b
-  more v b h = inl (base_things (s.run ∷ s.callers) v b h)
+  base_here : (v : Value) (b : Ty) → Base few s.env.exec v b → Here t few gs s v b
+  base_here v b h = inl (base_things (s.run ∷ s.callers) v b h)
 
   -- what is another's and no mutex object lies there
   lies_had : (a : Ty) (v : Value) → IsHad t s.env.exec a v → LiesAtHand t few gs s a v
   lies_had a v h = record {
-    rooted = λ r. lies_of_others t few had s.env.exec (Here t few gs s) more a v h;
-    held = λ m. lies_of_others t few had s.env.exec (Here t few gs s) more a v h;
+    rooted = λ r. lies_of_others t few had s.env.exec (Here t few gs s) base_here a v h;
+    held = λ m. lies_of_others t few had s.env.exec (Here t few gs s) base_here a v h;
   }
 
   bound : (a : Ty) (v : Value) (o : Bool) → in_own t s a v ≡ o → (u : Bool) → in_others t s a v ≡ u → BoundLeft t few gs g sc s o u a v → ReadsKnown t few gs s a v
   bound a v true e u f h = all_read a v (scoped.own a v e)
   bound a v false e true f h = all_read a v (scoped.others a v f (⊎_elim (λ l. l) (λ o. lies_had a (loaded v s.env) o) h))
-  bound a v false e false f h = ⊎_elim (λ k. k) (λ o. all_read a v (known_of_others t few had s.env.exec (Here t few gs s) more a (loaded v s.env) o)) h
+  bound a v false e false f h = ⊎_elim (λ k. k) (λ o. all_read a v (known_of_others t few had s.env.exec (Here t few gs s) base_here a (loaded v s.env) o)) h
 
   reads : (a : Ty) (v : Value) → ReadsLeft t few gs g sc s a v → ReadsKnown t few gs s a v
   reads Num v h = all_read Num v tt
