@@ -12,12 +12,14 @@ pub mod Ways
 pub mod Telling
 pub mod Numbers
 pub mod Seats
+pub mod SeatHomes
 pub mod Bases
 pub mod PlacedHomes
 pub mod Presence
 pub mod OwnScopes
 pub mod PutLeads
 pub mod EnteredAgain
+pub mod HomesAway
 pub mod PresentRides
 pub mod PresentRuns
 pub mod Meeting
