@@ -134,7 +134,7 @@ module _ (t : Table) (few : Few) (raws : RawsPass few) (gs : List Sig) (g : Sig)
   -- a new execution has its object, which stands there, or is at home there
   seat_lies : (n : Exec) (c : ℕ) → g.this ≡ Some c → (v : Value) → s.run.this ≡ v → HasSeat t few.home (Base few) n c v → ((o : ℕ) → v ≡ Object o → IsPlace (few.home o)) → LiesIn t few n (Base few n) (Obj c) s.run.this
   seat_lies n c i (Number z) e h f = subst (LiesIn t few n (Base few n) (Obj c)) (sym e) tt
-  seat_lies n c i (Place o p) e h f = subst (LiesIn t few n (Base few n) (Obj c)) (sym e) (inl (lies h itself))
+  seat_lies n c i (Place o p) e h f = subst (LiesIn t few n (Base few n) (Obj c)) (sym e) (inr (Place o p, c, h, itself))
   seat_lies n c i (Running x) e h f = subst (LiesIn t few n (Base few n) (Obj c)) (sym e) tt
   seat_lies n c i (Object o) e h f =
       subst (LiesIn t few n (Base few n) (Obj c)) (sym e) (inl (inside (this_mutex c o i e) (lies (h (f o refl)) itself) itself))

@@ -32,7 +32,7 @@ use Rattle.uc_life_laws.specs.Things.{Few, Things, or_raw}
 use Rattle.uc_apart_laws.specs.Before.{world_at}
 use Rattle.uc_apart_laws.specs.Clear.{NotMaking, IsNoHome}
 use Rattle.uc_making_laws.specs.BeforeRides.{HaveNoHome, LiveElsewhere, IsLone, ElsewhereOnWayBy}
-use Rattle.uc_lasting_programs.specs.Seats.{same_path, same_owner, seated}
+use Rattle.uc_lasting_programs.specs.Seats.{same_path, same_owner, seated, housed}
 
 -- a place lies at another, or in what is there
 
@@ -157,13 +157,13 @@ abbrev pub based : (p : Program) (input : List ℕ) (opts : Options) {j : Journa
     AsksIn (source_of p) opts j w q t k s a → Exec → Value → Ty → Bool
 based p input opts {j} {w} r d n z b = seated p input opts r d n z b || unbarred (λ o. home_of (source_of p) input opts j w r o) (source_of p) input opts r d n z
 
--- of others seats alone are told
+-- of others the homes alone of mutex objects for which executions were made are told
 abbrev pub seats_of : (p : Program) (input : List ℕ) (opts : Options) {j : Journal} {w : World} → Runs (source_of p) input opts j w → {q t k : ℕ} {s : State} {a : Asked} →
     AsksIn (source_of p) opts j w q t k s a → Few
 seats_of p input opts {j} {w} r d = record {
   numbers = or_raw (made_by opts j);
   home = λ o. home_of (source_of p) input opts j w r o;
-  base = seated p input opts r d;
+  base = housed p input opts r d;
 }
 
 -- what is left to show of ways
