@@ -40,15 +40,15 @@ use Rattle.uc_life_laws.specs.Belonging.{Belongs, fields, object}
 use Rattle.uc_life_laws.specs.Homes.{home_of}
 use Rattle.uc_life_laws.specs.Knowing.{main_of}
 use Rattle.uc_life_laws.specs.LifeStates.{EnvBy}
-use Rattle.uc_life_laws.specs.Things.{Few, Base, Things, Within, itself, field, element, Stands, lies, inside}
+use Rattle.uc_life_laws.specs.Things.{Few, Base, Within, itself, field, element, Stands, lies, inside}
 use Rattle.uc_life_laws.specs.Rooted.{IsPlace, InSlot, InParked, InHand, InMembers, Lives}
 use Rattle.uc_life_laws.proofs.OwnNamesLemmas.{run_first}
 use Rattle.uc_life_laws.proofs.Reading.{within_raw}
 use Rattle.uc_life_laws.proofs.Rooted.{env_in}
 use Rattle.uc_apart_laws.specs.Before.{world_at}
 use Rattle.uc_apart_laws.specs.Clear.{IsNoHome}
-use Rattle.uc_making_laws.specs.BeforeRides.{HasNoHomeBy, HasNoHome, LiveElsewhere, ElsewhereOnWayBy, ElsewhereOnWay}
-use Rattle.uc_lasting_programs.specs.Bases.{ends_in, lies_under, in_object, is_started, slot_has, parked_has, hand_has, env_has, members_have, home_has, task_has, tasks_have, lives_in, is_none, is_no_task, stands_at, is_around, bars_by, ride_bars, run_bars, way_bars, unbarred, based, seats_of, SeatsElsewhereBy, SeatsElsewhere}
+use Rattle.uc_making_laws.specs.BeforeRides.{HasNoHomeBy, HasNoHome, LiveElsewhere}
+use Rattle.uc_lasting_programs.specs.Bases.{ends_in, lies_under, in_object, is_started, slot_has, parked_has, hand_has, env_has, members_have, home_has, task_has, tasks_have, lives_in, is_none, is_no_task, stands_at, is_around, bars_by, ride_bars, run_bars, way_bars, unbarred, based, seats_of, BareOnWayBy, BareOnWay, SeatsElsewhereBy, SeatsElsewhere}
 use Rattle.uc_lasting_programs.specs.Seats.{but_raw, seated, housed}
 use Rattle.uc_lasting_programs.specs.Telling.{main_class, is_main_home, on_places, few_of}
 use Rattle.uc_lasting_programs.specs.Ways.{RunHoldsOnWay}
@@ -327,35 +327,34 @@ module _ (t : Table) (few seats : Few) (same : (o : ℕ) → seats.home o ≡ fe
             (stands_or t few made (λ q. sym (alike q)) (Base few n) (Base made n) (Rest n) (rests n) (Cell (Obj c)) (few.home o) s)
         by Ended n y q i k = tt
 
-    -- what an execution knows, by fewer, or it has it of others and nothing bars it
-    things_split : (n : Exec) (cs : List Active) (z : Value) (b : Ty) → Things t few n cs z b → Things t seats n cs z b ⊎ Open n z b
-    things_split n [] z b h = ⊎_elim (λ k. inl k) (λ f. inr (h, f)) (split n z b h)
-    things_split n (c ∷ cs) z b (inl m) = inl (inl m)
-    things_split n (c ∷ cs) z b (inr h) = ⊎_elim (λ k. inl (inr k)) (λ f. inr f) (things_split n cs z b h)
-
-    -- of what who runs knows
-    clear_of : (o : ℕ) (again : Bool) → again ≡ true → ((n : Exec) (z : Value) → Free n z → ((exec_eq n v.env.exec && again) && is_around few.home o z) ≡ false) → IsNoHome t seats o (Things t seats v.env.exec (v.run ∷ v.callers)) → IsNoHome t few o (Things t few v.env.exec (v.run ∷ v.callers))
-    clear_of o again a free h c s =
+    -- of who runs
+    running : (o : ℕ) (again : Bool) → again ≡ true → Belongs few v.env.exec (few.home o) → ((n : Exec) (z : Value) → Free n z → ((exec_eq n v.env.exec && again) && is_around few.home o z) ≡ false) → IsNoHome t made o (Base made v.env.exec) → IsNoHome t few o (Base few v.env.exec)
+    running o again a belongs free h c s =
         let n = v.env.exec in
         ⊎_elim
-        (λ b. h c (subst (Stands t seats (Things t seats n (v.run ∷ v.callers)) (Cell (Obj c))) (sym (same o)) b))
+        (λ b. h c (subst (Stands t made (Base made n) (Cell (Obj c))) (sym (alike o)) b))
         (λ r.
         ⊎_elim
-        (λ f. no_both ((exec_eq n n && again) && is_around few.home o r.thing) (both_true (exec_eq n n && again) (is_around few.home o r.thing) (both_true (exec_eq n n) again (exec_self n) a) (around_place t few o r.thing r.type c (places n r.thing r.type r.one.0) r.stands)) (free n r.thing f))
+        (λ f. not_first t few nobodys n r.thing r.type f (Cell (Obj c)) (few.home o) r.stands belongs)
+        (λ k.
+        ⊎_elim
+        (λ f. no_both ((exec_eq n n && again) && is_around few.home o r.thing) (both_true (exec_eq n n && again) (is_around few.home o r.thing) (both_true (exec_eq n n) again (exec_self n) a) (around_place t few o r.thing r.type c (places n r.thing r.type k.0) r.stands)) (free n r.thing f))
         (λ raw. no_raw t few r.thing r.type raw c (few.home o) r.stands)
-        r.one.1)
-        (stands_or t few seats (λ q. sym (same q)) (Things t few n (v.run ∷ v.callers)) (Things t seats n (v.run ∷ v.callers)) (Open n) (λ z b m. things_split n (v.run ∷ v.callers) z b m) (Cell (Obj c)) (few.home o) s)
+        k.1)
+        r.one)
+        (stands_or t few made (λ q. sym (alike q)) (Base few n) (Base made n) (Rest n) (rests n) (Cell (Obj c)) (few.home o) s)
 
-    at : (l : List Todo) → ((n : Exec) (z : Value) → Free n z → bars_by few.home source j w u l v n z ≡ false) → SeatsElsewhereBy t few seats made j w u v source l → ElsewhereOnWayBy t few j w u v source l
+    at : (l : List Todo) → ((n : Exec) (z : Value) → Free n z → bars_by few.home source j w u l v n z ≡ false) → SeatsElsewhereBy t few made j w u v source l → BareOnWayBy t few j w u v source l
     at (piece.GoneNow ∷ todo) free h = λ lone. elsewhere (this_object v) lone.0 free (h lone)
     at (piece.GiveUpNow ∷ todo) free h = λ lone. elsewhere (this_object v) lone.0 free (h lone)
     at (piece.MadeNow ∷ todo) free h = λ lone. none_of (this_object v) (record v.env { hand = without (this_object v) v.env.hand }) lone.0 free (h lone)
     at (piece.SpawnNow r ∷ todo) free h = λ lone. none_of (this_object v) (record v.env { hand = without (this_object v) v.env.hand }) lone.0 free (h lone)
-    at (piece.EnterNow m r ∷ todo) free h = λ k ends again.
-        let x = h k ends again in
+    at (piece.EnterNow m r ∷ todo) free h = λ ends again lone.
+        let x = h ends again lone in
         let o = entering source r v in
-        (x.0, (x.1.0, clear_of o (is_ending source r && is_again source r v) (both_true (is_ending source r) (is_again source r v) ends again) free x.1.1), x.2)
-    at l free h = h
+        (x.0, running o (is_ending source r && is_again source r v) (both_true (is_ending source r) (is_again source r v) ends again) lone.0 free x.1, x.2)
+    at [] free h = λ k. tt
+    at (p ∷ todo) free h = λ k. tt
 
   -- nor around what an event is raised at, by who raises it
   module _ (source : Source) (j : Journal) (w : World) (u : ℕ) (v : State) (free : (n : Exec) (z : Value) → Free n z → bars_by few.home source j w u v.run.control v n z ≡ false) where
@@ -393,17 +392,17 @@ module _ (t : Table) (few seats : Few) (same : (o : ℕ) → seats.home o ≡ fe
       ride_open (asks {s} e) free = free
 
     module _ (j : Journal) (w : World) (u : ℕ) (first : (v : ℕ) → task_count j ≤ v → w.tasks v ≡ first_state (routine_of source source.main) 0) where
-      ride_all : {s x : State} {q k : ℕ} {a : Asked} (r : Rides source s q x k a) → RideMeets (λ v. (n : Exec) (z : Value) → Free n z → bars_by few.home source j w u v.run.control v n z ≡ false) source s q x k a r → RideMeets (λ v. SeatsElsewhere t few seats made j w u v source) source s q x k a r → RideMeets (λ v. ElsewhereOnWay t few j w u v source) source s q x k a r
+      ride_all : {s x : State} {q k : ℕ} {a : Asked} (r : Rides source s q x k a) → RideMeets (λ v. (n : Exec) (z : Value) → Free n z → bars_by few.home source j w u v.run.control v n z ≡ false) source s q x k a r → RideMeets (λ v. SeatsElsewhere t few made j w u v source) source s q x k a r → RideMeets (λ v. BareOnWay t few j w u v source) source s q x k a r
       ride_all slices free h = tt
       ride_all (goes_on {s} e r) free h = (at source j w u first s s.run.control free.0 h.0, ride_all r free.1 h.1)
       ride_all (ticks {s} e r) free h = (at source j w u first s s.run.control free.0 h.0, ride_all r free.1 h.1)
       ride_all (asks {s} e) free h = at source j w u first s s.run.control free h
 
-      pub ride_elsewhere : {s x : State} {q k : ℕ} {a : Asked} (r : Rides source s q x k a) → ((n : Exec) (z : Value) → Free n z → ride_bars few.home source j w u r n z ≡ false) → RideMeets (λ v. SeatsElsewhere t few seats made j w u v source) source s q x k a r → RideMeets (λ v. ElsewhereOnWay t few j w u v source) source s q x k a r
+      pub ride_elsewhere : {s x : State} {q k : ℕ} {a : Asked} (r : Rides source s q x k a) → ((n : Exec) (z : Value) → Free n z → ride_bars few.home source j w u r n z ≡ false) → RideMeets (λ v. SeatsElsewhere t few made j w u v source) source s q x k a r → RideMeets (λ v. BareOnWay t few j w u v source) source s q x k a r
       ride_elsewhere r free h = ride_all r (ride_open j w u r free) h
 
     module _ (input : List ℕ) (opts : Options) (range : InRange opts) where
-      pub run_elsewhere : {j : Journal} {w : World} (r : Runs source input opts j w) → RunFits source input opts j w r → ((m : Exec) (z : Value) → Free m z → run_bars few.home source input opts r m z ≡ false) → RunHoldsOnWay (λ j w u v. SeatsElsewhere t few seats made j w u v source) source input opts r → RunHoldsOnWay (λ j w u v. ElsewhereOnWay t few j w u v source) source input opts r
+      pub run_elsewhere : {j : Journal} {w : World} (r : Runs source input opts j w) → RunFits source input opts j w r → ((m : Exec) (z : Value) → Free m z → run_bars few.home source input opts r m z ≡ false) → RunHoldsOnWay (λ j w u v. SeatsElsewhere t few made j w u v source) source input opts r → RunHoldsOnWay (λ j w u v. BareOnWay t few j w u v source) source input opts r
       run_elsewhere begun fits free h = tt
       run_elsewhere (more r o (gives p u s le)) fits free h = (run_elsewhere r fits.0 (λ m z f. left_false (run_bars few.home source input opts r m z) false (free m z f)) h.0, tt)
       run_elsewhere (more r o (no_room p u s le)) fits free h = (run_elsewhere r fits.0 (λ m z f. left_false (run_bars few.home source input opts r m z) false (free m z f)) h.0, tt)
@@ -523,11 +522,11 @@ module _ (p : Program) (formed : IsFormed p) (ok : breaks_of p ≡ []) (input : 
   open_way m z f = not_so (way_bars Homes (source_of p) input opts r d m z) f
 
   -- so what executions have of others besides is not asked of ways
-  pub ways_elsewhere : RunHoldsOnWay (λ j w u v. SeatsElsewhere (table_of p) few seats (seats_of p input opts r d) j w u v (source_of p)) (source_of p) input opts r → RunHoldsOnWay (λ j w u v. ElsewhereOnWay (table_of p) few j w u v (source_of p)) (source_of p) input opts r
+  pub ways_elsewhere : RunHoldsOnWay (λ j w u v. SeatsElsewhere (table_of p) few (seats_of p input opts r d) j w u v (source_of p)) (source_of p) input opts r → RunHoldsOnWay (λ j w u v. BareOnWay (table_of p) few j w u v (source_of p)) (source_of p) input opts r
   ways_elsewhere h =
       run_elsewhere (table_of p) few seats (λ o. refl) places Free split (seats_of p input opts r d) (λ o. refl) splits nobodys (source_of p) input opts range r fits (λ m z f. left_false (run_bars Homes (source_of p) input opts r m z) (ride_bars Homes (source_of p) j w u d.rides m z) (open_way m z f)) h
 
-  pub way_elsewhere : RideMeets (λ v. SeatsElsewhere (table_of p) few seats (seats_of p input opts r d) j w u v (source_of p)) (source_of p) (answered (source_of p) d.given (drawn j w u)) (left opts j u) s n asked d.rides → RideMeets (λ v. ElsewhereOnWay (table_of p) few j w u v (source_of p)) (source_of p) (answered (source_of p) d.given (drawn j w u)) (left opts j u) s n asked d.rides
+  pub way_elsewhere : RideMeets (λ v. SeatsElsewhere (table_of p) few (seats_of p input opts r d) j w u v (source_of p)) (source_of p) (answered (source_of p) d.given (drawn j w u)) (left opts j u) s n asked d.rides → RideMeets (λ v. BareOnWay (table_of p) few j w u v (source_of p)) (source_of p) (answered (source_of p) d.given (drawn j w u)) (left opts j u) s n asked d.rides
   way_elsewhere h =
       ride_elsewhere (table_of p) few seats (λ o. refl) places Free split (seats_of p input opts r d) (λ o. refl) splits nobodys (source_of p) j w u (run_first (source_of p) input opts range r fits on) d.rides (λ m z f. right_false (run_bars Homes (source_of p) input opts r m z) (ride_bars Homes (source_of p) j w u d.rides m z) (open_way m z f)) h
 

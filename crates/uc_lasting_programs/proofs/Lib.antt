@@ -15,9 +15,11 @@ pub mod Seats
 pub mod Bases
 pub mod PlacedHomes
 pub mod Presence
+pub mod OwnScopes
+pub mod PutLeads
+pub mod EnteredAgain
 pub mod PresentRides
 pub mod PresentRuns
-pub mod OwnScopes
 pub mod Meeting
 pub mod Clusters
 pub mod MutexScopes

@@ -135,7 +135,7 @@ module _ (source : Source) where
   no_object (src.Frees r) h = let e : true ≡ false = h in absurd (cc)
   no_object c h = refl
 
-  closed : (ss : Stmts) → EnteredStmts source ss → IsClosed ss
+  pub closed : (ss : Stmts) → EnteredStmts source ss → IsClosed ss
   closed (src.Scoped c rest) h = no_object c h.0
   closed ss h = refl
 

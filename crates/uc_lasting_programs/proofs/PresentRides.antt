@@ -197,33 +197,48 @@ module _ (p : Program) (formed : IsFormed p) (ok : breaks_of p ≡ []) (few : Fe
         }
 
     -- along the way, where all is known in each state before which steps found what they were to find
-    module _ (G : State → Type 0) (known : (s : State) (l : Leads (source_of p) start s) → LeadsMeet G (source_of p) start s l → KnowsState (table_of p) (lasting few j) [] s × KnowsState (table_of p) few [] s) (Also : State → Type 0) (also : (s : State) (l : Leads (source_of p) start s) → LeadsMeet G (source_of p) start s l → Also s) where
-      -- a step finds that where the object at hand is present, and where else what follows from all that was found holds
+    module _ (G : State → Type 0) (known : (s : State) (l : Leads (source_of p) start s) → LeadsMeet G (source_of p) start s l → KnowsState (table_of p) (lasting few j) [] s × KnowsState (table_of p) few [] s) (Also : State → Type 0) (also : (s : State) (l : Leads (source_of p) start s) → LeadsMeet G (source_of p) start s l → Also s) (Cond : State → Type 0) (clear : (s : State) (l : Leads (source_of p) start s) → LeadsMeet G (source_of p) start s l → Here s → Cond s → EntersClear p few s) where
+      -- a step finds that where the object at hand is present, and where else what follows from all that was found holds; and from this it follows that what
+      -- is entered again is not at hand
       abbrev pub Once : State → Type 0
-      Once s = EntersClear p few s × (IsPresent few.home j s → Also s → G s)
+      Once s = Cond s × (IsPresent few.home j s → Also s → G s)
 
       pub led : {s u : State} (m : Leads (source_of p) start s) → LeadsMeet G (source_of p) start s m → Here s → (l : Leads (source_of p) s u) → LeadsMeet Once (source_of p) s u l → LeadsMeet G (source_of p) s u l
       led m g h way.stays f = tt
       led {s} m g h (way.goes {u = v} e l) f =
           let here : G s = f.0.1 (present_at s h) (also s m g) in
           let k = known s m g in
-          (here, led (endings.goes_on G (source_of p) m e) (endings.goes_met G (source_of p) m e g here) (goes s v k.0 k.1 f.0.0 h e) l f.1)
+          (here, led (endings.goes_on G (source_of p) m e) (endings.goes_met G (source_of p) m e g here) (goes s v k.0 k.1 (clear s m g h f.0.0) h e) l f.1)
       led {s} m g h (way.ticks {u = v} e l) f =
           let here : G s = f.0.1 (present_at s h) (also s m g) in
           let k = known s m g in
-          (here, led (endings.ticks_on G (source_of p) m e) (endings.ticks_met G (source_of p) m e g here) (ticked s v k.0 k.1 f.0.0 h e) l f.1)
+          (here, led (endings.ticks_on G (source_of p) m e) (endings.ticks_met G (source_of p) m e g here) (ticked s v k.0 k.1 (clear s m g h f.0.0) h e) l f.1)
 
       pub rode : {s u : State} {q k : ℕ} {a : Asked} (m : Leads (source_of p) start s) → LeadsMeet G (source_of p) start s m → Here s → (r : Rides (source_of p) s q u k a) → RideMeets Once (source_of p) s q u k a r → RideMeets G (source_of p) s q u k a r
       rode m g h slices f = tt
       rode m g h (goes_on {s} {t = v} e r) f =
           let here : G s = f.0.1 (present_at s h) (also s m g) in
           let k = known s m g in
-          (here, rode (endings.goes_on G (source_of p) m e) (endings.goes_met G (source_of p) m e g here) (goes s v k.0 k.1 f.0.0 h e) r f.1)
+          (here, rode (endings.goes_on G (source_of p) m e) (endings.goes_met G (source_of p) m e g here) (goes s v k.0 k.1 (clear s m g h f.0.0) h e) r f.1)
       rode m g h (ticks {s} {t = v} e r) f =
           let here : G s = f.0.1 (present_at s h) (also s m g) in
           let k = known s m g in
-          (here, rode (endings.ticks_on G (source_of p) m e) (endings.ticks_met G (source_of p) m e g here) (ticked s v k.0 k.1 f.0.0 h e) r f.1)
+          (here, rode (endings.ticks_on G (source_of p) m e) (endings.ticks_met G (source_of p) m e g here) (ticked s v k.0 k.1 (clear s m g h f.0.0) h e) r f.1)
       rode m g h (asks {s} e) f = f.1 (present_at s h) (also s m g)
+
+      pub cleared : {s u : State} {q k : ℕ} {a : Asked} (m : Leads (source_of p) start s) → LeadsMeet G (source_of p) start s m → Here s → (r : Rides (source_of p) s q u k a) → RideMeets Once (source_of p) s q u k a r → RideMeets (EntersClear p few) (source_of p) s q u k a r
+      cleared m g h slices f = tt
+      cleared m g h (goes_on {s} {t = v} e r) f =
+          let here : G s = f.0.1 (present_at s h) (also s m g) in
+          let k = known s m g in
+          let c = clear s m g h f.0.0 in
+          (c, cleared (endings.goes_on G (source_of p) m e) (endings.goes_met G (source_of p) m e g here) (goes s v k.0 k.1 c h e) r f.1)
+      cleared m g h (ticks {s} {t = v} e r) f =
+          let here : G s = f.0.1 (present_at s h) (also s m g) in
+          let k = known s m g in
+          let c = clear s m g h f.0.0 in
+          (c, cleared (endings.ticks_on G (source_of p) m e) (endings.ticks_met G (source_of p) m e g here) (ticked s v k.0 k.1 c h e) r f.1)
+      cleared m g h (asks {s} e) f = clear s m g h f.0
 
       -- and at its end
       pub ended : {s u : State} {q k : ℕ} {a : Asked} (m : Leads (source_of p) start s) → LeadsMeet G (source_of p) start s m → Here s → (r : Rides (source_of p) s q u k a) → RideMeets (EntersClear p few) (source_of p) s q u k a r → RideMeets G (source_of p) s q u k a r → LetsState (table_of p) (there (λ o. is_gone o j)) u × LetsAsked (table_of p) (there (λ o. is_gone o j)) a.request u

@@ -46,8 +46,8 @@ pub record IsLeftFor (p : Program) (input : List ℕ) (opts : Options) (j : Jour
   pub met : RunHoldsAt (λ i. LeftOutside (table_of p) (owns_of p) (heads_of p) (lasting (few_of p input opts j w r (based p input opts r d)) i)) (source_of p) input opts j w r
   pub met_now : RideHolds (LeftOutside (table_of p) (owns_of p) (heads_of p) (lasting (few_of p input opts j w r (based p input opts r d)) j)) (source_of p) 0 (answered (source_of p) d.given (drawn j w t)) (left opts j t) s n asked d.rides
   -- what is left so that on the way to what is asked nobody else has at hand what is let go of: so it is of seats
-  pub ways : RunHoldsOnWay (λ i x u v. SeatsElsewhere (table_of p) (few_of p input opts j w r (based p input opts r d)) (few_of p input opts j w r (housed p input opts r d)) (seats_of p input opts r d) i x u v (source_of p)) (source_of p) input opts r
-  pub way_now : RideMeets (λ v. SeatsElsewhere (table_of p) (few_of p input opts j w r (based p input opts r d)) (few_of p input opts j w r (housed p input opts r d)) (seats_of p input opts r d) j w t v (source_of p)) (source_of p) (answered (source_of p) d.given (drawn j w t)) (left opts j t) s n asked d.rides
+  pub ways : RunHoldsOnWay (λ i x u v. SeatsElsewhere (table_of p) (few_of p input opts j w r (based p input opts r d)) (seats_of p input opts r d) i x u v (source_of p)) (source_of p) input opts r
+  pub way_now : RideMeets (λ v. SeatsElsewhere (table_of p) (few_of p input opts j w r (based p input opts r d)) (seats_of p input opts r d) j w t v (source_of p)) (source_of p) (answered (source_of p) d.given (drawn j w t)) (left opts j t) s n asked d.rides
   -- what is entered next to be destroyed is not gone, where it is at home in what is the own of who enters it, but at no variable
   pub ended : (v : State) (k i : ℕ) (todo : List Todo) → v.run.control ≡ EnterNow k i ∷ todo → ((table_of p).routine i).whole ≡ true → (o m : ℕ) → quiet (source_of p) v ≡ Asks (ask.Call o m) s →
       Belongs (few_of p input opts j w r (based p input opts r d)) v.env.exec ((few_of p input opts j w r (based p input opts r d)).home o) → is_variable ((few_of p input opts j w r (based p input opts r d)).home o) ≡ false → is_gone o j ≡ false
