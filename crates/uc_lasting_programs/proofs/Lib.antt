@@ -13,6 +13,7 @@ pub mod Telling
 pub mod Numbers
 pub mod Seats
 pub mod Bases
+pub mod OfOthers
 pub mod PlacedHomes
 pub mod Presence
 pub mod OwnScopes
