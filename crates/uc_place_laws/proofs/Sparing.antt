@@ -1,21 +1,19 @@
 -- What is bound leaves objects alone whose constructors are still to be called.
-use Rattle.std.proofs.Common.{◌≡◌, ℕ, inl, inr, Bool, true, false, List, [], ◌∷◌, drop, refl, subst}
+use Rattle.std.proofs.Common.{◌≡◌, ℕ, inl, inr, Bool, true, false, List, [], ◌∷◌, drop, refl}
 use Rattle.uc_tree.specs.Programs.{Program}
 use Rattle.uc_tree.specs.Source as src
 use Rattle.uc_tree.specs.Source.{Expr, CleanUp, Stmts, Source}
-use Rattle.uc_machine.specs.declared.exec.Owner.{Owner}
 use Rattle.uc_machine.specs.declared.exec.Owner.TheVariants.{Frame, Fields}
 use Rattle.uc_machine.specs.Executions.{others}
 use Rattle.uc_machine.specs.Pieces as piece
 use Rattle.uc_machine.specs.Pieces.{Value, Number, Place, Running, Object, Nothing, address, Todo, Active, State, top, below}
 use Rattle.uc_resolve.specs.Resolve.{source_of}
 use Rattle.uc_state_laws.specs.Layout.{Sized}
-use Rattle.uc_state_laws.specs.Opening.{EndsField, is_numbered}
 use Rattle.uc_state_laws.specs.Counted.{params}
 use Rattle.uc_place_laws.specs.Opened.{OfPlain, OpensOf}
 use Rattle.uc_place_laws.specs.OpeningLaws.{NoneAwaited}
-use Rattle.uc_place_laws.specs.Calling.{Calling, NoneCalled, NoneBehind, EndsBefore}
-use Rattle.uc_place_laws.specs.Asides.{PendsBefore, LiesAside, IsNear, Mark, Holds, rest, rests, OkNow, AsideState}
+use Rattle.uc_place_laws.specs.Calling.{Calling, NoneBehind, EndsBefore}
+use Rattle.uc_place_laws.specs.Asides.{PendsBefore, LiesAside, IsNear, Mark, Holds, rest, rests, OkNow}
 use Rattle.uc_place_laws.specs.Placed.{EndsIt, OpensFor, IsObject, ScopeFor, PlacedState}
 use Rattle.uc_place_laws.specs.BindingLaws.{IsNamedPlace}
 use Rattle.uc_place_laws.specs.Sparing.{CalledBefore, Spares, SparesAt, LawSpares}
