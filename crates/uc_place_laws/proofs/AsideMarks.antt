@@ -11,7 +11,7 @@ use Rattle.uc_machine.specs.Pieces as piece
 use Rattle.uc_machine.specs.Pieces.{Link, Slot, At, Value, Number, Place, Running, Object, Nothing, LAST_ADDRESS, link_cells, address, further, Todo, Sort, Active, sort, top, below}
 use Rattle.uc_state_laws.specs.There.{IsLoose, OfVariable, OfElements, OfEach, EachNext, IsBefore, OfBound, OpensBound, NextRest, NextDrop, NextCall, Pends}
 use Rattle.uc_state_laws.specs.Counted.{params}
-use Rattle.uc_place_laws.specs.OpeningLaws.{Awaited}
+use Rattle.uc_place_laws.specs.OpeningLaws.{Awaited, AwaitedRest}
 use Rattle.uc_place_laws.specs.Calling.{Calling, NoneCalled, EndsBefore}
 use Rattle.uc_place_laws.specs.OlderResting.{AllWait}
 use Rattle.uc_place_laws.proofs.OpeningMarks.{opens_more as plains_more}
@@ -163,8 +163,14 @@ module _ (P Q : ℕ → ℕ → Type 0) (f : (d k : ℕ) → P d k → Q d k) wh
   awaited_more (piece.DropNow ∷ (piece.Within line ∷ (piece.Rest ss ∷ todo))) h = plains_more P Q f ss h
   awaited_more todo h = tt
 
+  rest_awaited : (todo : List Todo) → AwaitedRest P todo → AwaitedRest Q todo
+  rest_awaited (piece.Rest ss ∷ todo) h = plains_more P Q f ss h
+  rest_awaited todo h = tt
+
   pub calling_more : (todo : List Todo) → Calling P todo → Calling Q todo
   calling_more [] h = tt
+  calling_more (piece.Eval e ∷ todo) h = (awaited_more todo h.0, calling_more todo h.1)
+  calling_more (piece.Do a ∷ todo) h = (rest_awaited todo h.0, calling_more todo h.1)
   calling_more (piece.CallOnNow r ∷ todo) h = (awaited_more todo h.0, calling_more todo h.1)
   calling_more (piece.CallUnwrittenNow r ∷ todo) h = (awaited_more todo h.0, calling_more todo h.1)
   calling_more (p ∷ todo) h = calling_more todo h

@@ -28,6 +28,7 @@ use Rattle.uc_machine.specs.Pieces.{Value, Number, Place, Running, Object, Nothi
 use Rattle.uc_state_laws.specs.There.{IsLoose, NextDrop, EachNext}
 use Rattle.uc_state_laws.proofs.ValueSteps.{exec_same}
 use Rattle.uc_state_laws.specs.Counted.{params_at, params, count, CountedExpr, CountedRaised, CountedAt}
+use Rattle.uc_place_laws.specs.OpeningLaws.{NoneAwaited}
 use Rattle.uc_place_laws.specs.Calling.{NoneCalled, NoneBehind}
 use Rattle.uc_place_laws.specs.OlderResting.{AllWait, NamedEnv}
 use Rattle.uc_place_laws.specs.Siting.{Nowhere, Everywhere, OpensAt, OpensAlone, PlainExpr, PlainNew, SitedAt, BuildsAt, Singly, PlainSingle, SitedExpr, SitedRaised}
@@ -229,11 +230,11 @@ module _ (Z : ℕ → ℕ → Type 0) (makes : ℕ → Bool) (source : Source) w
     BuiltNear (src.BuiltAt n k e) = SitedExpr makes Near made e
     BuiltNear r = Unit {0}
 
-    pub raised : (r : Raised) (todo : List Todo) → CountedRaised source r → BuiltNear r → NextDrop (λ p. ⊥) todo → Free todo → NoneCalled todo → Fits (Any ∷ (Any ∷ (Any ∷ []))) todo → Fits [] (raising.raised_todo r todo)
-    raised (src.Plainly n) todo k q d f u h = (tt, inl (tt, (tt, inl (tt, (tt, inl (tt, h))))))
-    raised (src.BuiltAt n c e) todo k q d f u h =
-        (tt, single [] e (piece.DropNow ∷ (piece.Eval (src.Literal (pos n)) ∷ (piece.Eval (src.Get c) ∷ (piece.Eval (src.Get (c + 1)) ∷ todo)))) k q (tt, (tt, (d, f))) tt u (tt, (tt, inl (tt, (tt, inl (tt, (tt, inl (tt, h))))))))
-    raised (src.AgainFrom c) todo k q d f u h = (tt, inl (tt, (tt, inl (tt, (tt, inl (tt, h))))))
+    pub raised : (r : Raised) (todo : List Todo) → CountedRaised source r → BuiltNear r → NextDrop (λ p. ⊥) todo → Free todo → NoneAwaited todo → NoneCalled todo → Fits (Any ∷ (Any ∷ (Any ∷ []))) todo → Fits [] (raising.raised_todo r todo)
+    raised (src.Plainly n) todo k q d f v u h = (tt, inl (tt, (tt, inl (tt, (tt, inl (tt, h))))))
+    raised (src.BuiltAt n c e) todo k q d f v u h =
+        (tt, single [] e (piece.DropNow ∷ (piece.Eval (src.Literal (pos n)) ∷ (piece.Eval (src.Get c) ∷ (piece.Eval (src.Get (c + 1)) ∷ todo)))) k q (tt, (tt, (d, f))) tt (tt, (tt, (v, u))) (tt, (tt, inl (tt, (tt, inl (tt, (tt, inl (tt, h))))))))
+    raised (src.AgainFrom c) todo k q d f v u h = (tt, inl (tt, (tt, inl (tt, (tt, inl (tt, h))))))
 
     counted_at : (r : Raised) → CountedAt source r → CountedRaised source r
     counted_at (src.Plainly n) h = tt
@@ -418,15 +419,15 @@ module _ (Z : ℕ → ℕ → Type 0) (makes : ℕ → Bool) (source : Source) w
     HiddenStmt (src.OfEvents a) = HiddenEvent a
     HiddenStmt a = Unit {0}
 
-    raises_here : (r : Raised) (todo : List Todo) → CountedRaised source r → SitedRaised makes made r → Hidden r → NextDrop (λ p. ⊥) todo → Free todo → NoneCalled todo → O (Any ∷ (Any ∷ (Any ∷ []))) todo → O [] (raising.raised_todo r todo)
-    raises_here r todo k q x d f u h = raised (IsNear Z s.run.frame s.callers) made r todo k (hidden r q x) d f u h
+    raises_here : (r : Raised) (todo : List Todo) → CountedRaised source r → SitedRaised makes made r → Hidden r → NextDrop (λ p. ⊥) todo → Free todo → NoneAwaited todo → NoneCalled todo → O (Any ∷ (Any ∷ (Any ∷ []))) todo → O [] (raising.raised_todo r todo)
+    raises_here r todo k q x d f v u h = raised (IsNear Z s.run.frame s.callers) made r todo k (hidden r q x) d f v u h
 
     event_step : (a : EventStmt) (todo : List Todo) → CodeStmt makes source (IsNear Z s.run.frame s.callers) (Unit {0}) made (src.OfEvents a) → HiddenEvent a → Calm todo → O [] todo → AsideStep Z makes source (quiet.event_step a todo s)
-    event_step (src.Throw line r) todo n x c h = anew _ _ (raises_here r (piece.ThrowNow ∷ (piece.Within line ∷ todo)) n.0 n.1 x tt (calm_free todo c) (calm_none todo c) (tt, (tt, h)))
-    event_step (src.Raise line r) todo n x c h = anew _ _ (raises_here r (piece.RaiseNow ∷ (piece.Within line ∷ todo)) n.0 n.1 x tt (calm_free todo c) (calm_none todo c) (tt, (tt, h)))
+    event_step (src.Throw line r) todo n x c h = anew _ _ (raises_here r (piece.ThrowNow ∷ (piece.Within line ∷ todo)) n.0 n.1 x tt (calm_free todo c) tt (calm_none todo c) (tt, (tt, h)))
+    event_step (src.Raise line r) todo n x c h = anew _ _ (raises_here r (piece.RaiseNow ∷ (piece.Within line ∷ todo)) n.0 n.1 x tt (calm_free todo c) tt (calm_none todo c) (tt, (tt, h)))
     event_step (src.Try line body hs) todo n x c h = anew _ _ (((n.0.0, n.1.0), c), (((n.0.1, n.1.1), c), (tt, h)))
     event_step (src.RaiseAt line r a) todo n x c h =
-        anew _ _ (raises_here r (piece.Eval a ∷ (piece.RaiseAtNow ∷ (piece.Within line ∷ todo))) (counted_at (IsNear Z s.run.frame s.callers) made r n.0.0) n.1.0 x tt (tt, calm_free todo c) (calm_none todo c) (n.0.1, inl (n.1.1, (tt, (tt, h)))))
+        anew _ _ (raises_here r (piece.Eval a ∷ (piece.RaiseAtNow ∷ (piece.Within line ∷ todo))) (counted_at (IsNear Z s.run.frame s.callers) made r n.0.0) n.1.0 x tt (tt, calm_free todo c) tt (tt, calm_none todo c) (n.0.1, inl (n.1.1, (tt, (tt, h)))))
     event_step (src.Enable line events cell a) todo n x c h = anew _ _ (tt, (tt, (inner (IsNear Z s.run.frame s.callers) made (Unit {0}) a n, c, (((tt, tt), c), (tt, h)))))
     event_step (src.Disable line events cell a) todo n x c h = anew _ _ (tt, (inner (IsNear Z s.run.frame s.callers) made (Unit {0}) a n, c, (((tt, tt), c), (tt, h))))
 

@@ -16,7 +16,7 @@ use Rattle.uc_state_laws.specs.There.{OfVariable, OfElements, OfEach, EachNext, 
 use Rattle.uc_state_laws.specs.Counted.{params}
 use Rattle.uc_place_laws.specs.OlderResting.{AllWait}
 use Rattle.uc_place_laws.specs.Opened.{OfPlain}
-use Rattle.uc_place_laws.specs.OpeningLaws.{Awaited}
+use Rattle.uc_place_laws.specs.OpeningLaws.{Awaited, AwaitedRest}
 use Rattle.uc_place_laws.specs.Calling.{Calling, EndsBefore}
 use Rattle.uc_place_laws.specs.Siting.{OpensAt}
 use Rattle.uc_place_laws.specs.Asides.{IsNearer, IsNear, Mark, Any, Aside, Loose, rest, rests, anys, Calm, Ok, Runs, Waits, after}
@@ -164,6 +164,12 @@ module _ (Z : ℕ → ℕ → Type 0) where
         plain_near o.low s.0.low c (scope_high o s.0 s.1 le) s.2.0
     called_near o todo le h = tt
 
+    rest_called : (o : Room) (todo : List Todo) → o.high ≤ k → TodoIn Z o todo → AwaitedRest (EndsBefore Z (address (Slot k ∷ []))) todo
+    rest_called o (piece.Rest (src.Scoped c ss) ∷ todo) le h =
+        let s : StmtsIn Z o (src.Scoped c ss) = h.0 in
+        plain_near o.low s.0.low c (scope_high o s.0 s.1 le) s.2.0
+    rest_called o todo le h = tt
+
     calm_calling : (todo : List Todo) → Calm todo → Calling (EndsBefore Z (address (Slot k ∷ []))) todo
     calm_calling todo h = none_calling (EndsBefore Z (address (Slot k ∷ []))) todo (calm_none todo h)
 
@@ -202,12 +208,12 @@ module _ (Z : ℕ → ℕ → Type 0) where
       -- so do objects whose constructors are still to be called
       calling_near : (o : Room) (ms : List Mark) (todo : List Todo) → o.high ≤ k → TodoIn Z o todo → Ok makes source Near made ms todo → Calling (EndsBefore Z (address (Slot k ∷ []))) todo
       calling_near o ms [] le r h = tt
-      calling_near o ms (piece.Eval e ∷ todo) le r (n, inl h) = calling_near o (Any ∷ ms) todo le r.1 h.1
-      calling_near o ms (piece.Eval e ∷ todo) le r (n, inr (inl h)) = calling_near o (Any ∷ ms) todo le r.1 h.2
-      calling_near o ms (piece.Eval e ∷ todo) le r (n, inr (inr (inl h))) = calling_near o (Any ∷ ms) todo le r.1 h.3
-      calling_near o ms (piece.Eval e ∷ todo) le r (n, inr (inr (inr (inl h)))) = calling_near o (Aside ∷ ms) todo le r.1 h.1
-      calling_near o ms (piece.Eval e ∷ todo) le r (n, inr (inr (inr (inr h)))) = calling_near o (Loose ∷ ms) todo le r.1 h.1
-      calling_near o ms (piece.Do a ∷ todo) le r h = calm_calling todo h.1
+      calling_near o ms (piece.Eval e ∷ todo) le r (n, inl h) = (called_near o todo le r.1, calling_near o (Any ∷ ms) todo le r.1 h.1)
+      calling_near o ms (piece.Eval e ∷ todo) le r (n, inr (inl h)) = (called_near o todo le r.1, calling_near o (Any ∷ ms) todo le r.1 h.2)
+      calling_near o ms (piece.Eval e ∷ todo) le r (n, inr (inr (inl h))) = (called_near o todo le r.1, calling_near o (Any ∷ ms) todo le r.1 h.3)
+      calling_near o ms (piece.Eval e ∷ todo) le r (n, inr (inr (inr (inl h)))) = (called_near o todo le r.1, calling_near o (Aside ∷ ms) todo le r.1 h.1)
+      calling_near o ms (piece.Eval e ∷ todo) le r (n, inr (inr (inr (inr h)))) = (called_near o todo le r.1, calling_near o (Loose ∷ ms) todo le r.1 h.1)
+      calling_near o ms (piece.Do a ∷ todo) le r h = (rest_called o todo le r.1, calm_calling todo h.1)
       calling_near o ms (piece.ElementNow n s ∷ todo) le r (inl h) = calling_near o (Any ∷ rest (rest ms)) todo le r.1 h
       calling_near o ms (piece.ElementNow n s ∷ todo) le r (inr h) = calling_near o (Aside ∷ rest (rest ms)) todo le r.1 h.1
       calling_near o ms (piece.BindNow ∷ todo) le r h = calling_near o (Any ∷ rest (rest ms)) todo le r.1 h.1

@@ -1,11 +1,14 @@
 -- Constructors of objects that are variables, and no mutex objects, which are still to be called.
 use Rattle.std.specs.Prelude.{ℕ, ◌+◌, ◌≤◌, min, List, [], ◌∷◌}
-use Rattle.uc_machine.specs.Pieces.{Todo, LAST_ADDRESS, CallOnNow, CallUnwrittenNow}
-use Rattle.uc_place_laws.specs.OpeningLaws.{Awaited}
+use Rattle.uc_machine.specs.Pieces.{Todo, LAST_ADDRESS, Eval, Do, CallOnNow, CallUnwrittenNow}
+use Rattle.uc_place_laws.specs.OpeningLaws.{Awaited, AwaitedRest}
 
--- of each object whose scope is to open behind the call of its constructor, anywhere in what is to do: of what destroys it, and of its variable
+-- of each object whose scope is to open behind what builds it, the call of its constructor, an expression or a statement, anywhere in what is to
+-- do: of what destroys it, and of its variable
 abbrev pub Calling : (ℕ → ℕ → Type 0) → List Todo → Type 0
 Calling P [] = Unit {0}
+Calling P (Eval e ∷ todo) = Awaited P todo × Calling P todo
+Calling P (Do a ∷ todo) = AwaitedRest P todo × Calling P todo
 Calling P (CallOnNow r ∷ todo) = Awaited P todo × Calling P todo
 Calling P (CallUnwrittenNow r ∷ todo) = Awaited P todo × Calling P todo
 Calling P (p ∷ todo) = Calling P todo
