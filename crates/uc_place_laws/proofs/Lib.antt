@@ -27,3 +27,4 @@ pub mod OpeningWorlds
 pub mod OpeningRuns
 pub mod Sparing
 pub mod SparingRuns
+pub mod Addresses

@@ -16,3 +16,4 @@ pub mod OpeningLaws
 pub mod Calling
 pub mod OpeningRuns
 pub mod Sparing
+pub mod Addresses
