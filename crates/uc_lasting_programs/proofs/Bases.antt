@@ -43,12 +43,11 @@ use Rattle.uc_life_laws.specs.LifeStates.{EnvBy}
 use Rattle.uc_life_laws.specs.Things.{Few, Base, Within, itself, field, element, Stands, lies, inside}
 use Rattle.uc_life_laws.specs.Rooted.{IsPlace, InSlot, InParked, InHand, InMembers, Lives}
 use Rattle.uc_life_laws.proofs.OwnNamesLemmas.{run_first}
-use Rattle.uc_life_laws.proofs.Reading.{within_raw}
 use Rattle.uc_life_laws.proofs.Rooted.{env_in}
 use Rattle.uc_apart_laws.specs.Before.{world_at}
 use Rattle.uc_apart_laws.specs.Clear.{IsNoHome}
 use Rattle.uc_making_laws.specs.BeforeRides.{HasNoHomeBy, HasNoHome, LiveElsewhere, IsLone, ElsewhereOnWayBy}
-use Rattle.uc_lasting_programs.specs.Bases.{ends_in, lies_under, in_object, is_started, slot_has, parked_has, hand_has, env_has, members_have, home_has, task_has, tasks_have, lives_in, is_none, is_no_task, stands_at, is_around, bars_by, ride_bars, run_bars, way_bars, unbarred, based, seats_of, SeatsElsewhereBy, SeatsElsewhere}
+use Rattle.uc_lasting_programs.specs.Bases.{ends_in, lies_under, in_object, is_started, slot_has, parked_has, hand_has, env_has, members_have, home_has, task_has, tasks_have, lives_in, is_none, is_no_task, stands_at, is_around, is_bare, of_others, bars_by, ride_bars, run_bars, way_bars, unbarred, based, seats_of, SeatsElsewhereBy, SeatsElsewhere}
 use Rattle.uc_lasting_programs.specs.Seats.{ride_seats, run_seats, but_raw, seated, housed}
 use Rattle.uc_lasting_programs.specs.Telling.{main_class, is_main_home, on_places, few_of}
 use Rattle.uc_lasting_programs.specs.Ways.{RunHoldsOnWay}
@@ -146,16 +145,23 @@ module _ (t : Table) (few more : Few) (same : (o : ℕ) → few.home o ≡ more.
       (λ r. inr (record { thing = r.thing; type = r.type; one = r.one; stands = inside m r.stands h }))
       (stands_or (Cell (Obj c)) (few.home o) s)
 
--- nothing stands in what is not whole
+-- no mutex object is at home in what is such
 
-abbrev IsRaw : Ty → Type 0
-IsRaw b = (c : ℕ) × (b ≡ Raw c)
+abbrev IsBare : Ty → Type 0
+IsBare b = is_bare b ≡ true
 
-no_raw : (t : Table) (few : Few) (z : Value) (a : Ty) → IsRaw a → (c : ℕ) (v : Value) → Stands t few (λ x d. (x ≡ z) × (d ≡ a)) (Cell (Obj c)) v → ⊥
-no_raw t few z a r c v (lies {w = x} {a = d} k h) =
-    let e : Cell (Obj c) ≡ Raw r.0 = within_raw t x r.0 v (Cell (Obj c)) (subst (λ b. Within t x b v (Cell (Obj c))) (k.1 ∙ r.1) h) in
+within_bare : (t : Table) (w : Value) (a : Ty) (v : Value) (b : Ty) → Within t w a v b → IsBare a → IsBare b
+within_bare t w a v b itself r = r
+within_bare t w a v b (field {v = u} {c = c} h i f) r =
+    let e : false ≡ true = within_bare t w a u (Obj c) h r in
     absurd (cc)
-no_raw t few z a r c v (inside {o = q} {c = d} m s h) = no_raw t few z a r d (few.home q) s
+within_bare t w a v b (element {v = u} {m = m} h j f) r = within_bare t w a u (Row m b) h r
+
+no_bare : (t : Table) (few : Few) (z : Value) (a : Ty) → IsBare a → (c : ℕ) (v : Value) → Stands t few (λ x d. (x ≡ z) × (d ≡ a)) (Cell (Obj c)) v → ⊥
+no_bare t few z a r c v (lies {w = x} {a = d} k h) =
+    let e : false ≡ true = within_bare t x d v (Cell (Obj c)) h (ap is_bare k.1 ∙ r) in
+    absurd (cc)
+no_bare t few z a r c v (inside {o = q} {c = d} m s h) = no_bare t few z a r d (few.home q) s
 
 -- who lives
 
@@ -311,10 +317,10 @@ module _ (t : Table) (few : Few) (j : Journal) (w : World) (u : ℕ) (v : State)
 -- in a state: what nothing bars stands around nothing that goes while it is had
 
 -- what is told of others: by fewer, and what nothing bars
-module _ (t : Table) (few seats : Few) (same : (o : ℕ) → seats.home o ≡ few.home o) (places : (n : Exec) (z : Value) (b : Ty) → Base few n z b → IsPlace z) (Free : Exec → Value → Type 0) (split : (n : Exec) (z : Value) (b : Ty) → Base few n z b → Base seats n z b ⊎ (Free n z ⊎ IsRaw b)) (made : Few) (alike : (o : ℕ) → made.home o ≡ few.home o) (splits : (n : Exec) (z : Value) (b : Ty) → Base few n z b → Base made n z b ⊎ ((z ≡ Place (Fields 0) []) ⊎ (Free n z ⊎ IsRaw b))) (nobodys : (n : Exec) → Belongs few n (few.home 0) → ⊥) (foreign : (n : Exec) (z : Value) (b : Ty) → Base made n z b → Belongs few n z → IsForeign few n → ⊥) (places_made : (n : Exec) (z : Value) (b : Ty) → Base made n z b → IsPlace z) where
-  -- had of others, and nothing bars it, or it is not whole
+module _ (t : Table) (few seats : Few) (same : (o : ℕ) → seats.home o ≡ few.home o) (places : (n : Exec) (z : Value) (b : Ty) → Base few n z b → IsPlace z) (Free : Exec → Value → Type 0) (split : (n : Exec) (z : Value) (b : Ty) → Base few n z b → Base seats n z b ⊎ (Free n z ⊎ IsBare b)) (made : Few) (alike : (o : ℕ) → made.home o ≡ few.home o) (splits : (n : Exec) (z : Value) (b : Ty) → Base few n z b → Base made n z b ⊎ ((z ≡ Place (Fields 0) []) ⊎ (Free n z ⊎ IsBare b))) (nobodys : (n : Exec) → Belongs few n (few.home 0) → ⊥) (foreign : (n : Exec) (z : Value) (b : Ty) → Base made n z b → Belongs few n z → IsForeign few n → ⊥) (places_made : (n : Exec) (z : Value) (b : Ty) → Base made n z b → IsPlace z) where
+  -- had of others, and nothing bars it, or no mutex object is at home in it
   abbrev Open : Exec → Value → Ty → Type 0
-  Open n z b = Base few n z b × (Free n z ⊎ IsRaw b)
+  Open n z b = Base few n z b × (Free n z ⊎ IsBare b)
 
   -- or it is the home of object 0
   abbrev Rest : Exec → Value → Ty → Type 0
@@ -342,7 +348,7 @@ module _ (t : Table) (few seats : Few) (same : (o : ℕ) → seats.home o ≡ fe
         (λ k.
         ⊎_elim
         (λ f. no_both (lives_in n j (world_at w u v) many && is_around few.home o r.thing) (both_true (lives_in n j (world_at w u v) many) (is_around few.home o r.thing) (lives_here n cs source j (world_at w u v) many late i) (around_place t few o r.thing r.type c (places n r.thing r.type k.0) r.stands)) (free n r.thing f))
-        (λ raw. no_raw t few r.thing r.type raw c (few.home o) r.stands)
+        (λ bare. no_bare t few r.thing r.type bare c (few.home o) r.stands)
         k.1)
         r.one)
         (stands_or t few made (λ q. sym (alike q)) (Base few n) (Base made n) (Rest n) (rests n) (Cell (Obj c)) (few.home o) s)
@@ -362,7 +368,7 @@ module _ (t : Table) (few seats : Few) (same : (o : ℕ) → seats.home o ≡ fe
             (λ l.
             ⊎_elim
             (λ f. no_both (env_has n e && is_around few.home o r.thing) (both_true (env_has n e) (is_around few.home o r.thing) (in_env n (y.run ∷ y.callers) e (i q)) (around_place t few o r.thing r.type c (places n r.thing r.type l.0) r.stands)) (free n r.thing f))
-            (λ raw. no_raw t few r.thing r.type raw c (few.home o) r.stands)
+            (λ bare. no_bare t few r.thing r.type bare c (few.home o) r.stands)
             l.1)
             r.one)
             (stands_or t few made (λ q. sym (alike q)) (Base few n) (Base made n) (Rest n) (rests n) (Cell (Obj c)) (few.home o) s)
@@ -374,7 +380,7 @@ module _ (t : Table) (few seats : Few) (same : (o : ℕ) → seats.home o ≡ fe
         let n = v.env.exec in
         ⊎_elim
         (λ b. none_in t few (Cell (Obj c)) (few.home o) b)
-        (λ r. ⊎_elim (λ b. foreign n r.thing r.type b (owned t few nobodys n r.thing r.type (places_made n r.thing r.type b) (Cell (Obj c)) (few.home o) r.stands belongs) f) (λ g. ⊎_elim (λ e. not_first t few nobodys n r.thing r.type e (Cell (Obj c)) (few.home o) r.stands belongs) (λ k. ⊎_elim (λ x. no_both ((exec_eq n n && again) && is_around few.home o r.thing) (both_true (exec_eq n n && again) (is_around few.home o r.thing) (both_true (exec_eq n n) again (exec_self n) a) (around_place t few o r.thing r.type c (places n r.thing r.type k.0) r.stands)) (free n r.thing x)) (λ raw. no_raw t few r.thing r.type raw c (few.home o) r.stands) k.1) g) r.one)
+        (λ r. ⊎_elim (λ b. foreign n r.thing r.type b (owned t few nobodys n r.thing r.type (places_made n r.thing r.type b) (Cell (Obj c)) (few.home o) r.stands belongs) f) (λ g. ⊎_elim (λ e. not_first t few nobodys n r.thing r.type e (Cell (Obj c)) (few.home o) r.stands belongs) (λ k. ⊎_elim (λ x. no_both ((exec_eq n n && again) && is_around few.home o r.thing) (both_true (exec_eq n n && again) (is_around few.home o r.thing) (both_true (exec_eq n n) again (exec_self n) a) (around_place t few o r.thing r.type c (places n r.thing r.type k.0) r.stands)) (free n r.thing x)) (λ bare. no_bare t few r.thing r.type bare c (few.home o) r.stands) k.1) g) r.one)
         (stands_or t few few (λ q. refl) (Base few n) (λ w b. ⊥) (λ z b. Base made n z b ⊎ Rest n z b) (λ z b m. inr (rests n z b m)) (Cell (Obj c)) (few.home o) s)
 
     at : (l : List Todo) → ((n : Exec) (z : Value) → Free n z → bars_by few.home source j w u l v n z ≡ false) → SeatsElsewhereBy t few made j w u v source l → BareOnWayBy t few j w u v source l
@@ -398,7 +404,7 @@ module _ (t : Table) (few seats : Few) (same : (o : ℕ) → seats.home o ≡ fe
         (λ r.
         ⊎_elim
         (λ f. no_both ((exec_eq v.env.exec v.env.exec && is_no_task j o) && is_around few.home o r.thing) (both_true _ (is_around few.home o r.thing) (both_true _ (is_no_task j o) (exec_self v.env.exec) no_task) (around_place t few o r.thing r.type c (places v.env.exec r.thing r.type r.one.0) r.stands)) (barred r.thing f))
-        (λ raw. no_raw t few r.thing r.type raw c (few.home o) r.stands)
+        (λ bare. no_bare t few r.thing r.type bare c (few.home o) r.stands)
         r.one.1)
         (stands_or t few seats (λ q. sym (same q)) (Base few v.env.exec) (Base seats v.env.exec) (Open v.env.exec) (λ z b m. ⊎_elim (λ l. inl l) (λ f. inr (m, f)) (split v.env.exec z b m)) (Cell (Obj c)) (few.home o) s)
       where
@@ -461,11 +467,11 @@ module _ (c : Option ℕ) (fewer more : Exec → Value → Ty → Bool) where
   places_split Free f n Nothing b h = inl h
 
 -- by what is whole
-raw_or : (f : Exec → Value → Ty → Bool) (n : Exec) (v : Value) (b : Ty) → f n v b ≡ true → (but_raw f n v b ≡ true) ⊎ IsRaw b
+raw_or : (f : Exec → Value → Ty → Bool) (n : Exec) (v : Value) (b : Ty) → f n v b ≡ true → (but_raw f n v b ≡ true) ⊎ IsBare b
 raw_or f n v Num h = inl h
 raw_or f n v (Cell a) h = inl h
 raw_or f n v (Obj c) h = inl h
-raw_or f n v (Raw c) h = inr (c, refl)
+raw_or f n v (Raw c) h = inr refl
 raw_or f n v (Row m a) h = inl h
 raw_or f n v Clu h = inl h
 raw_or f n v Pro h = inl h
@@ -514,19 +520,19 @@ module _ (p : Program) (formed : IsFormed p) (ok : breaks_of p ≡ []) (input : 
   places : (m : Exec) (z : Value) (b : Ty) → Base few m z b → IsPlace z
   places m z b h = (law_telling p formed ok input opts j w r (based p input opts r d)).places m z b h
 
-  -- what is told besides nothing bars, or it is not whole
-  apart : (m : Exec) (z : Value) (b : Ty) → based p input opts r d m z b ≡ true → (housed p input opts r d m z b ≡ true) ⊎ (Free m z ⊎ IsRaw b)
+  -- what is told besides nothing bars, or no mutex object is at home in it
+  apart : (m : Exec) (z : Value) (b : Ty) → based p input opts r d m z b ≡ true → (housed p input opts r d m z b ≡ true) ⊎ (Free m z ⊎ IsBare b)
   apart m z b h =
       ⊎_elim
-      (λ k. ⊎_elim (λ l. inl l) (λ raw. inr (inr raw)) (raw_or (seated p input opts r d) m z b k))
-      (λ f. inr (inl f))
-      (one_true (seated p input opts r d m z b) (unbarred (λ o. home_of (source_of p) input opts j w r o) (source_of p) input opts r d m z) h)
+      (λ k. ⊎_elim (λ l. inl l) (λ bare. inr (inr bare)) (raw_or (seated p input opts r d) m z b k))
+      (λ k. ⊎_elim (λ f. inr (inl f)) (λ e. inr (inr (right_both (of_others m z) (is_bare b) e))) (one_true (unbarred Homes (source_of p) input opts r d m z) (of_others m z && is_bare b) k))
+      (one_true (seated p input opts r d m z b) (unbarred Homes (source_of p) input opts r d m z || (of_others m z && is_bare b)) h)
 
-  split : (m : Exec) (z : Value) (b : Ty) → Base few m z b → Base seats m z b ⊎ (Free m z ⊎ IsRaw b)
+  split : (m : Exec) (z : Value) (b : Ty) → Base few m z b → Base seats m z b ⊎ (Free m z ⊎ IsBare b)
   split m z b h =
-      places_split (main_class p) (housed p input opts r d) (based p input opts r d) (λ m z b. Free m z ⊎ IsRaw b) apart m z b h
+      places_split (main_class p) (housed p input opts r d) (based p input opts r d) (λ m z b. Free m z ⊎ IsBare b) apart m z b h
 
-  splits : (m : Exec) (z : Value) (b : Ty) → Base few m z b → Base (seats_of p input opts r d) m z b ⊎ ((z ≡ Place (Fields 0) []) ⊎ (Free m z ⊎ IsRaw b))
+  splits : (m : Exec) (z : Value) (b : Ty) → Base few m z b → Base (seats_of p input opts r d) m z b ⊎ ((z ≡ Place (Fields 0) []) ⊎ (Free m z ⊎ IsBare b))
   splits m z b h =
       ⊎_elim
       (λ e. inr (inl e))

@@ -70,7 +70,7 @@ use Rattle.uc_making_laws.specs.ForgetsThis.{RunGoes, IsLeftNowhere}
 use Rattle.uc_lasting_programs.specs.Forgetting.{IsLeftOf}
 use Rattle.uc_lasting_programs.specs.LastingPrograms.{IsLeftFor, LawLastingPrograms}
 use Rattle.uc_lasting_programs.specs.Meeting.{RunHoldsAt}
-use Rattle.uc_lasting_programs.specs.Bases.{unbarred, based}
+use Rattle.uc_lasting_programs.specs.Bases.{based}
 use Rattle.uc_lasting_programs.specs.Seats.{ride_seats, run_seats, seated}
 use Rattle.uc_lasting_programs.specs.Telling.{main_class, is_main_home, few_of, IsTelling}
 use Rattle.uc_lasting_programs.specs.Ways.{RunHoldsOnWay}
@@ -86,6 +86,7 @@ use Rattle.uc_lasting_programs.proofs.Numbers.{passes}
 use Rattle.uc_lasting_programs.proofs.PresentRides.{EntersClear, Began}
 use Rattle.uc_lasting_programs.proofs.PresentRuns.{began}
 use Rattle.uc_lasting_programs.proofs.Bases.{BareOnWayBy, BareOnWay, ways_elsewhere, way_elsewhere, BarsNone, bars_none, holds_none}
+use Rattle.uc_lasting_programs.proofs.OfOthers.{HasOthers, others_had}
 use Rattle.uc_lasting_programs.proofs.Seats.{left_true, right_true, Seats, ride_has, run_has}
 use Rattle.uc_lasting_programs.proofs.Remaining.{ride_remains, last_whole, run_remains}
 use Rattle.uc_lasting_programs.proofs.Owning.{first_owned}
@@ -252,11 +253,15 @@ module _ (p : Program) (formed : IsFormed p) (ok : breaks_of p ≡ []) (within :
 
   -- executions have the objects for which they were made
   has_seat : (n : Exec) (v : Value) (b : Ty) → IsPlace v → seated p input opts r d n v b ≡ true → Base few n v b
-  has_seat n (Place o l) b i h = right_true (is_main_home (main_class p) n o l b) (based p input opts r d n (Place o l) b) (left_true (seated p input opts r d n (Place o l) b) (unbarred Homes source input opts r d n (Place o l)) h)
+  has_seat n (Place o l) b i h = right_true (is_main_home (main_class p) n o l b) (based p input opts r d n (Place o l) b) (left_true (seated p input opts r d n (Place o l) b) _ h)
   has_seat n (Number z) b i h = absurd i
   has_seat n (Running m) b i h = absurd i
   has_seat n (Object o) b i h = absurd i
   has_seat n Nothing b i h = absurd i
+
+  -- and what is another's, and no mutex object
+  had : HasOthers few
+  had = others_had p input opts j w r q t n s asked d
 
   abbrev so_far : Exec → Value → Ty → Bool
   so_far n v b = run_seats (table_of p) Homes source input opts r n v b
@@ -273,11 +278,11 @@ module _ (p : Program) (formed : IsFormed p) (ok : breaks_of p ≡ []) (within :
       ride_has (table_of p) few.home (Base few) d.rides (λ n v b i h. has_seat n v b i (right_true (so_far n v b) (on_ride n v b) h))
 
   met_so_far : RunHoldsAt Here source input opts j w r
-  met_so_far = run_remains p formed ok within input opts range few raws_last (λ c o h. h) r f tells.below (run_with (Told p few all) Opened (λ v h. h.1) r told_here) x.met seats_so_far
+  met_so_far = run_remains p formed ok within input opts range few raws_last had (λ c o h. h) r f tells.below (run_with (Told p few all) Opened (λ v h. h.1) r told_here) x.met seats_so_far
 
   met_next : RideHolds (Here j) source 0 start (left opts j t) s n asked d.rides
   met_next =
-      ride_remains p formed ok within input opts range (lasting few j) (raws_last j) j (last_whole p formed ok within input opts range few (λ c o h. h) j) w r f on tells.below.clusters few (λ o. refl) q t n s asked d (ride_with (Told p few all) Opened (λ v h. h.1) d.rides told_next) x.met_now seats_next
+      ride_remains p formed ok within input opts range (lasting few j) (raws_last j) had j (last_whole p formed ok within input opts range few (λ c o h. h) j) w r f on tells.below.clusters few (λ o. refl) q t n s asked d (ride_with (Told p few all) Opened (λ v h. h.1) d.rides told_next) x.met_now seats_next
 
   abbrev LeftOf : (j : Journal) (w : World) → Runs source input opts j w → Type 0
   LeftOf j w r = Left p formed ok within all few.numbers few.home few.base tells.raws tells.main tells.places tells.nobodys input opts range j w r

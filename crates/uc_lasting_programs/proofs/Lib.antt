@@ -14,6 +14,7 @@ pub mod Numbers
 pub mod Seats
 pub mod SeatHomes
 pub mod Bases
+pub mod OfOthers
 pub mod PlacedHomes
 pub mod Presence
 pub mod OwnScopes

@@ -11,7 +11,7 @@ use Rattle.uc_acts.specs.Known.{has_ended, is_gone, object_count, owner, task_co
 use Rattle.uc_machine.specs.declared.exec.Exec.{Exec}
 use Rattle.uc_machine.specs.declared.exec.Home.{Home}
 use Rattle.uc_machine.specs.declared.exec.Home.TheVariants.{Task, Object}
-use Rattle.uc_machine.specs.declared.exec.Owner.TheVariants.{Fields}
+use Rattle.uc_machine.specs.declared.exec.Owner.TheVariants.{Frame, Fields}
 use Rattle.uc_machine.specs.declared.exec.Stage.{Stage}
 use Rattle.uc_machine.specs.declared.exec.Stage.TheVariants.{Fresh, Started, Ended}
 use Rattle.uc_machine.specs.Executions.{exec_eq}
@@ -22,7 +22,7 @@ use Rattle.uc_machine.specs.Pieces.{Link, Value, Place, Todo, EnterNow, MadeNow,
 use Rattle.uc_machine.specs.Rides.{Rides, slices, goes_on, ticks, asks}
 use Rattle.uc_meaning.specs.Runs.{World, May, Runs, AsksIn, gives, no_room, acts, begun, more}
 use Rattle.uc_resolve.specs.Resolve.{source_of}
-use Rattle.uc_typing.specs.Typing.{Ty, Table}
+use Rattle.uc_typing.specs.Typing.{Ty, Num, Cell, Obj, Raw, Row, Clu, Pro, Table}
 use Rattle.uc_depth_laws.specs.Entering.{is_ending}
 use Rattle.uc_depth_laws.specs.Owing.{Ex, entering, is_again}
 use Rattle.uc_life_laws.specs.Homes.{home_of}
@@ -147,14 +147,41 @@ module _ (homes : ℕ → Value) where
     abbrev pub way_bars : {j : Journal} {w : World} → Runs source input opts j w → {p u k : ℕ} {s : State} {a : Asked} → AsksIn source opts j w p u k s a → Exec → Value → Bool
     way_bars {j} {w} r {p} {u} d n z = run_bars r n z || ride_bars source j w u d.rides n z
 
--- what is told of a run and of the way to what is asked next: seats, and all that nothing bars
+-- no mutex object is at home in what is of this type
+abbrev pub is_object : Ty → Bool
+is_object Num = false
+is_object (Cell a) = false
+is_object (Obj c) = true
+is_object (Raw c) = false
+is_object (Row n a) = false
+is_object Clu = false
+is_object Pro = false
+
+abbrev pub is_bare : Ty → Bool
+is_bare Num = true
+is_bare (Cell a) = not (is_object a)
+is_bare (Obj c) = false
+is_bare (Raw c) = true
+is_bare (Row n a) = is_bare a
+is_bare Clu = true
+is_bare Pro = true
+
+-- a place is another's: it lies in a frame of another execution, or in a mutex object
+abbrev pub of_others : Exec → Value → Bool
+of_others n (Place (Frame m d) p) = not (exec_eq m n)
+of_others n (Place (Fields o) p) = true
+of_others n v = false
+
+-- what is told of a run and of the way to what is asked next: seats, and all that nothing bars; and each place that is another's, as what no mutex object is
+-- at home in
 abbrev pub unbarred : (ℕ → Value) → (source : Source) (input : List ℕ) (opts : Options) {j : Journal} {w : World} → Runs source input opts j w → {p u k : ℕ} {s : State} {a : Asked} →
     AsksIn source opts j w p u k s a → Exec → Value → Bool
 unbarred homes source input opts r d n z = not (way_bars homes source input opts r d n z)
 
 abbrev pub based : (p : Program) (input : List ℕ) (opts : Options) {j : Journal} {w : World} → Runs (source_of p) input opts j w → {q t k : ℕ} {s : State} {a : Asked} →
     AsksIn (source_of p) opts j w q t k s a → Exec → Value → Ty → Bool
-based p input opts {j} {w} r d n z b = seated p input opts r d n z b || unbarred (λ o. home_of (source_of p) input opts j w r o) (source_of p) input opts r d n z
+based p input opts {j} {w} r d n z b = seated p input opts r d n z b ||
+    (unbarred (λ o. home_of (source_of p) input opts j w r o) (source_of p) input opts r d n z || (of_others n z && is_bare b))
 
 -- of others the homes alone of mutex objects for which executions were made are told
 abbrev pub seats_of : (p : Program) (input : List ℕ) (opts : Options) {j : Journal} {w : World} → Runs (source_of p) input opts j w → {q t k : ℕ} {s : State} {a : Asked} →

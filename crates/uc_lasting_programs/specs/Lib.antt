@@ -5,6 +5,7 @@ pub mod Sparing
 pub mod Forgetting
 pub mod Ways
 pub mod Bases
+pub mod OfOthers
 pub mod Telling
 pub mod Seats
 pub mod Meeting

@@ -16,13 +16,15 @@ use Rattle.uc_life_laws.specs.Knowing.{ReadsKnown}
 use Rattle.uc_building_laws.specs.BuildingStates.{BuiltState}
 use Rattle.uc_building_laws.specs.BuildingRuns.{BindsAnew, IsByNumber}
 use Rattle.uc_building_laws.specs.BuiltReads.{reads_bound}
+use Rattle.uc_lasting_programs.specs.OfOthers.{IsOfOthers}
 
 module _ (t : Table) (few : Few) (gs : List Sig) (g : Sig) (sc : List Name) (s : State) where
-  -- what is read at a place is known: of a number nothing is asked, and of what is to be destroyed only that it is one with such a number
+  -- what is read at a place is known: of a number nothing is asked, of what is to be destroyed only that it is one with such a number, and of a reference to
+  -- what is another's and no mutex object only that it is of its type
   abbrev pub ReadsLeft : Ty → Value → Type 0
   ReadsLeft Num v = Unit {0}
   ReadsLeft (Raw c) v = IsMade t few s.env.exec c (loaded v s.env)
-  ReadsLeft a v = ReadsKnown t few gs s a v
+  ReadsLeft a v = ReadsKnown t few gs s a v ⊎ IsOfOthers t s.env.exec a (loaded v s.env)
 
   abbrev pub ObjectLeft : ObjectExpr → Ty → Type 0
   ObjectLeft (GetOwn k i) a = ReadsLeft a (further (FieldAt k i) s.run.this)
