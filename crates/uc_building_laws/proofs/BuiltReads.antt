@@ -70,7 +70,7 @@ told_are told (Some c) (Some d) h =
 told_are told (Some c) None h = absurd (cc)
 told_are told None b h = absurd (cc)
 
-ended_is : (g : Sig) (i : ℕ) → ended_class g ≡ Some i → (g.this ≡ Some i) × (g.whole ≡ true)
+pub ended_is : (g : Sig) (i : ℕ) → ended_class g ≡ Some i → (g.this ≡ Some i) × (g.whole ≡ true)
 ended_is g i = by g.whole refl
   where
     by : (b : Bool) → g.whole ≡ b → (if b then g.this else None) ≡ Some i → (g.this ≡ Some i) × (g.whole ≡ true)

@@ -21,3 +21,4 @@ pub mod BuiltEndings
 pub mod Fewer
 pub mod BuiltLasting
 pub mod BuiltReads
+pub mod ScopedReads

@@ -6,4 +6,5 @@ pub mod BuiltRuns
 pub mod BuiltEndings
 pub mod BuiltLasting
 pub mod BuiltReads
+pub mod ScopedReads
 pub mod Awaiting

@@ -7,6 +7,7 @@ ghost use Rattle.uc_building_laws.specs.BuiltEndings.{LawBuiltEndings};
 ghost use Rattle.uc_building_laws.specs.BuiltLasting.{LawBuiltLasting};
 ghost use Rattle.uc_building_laws.specs.BuiltReads.{LawBuiltReads};
 ghost use Rattle.uc_building_laws.specs.BuiltRuns.{LawBuiltRuns};
+ghost use Rattle.uc_building_laws.specs.ScopedReads.{LawScopedReads};
 
 /// Of an object whose scope opens behind its constructor, each field in which something is bound holds
 /// what is known once the statement that binds it is done; so the object does once the constructor has
@@ -71,4 +72,11 @@ pub fn law_built_runs()
 /// where it is read, once no statement is left that may bind it: so such a step finds what it is to find.
 pub fn law_built_reads()
     ensures { LawBuiltReads }
+{}
+
+/// What is read of a plain object in scope that is a variable, or of an array of such, is known where that is
+/// one of the running execution; and where it is one of another that does not run in its task, as far
+/// as what is read lies in what is at hand.
+pub fn law_scoped_reads()
+    ensures { LawScopedReads }
 {}

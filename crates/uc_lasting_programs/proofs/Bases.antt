@@ -47,7 +47,7 @@ use Rattle.uc_life_laws.proofs.Rooted.{env_in}
 use Rattle.uc_apart_laws.specs.Before.{world_at}
 use Rattle.uc_apart_laws.specs.Clear.{IsNoHome}
 use Rattle.uc_making_laws.specs.BeforeRides.{HasNoHomeBy, HasNoHome, LiveElsewhere, IsLone, ElsewhereOnWayBy}
-use Rattle.uc_lasting_programs.specs.Bases.{ends_in, lies_under, in_object, is_started, slot_has, parked_has, hand_has, env_has, members_have, home_has, task_has, tasks_have, lives_in, is_none, is_no_task, stands_at, is_around, is_bare, of_others, bars_by, ride_bars, run_bars, way_bars, unbarred, based, seats_of, SeatsElsewhereBy, SeatsElsewhere}
+use Rattle.uc_lasting_programs.specs.Bases.{ends_in, lies_under, in_object, is_started, slot_has, parked_has, hand_has, env_has, members_have, home_has, task_has, tasks_have, lives_in, is_none, is_no_task, stands_at, is_around, is_bare, is_scalar, of_others, bars_by, ride_bars, run_bars, way_bars, unbarred, based, seats_of, SeatsElsewhereBy, SeatsElsewhere}
 use Rattle.uc_lasting_programs.specs.Seats.{ride_seats, run_seats, but_raw, seated, housed}
 use Rattle.uc_lasting_programs.specs.Telling.{main_class, is_main_home, on_places, few_of}
 use Rattle.uc_lasting_programs.specs.Ways.{RunHoldsOnWay}
@@ -476,6 +476,26 @@ raw_or f n v (Row m a) h = inl h
 raw_or f n v Clu h = inl h
 raw_or f n v Pro h = inl h
 
+-- what is told of all that is another's, or a scalar
+scalar_bare : (b : Ty) → is_scalar b ≡ true → IsBare b
+scalar_bare Num h = refl
+scalar_bare (Cell Num) h = refl
+scalar_bare (Cell (Cell a)) h = refl
+scalar_bare (Cell (Obj c)) h = no_true h
+scalar_bare (Cell (Raw c)) h = refl
+scalar_bare (Cell (Row m a)) h = refl
+scalar_bare (Cell Clu) h = refl
+scalar_bare (Cell Pro) h = refl
+scalar_bare (Obj c) h = no_true h
+scalar_bare (Raw c) h = refl
+scalar_bare (Row m a) h = no_true h
+scalar_bare Clu h = refl
+scalar_bare Pro h = refl
+
+bare_told : (m : Exec) (z : Value) (b : Ty) → ((of_others m z && is_bare b) || is_scalar b) ≡ true → IsBare b
+bare_told m z b h =
+    ⊎_elim (λ e. right_both (of_others m z) (is_bare b) e) (λ e. scalar_bare b e) (one_true (of_others m z && is_bare b) (is_scalar b) h)
+
 -- the home of the program's main object
 main_place : (c : Option ℕ) (n : Exec) (o : Owner) (l : List Link) (b : Ty) → is_main_home c n o l b ≡ true → Place o l ≡ Place (Fields 0) []
 main_place None n o l b h = no_true h
@@ -525,8 +545,8 @@ module _ (p : Program) (formed : IsFormed p) (ok : breaks_of p ≡ []) (input : 
   apart m z b h =
       ⊎_elim
       (λ k. ⊎_elim (λ l. inl l) (λ bare. inr (inr bare)) (raw_or (seated p input opts r d) m z b k))
-      (λ k. ⊎_elim (λ f. inr (inl f)) (λ e. inr (inr (right_both (of_others m z) (is_bare b) e))) (one_true (unbarred Homes (source_of p) input opts r d m z) (of_others m z && is_bare b) k))
-      (one_true (seated p input opts r d m z b) (unbarred Homes (source_of p) input opts r d m z || (of_others m z && is_bare b)) h)
+      (λ k. ⊎_elim (λ f. inr (inl f)) (λ e. inr (inr (bare_told m z b e))) (one_true (unbarred Homes (source_of p) input opts r d m z) ((of_others m z && is_bare b) || is_scalar b) k))
+      (one_true (seated p input opts r d m z b) (unbarred Homes (source_of p) input opts r d m z || ((of_others m z && is_bare b) || is_scalar b)) h)
 
   split : (m : Exec) (z : Value) (b : Ty) → Base few m z b → Base seats m z b ⊎ (Free m z ⊎ IsBare b)
   split m z b h =

@@ -48,10 +48,12 @@ use Rattle.uc_building_laws.specs.Building.{heads_of}
 use Rattle.uc_building_laws.specs.BuildingStates.{Built, BuiltState}
 use Rattle.uc_building_laws.specs.BuiltEndings.{BuiltOutside}
 use Rattle.uc_building_laws.specs.BuiltReads.{reads_bound}
+use Rattle.uc_building_laws.specs.ScopedReads.{in_own, in_others, LiesAtHand}
 use Rattle.uc_building_laws.proofs.Building.{whole_built, where_bound}
 use Rattle.uc_building_laws.proofs.BuiltReads.{law_built_reads}
 use Rattle.uc_building_laws.proofs.Constructors.{fair}
 use Rattle.uc_building_laws.proofs.Kept.{law_kept}
+use Rattle.uc_building_laws.proofs.ScopedReads.{law_scoped_reads}
 use Rattle.uc_typing.specs.Typing.{Ty, Num, Cell, Obj, Raw, Row, Clu, Name, Sig, Table, CleansAt, object_ty}
 use Rattle.uc_life_laws.specs.Things.{Few, Base, Things, itself, lies, inside, IsField, Holds, IsFew, LiesIn, Known}
 use Rattle.uc_life_laws.specs.HomedStates.{OpensAt, Opens}
@@ -70,8 +72,9 @@ use Rattle.uc_life_laws.proofs.OpenedRuns.{good_counted}
 use Rattle.uc_cell_laws.specs.OwnCells.{owns_of}
 use Rattle.uc_homed_ends.specs.Elements.{no_fields}
 use Rattle.uc_lasting_programs.specs.Meeting.{RunHoldsAt}
-use Rattle.uc_lasting_programs.specs.Remaining.{ReadsLeft, ObjectLeft, ExprLeft, FindsLeft, IsNumberCells, OpensLeftAt, LeftOutside}
-use Rattle.uc_lasting_programs.proofs.OfOthers.{HasOthers, known_of_others}
+use Rattle.uc_lasting_programs.specs.Remaining.{BoundLeft, ReadsLeft, ObjectLeft, ExprLeft, FindsLeft, IsNumberCells, OpensLeftAt, LeftOutside}
+use Rattle.uc_lasting_programs.specs.OfOthers.{IsHad}
+use Rattle.uc_lasting_programs.proofs.OfOthers.{HasOthers, lies_of_others, known_of_others}
 use Rattle.uc_lasting_programs.proofs.Clusters.{is_cluster, cluster_holds}
 use Rattle.uc_lasting_programs.proofs.MutexScopes.{mutex_holds, left_holds}
 use Rattle.uc_lasting_programs.proofs.OwnScopes.{IsKind, OwnedAt, OwnedBy, Owned}
@@ -100,7 +103,12 @@ whole_few t few n K g o v w h c e =
 abbrev IsThere : (t : Table) (few : Few) (s : State) → Type 0
 IsThere t few s = (c : ℕ) → IsFew t few s.env.exec (Raw c) s.run.this → IsFew t few s.env.exec (Obj c) s.run.this
 
-module _ (t : Table) (few : Few) (raws : RawsPass few) (gs : List Sig) (g : Sig) (sc : List Name) (s : State) (this : KnownThis t few s.env.exec (AtHand t few s.env.exec (others gs) s.callers) g g.this s.run.this) (there : (AllSilent s.run.control → ⊥) → IsThere t few s) (had : HasOthers few) where
+-- what is read in variables in scope is known
+record IsScoped (t : Table) (few : Few) (gs : List Sig) (s : State) : Type 0 where
+  own : (a : Ty) (v : Value) → in_own t s a v ≡ true → Known t few s.env.exec (Here t few gs s) a (loaded v s.env)
+  others : (a : Ty) (v : Value) → in_others t s a v ≡ true → LiesAtHand t few gs s a (loaded v s.env) → Known t few s.env.exec (Here t few gs s) a (loaded v s.env)
+
+module _ (t : Table) (few : Few) (raws : RawsPass few) (gs : List Sig) (g : Sig) (sc : List Name) (s : State) (this : KnownThis t few s.env.exec (AtHand t few s.env.exec (others gs) s.callers) g g.this s.run.this) (there : (AllSilent s.run.control → ⊥) → IsThere t few s) (had : HasOthers few) (scoped : IsScoped t few gs s) where
   still : (AllSilent s.run.control → ⊥) → IsStill t few gs g sc s
   still busy = by g.whole refl
     where
@@ -118,11 +126,25 @@ module _ (t : Table) (few : Few) (raws : RawsPass few) (gs : List Sig) (g : Sig)
   base_things [] v b h = h
   base_things (c ∷ cs) v b h = inr (base_things cs v b h)
 
+  base_here : (v : Value) (b : Ty) → Base few s.env.exec v b → Here t few gs s v b
+  base_here v b h = inl (base_things (s.run ∷ s.callers) v b h)
+
+  -- what is another's and no mutex object lies there
+  lies_had : (a : Ty) (v : Value) → IsHad t s.env.exec a v → LiesAtHand t few gs s a v
+  lies_had a v h = record {
+    rooted = λ r. lies_of_others t few had s.env.exec (Here t few gs s) base_here a v h;
+    held = λ m. lies_of_others t few had s.env.exec (Here t few gs s) base_here a v h;
+  }
+
+  bound : (a : Ty) (v : Value) (o : Bool) → in_own t s a v ≡ o → (u : Bool) → in_others t s a v ≡ u → BoundLeft t few gs g sc s o u a v → ReadsKnown t few gs s a v
+  bound a v true e u f h = all_read a v (scoped.own a v e)
+  bound a v false e true f h = all_read a v (scoped.others a v f (⊎_elim (λ l. l) (λ o. lies_had a (loaded v s.env) o) h))
+  bound a v false e false f h = ⊎_elim (λ k. k) (λ o. all_read a v (known_of_others t few had s.env.exec (Here t few gs s) base_here a (loaded v s.env) o)) h
+
   reads : (a : Ty) (v : Value) → ReadsLeft t few gs g sc s a v → ReadsKnown t few gs s a v
   reads Num v h = all_read Num v tt
   reads (Raw c) v h = all_read (Raw c) v h
-  reads a v h =
-      ⊎_elim (λ k. k) (λ o. all_read a v (known_of_others t few had s.env.exec (Here t few gs s) (λ w b m. inl (base_things (s.run ∷ s.callers) w b m)) a (loaded v s.env) o)) h
+  reads a v h = bound a v (in_own t s a v) refl (in_others t s a v) refl h
 
   object : (AllSilent s.run.control → ⊥) → (o : ObjectExpr) (a : Ty) → ObjectLeft t few gs g sc s o a → FindsObject t few gs g sc s o a
   object busy src.This a h = still busy
@@ -181,7 +203,7 @@ module _ (p : Program) (formed : IsFormed p) (ok : breaks_of p ≡ []) (within :
     where
       by : (b : Bool) → reads_bound t (heads_of p) x.0.run.sig s ≡ b → Finds t few x.0.sigs x.0.run.sig x.0.run.scope s s.run.control x.0.run.own
       by true e = law_built_reads p formed ok few s x e
-      by false e = finds t few raws x.0.sigs x.0.run.sig x.0.run.scope s x.0.run.this there had s.run.control refl x.0.run.own x.0.run.base x.0.run.ok seats placed homed (h e)
+      by false e = finds t few raws x.0.sigs x.0.run.sig x.0.run.scope s x.0.run.this there had (record { own = law_scoped_reads.own t (heads_of p) few s x; others = law_scoped_reads.lying t (heads_of p) few s x }) s.run.control refl x.0.run.own x.0.run.base x.0.run.ok seats placed homed (h e)
 
   -- who runs in a journal, told its answer
   module _ (few : Few) (raws : RawsPass few) (j : Journal) (wholes : (c o : ℕ) → is_gone o j ≡ false → few.numbers (Raw c) o ≡ true → few.numbers (Obj c) o ≡ true) (w : World) (r : Runs source input opts j w) (f : RunFits source input opts j w r) (on : is_over j ≡ false) (clusters : (n : ℕ) → n < cluster_count j → few.numbers Clu n ≡ true) (homes : Few) (same : (o : ℕ) → few.home o ≡ homes.home o) (u processor : ℕ) (given : Answer) (runs_on : running processor j ≡ u ∷ []) (told : answer_to source.sites u j ≡ Some given) (had : HasOthers few) where

@@ -166,14 +166,19 @@ is_bare (Row n a) = is_bare a
 is_bare Clu = true
 is_bare Pro = true
 
+-- the place of a scalar
+abbrev pub is_scalar : Ty → Bool
+is_scalar (Cell Num) = true
+is_scalar a = false
+
 -- a place is another's: it lies in a frame of another execution, or in a mutex object
 abbrev pub of_others : Exec → Value → Bool
 of_others n (Place (Frame m d) p) = not (exec_eq m n)
 of_others n (Place (Fields o) p) = true
 of_others n v = false
 
--- what is told of a run and of the way to what is asked next: seats, and all that nothing bars; and each place that is another's, as what no mutex object is
--- at home in
+-- what is told of a run and of the way to what is asked next: seats, and all that nothing bars; each place that is another's, as what no mutex object is at home
+-- in; and each, as that of a scalar
 abbrev pub unbarred : (ℕ → Value) → (source : Source) (input : List ℕ) (opts : Options) {j : Journal} {w : World} → Runs source input opts j w → {p u k : ℕ} {s : State} {a : Asked} →
     AsksIn source opts j w p u k s a → Exec → Value → Bool
 unbarred homes source input opts r d n z = not (way_bars homes source input opts r d n z)
@@ -181,7 +186,7 @@ unbarred homes source input opts r d n z = not (way_bars homes source input opts
 abbrev pub based : (p : Program) (input : List ℕ) (opts : Options) {j : Journal} {w : World} → Runs (source_of p) input opts j w → {q t k : ℕ} {s : State} {a : Asked} →
     AsksIn (source_of p) opts j w q t k s a → Exec → Value → Ty → Bool
 based p input opts {j} {w} r d n z b = seated p input opts r d n z b ||
-    (unbarred (λ o. home_of (source_of p) input opts j w r o) (source_of p) input opts r d n z || (of_others n z && is_bare b))
+    (unbarred (λ o. home_of (source_of p) input opts j w r o) (source_of p) input opts r d n z || ((of_others n z && is_bare b) || is_scalar b))
 
 -- of others the homes alone of mutex objects for which executions were made are told
 abbrev pub seats_of : (p : Program) (input : List ℕ) (opts : Options) {j : Journal} {w : World} → Runs (source_of p) input opts j w → {q t k : ℕ} {s : State} {a : Asked} →

@@ -1,6 +1,6 @@
 -- What a step is still to find where all is known, but what a state in order tells; of the object at hand nothing is asked, and a task that is spawned has its
 -- object, as the run tells it, and so has an execution that is made.
-use Rattle.std.specs.Prelude.{◌≡◌, ◌⊎◌, ℕ, zero, suc, Bool, false, List, [], ◌∷◌, slice_index_or}
+use Rattle.std.specs.Prelude.{◌≡◌, ◌⊎◌, ℕ, zero, suc, Bool, false, true, List, [], ◌∷◌, slice_index_or}
 use Rattle.uc_tree.specs.Source.{Expr, ObjectExpr, Variable, OfObject, GetOwn, Scoped}
 use Rattle.uc_machine.specs.declared.exec.Exec.{Exec}
 use Rattle.uc_machine.specs.declared.exec.Owner.{Owner}
@@ -16,15 +16,23 @@ use Rattle.uc_life_laws.specs.Knowing.{ReadsKnown}
 use Rattle.uc_building_laws.specs.BuildingStates.{BuiltState}
 use Rattle.uc_building_laws.specs.BuildingRuns.{BindsAnew, IsByNumber}
 use Rattle.uc_building_laws.specs.BuiltReads.{reads_bound}
-use Rattle.uc_lasting_programs.specs.OfOthers.{IsOfOthers}
+use Rattle.uc_building_laws.specs.ScopedReads.{in_own, in_others, LiesAtHand}
+use Rattle.uc_lasting_programs.specs.OfOthers.{IsHad, IsOfOthers}
 
 module _ (t : Table) (few : Few) (gs : List Sig) (g : Sig) (sc : List Name) (s : State) where
-  -- what is read at a place is known: of a number nothing is asked, of what is to be destroyed only that it is one with such a number, and of a reference to
-  -- what is another's and no mutex object only that it is of its type
+  -- a binding is read in a variable in scope, of the running execution or of another one, or elsewhere: it is known, in the first case by what is in scope, in the
+  -- second as far as it lies in what is at hand. So a reference does to what is another's and no mutex object, of which in the third it is asked only that it is of
+  -- its type
+  abbrev pub BoundLeft : (own others : Bool) → Ty → Value → Type 0
+  BoundLeft true others a v = Unit {0}
+  BoundLeft false true a v = LiesAtHand t few gs s a (loaded v s.env) ⊎ IsHad t s.env.exec a (loaded v s.env)
+  BoundLeft false false a v = ReadsKnown t few gs s a v ⊎ IsOfOthers t s.env.exec a (loaded v s.env)
+
+  -- what is read at a place is known: of a number nothing is asked, and of what is to be destroyed only that it is one with such a number
   abbrev pub ReadsLeft : Ty → Value → Type 0
   ReadsLeft Num v = Unit {0}
   ReadsLeft (Raw c) v = IsMade t few s.env.exec c (loaded v s.env)
-  ReadsLeft a v = ReadsKnown t few gs s a v ⊎ IsOfOthers t s.env.exec a (loaded v s.env)
+  ReadsLeft a v = BoundLeft (in_own t s a v) (in_others t s a v) a v
 
   abbrev pub ObjectLeft : ObjectExpr → Ty → Type 0
   ObjectLeft (GetOwn k i) a = ReadsLeft a (further (FieldAt k i) s.run.this)

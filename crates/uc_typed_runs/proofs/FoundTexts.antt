@@ -35,7 +35,7 @@ use Rattle.uc_life_laws.specs.LifeStates.{frame_at, Outwards}
 use Rattle.uc_life_laws.specs.Lives.{OutwardsOrMade}
 use Rattle.uc_life_laws.specs.Opened.{any}
 use Rattle.uc_life_laws.proofs.OpenedRuns.{law_opened_runs}
-use Rattle.uc_life_laws.specs.FoundReads.{HoldsRight, ReadsAt}
+use Rattle.uc_life_laws.specs.FoundReads.{HoldsRight}
 use Rattle.uc_life_laws.specs.Knowing.{Finds}
 use Rattle.uc_life_laws.specs.FoundRuns.{AllIsFound}
 use Rattle.uc_life_laws.proofs.FoundReads.{SetsUpNew, outside_thing, right_holds, found}
@@ -51,6 +51,8 @@ use Rattle.uc_building_laws.proofs.BuiltEndings.{law_built_endings}
 use Rattle.uc_building_laws.proofs.BuiltReads.{law_built_reads}
 use Rattle.uc_typed_runs.specs.TypedRuns.{Reading, IsTyped}
 use Rattle.uc_typed_runs.specs.FoundTexts.{OthersRight, Founds, FoundsOutside, LawFoundTexts}
+use Rattle.uc_typed_runs.specs.TextReads.{ReadsRightAt}
+use Rattle.uc_typed_runs.proofs.TextReads.{reads_found}
 use Rattle.uc_typed_runs.proofs.Worlds.{law_typed_runs}
 
 -- what binds has what is bound there
@@ -99,12 +101,12 @@ module _ (t : Table) (heads : ℕ → ℕ → Bool) (kinds : List Sig) (s : Stat
 
 module _ (p : Program) (formed : IsFormed p) (accepted : breaks_of p ≡ []) where
   -- what constructors have bound is known where they read it
-  finds_there : (s : State) → SetsUpNew (source_of p) s → (x : BuiltState (table_of p) (heads_of p) any [] s) → (reads_bound (table_of p) (heads_of p) x.0.run.sig s ≡ false → ReadsAt (table_of p) any x.0.sigs s x.0.run.sig x.0.run.scope s.run.control x.0.run.own) → Finds (table_of p) any x.0.sigs x.0.run.sig x.0.run.scope s s.run.control x.0.run.own
+  finds_there : (s : State) → SetsUpNew (source_of p) s → (x : BuiltState (table_of p) (heads_of p) any [] s) → (reads_bound (table_of p) (heads_of p) x.0.run.sig s ≡ false → ReadsRightAt (table_of p) x.0.sigs s x.0.run.sig x.0.run.scope s.run.control x.0.run.own) → Finds (table_of p) any x.0.sigs x.0.run.sig x.0.run.scope s s.run.control x.0.run.own
   finds_there s new x h = by (reads_bound (table_of p) (heads_of p) x.0.run.sig s) refl
     where
       by : (b : Bool) → reads_bound (table_of p) (heads_of p) x.0.run.sig s ≡ b → Finds (table_of p) any x.0.sigs x.0.run.sig x.0.run.scope s s.run.control x.0.run.own
       by true e = law_built_reads p formed accepted any s x e
-      by false e = found (table_of p) (λ a o. true) (source_of p) (law_sound p formed accepted) s new (lives p formed accepted any s x) (h e)
+      by false e = found (table_of p) (λ a o. true) (source_of p) (law_sound p formed accepted) s new (lives p formed accepted any s x) (reads_found (table_of p) (heads_of p) s x x.0.run.sig x.0.run.scope s.run.control x.0.run.own (h e))
 
   builds : (n : ℕ) (s : State) → SetsUpNew (source_of p) s → OpensAndFinds (table_of p) (heads_of p) (source_of p) n s → BuildingOutside (table_of p) (heads_of p) (source_of p) n s
   builds zero s new h = record {
