@@ -36,7 +36,7 @@ use Rattle.uc_state_laws.specs.Opens.{RideMeets}
 use Rattle.uc_typing.specs.Typing.{Ty, Num, Cell, Obj, Raw, Row, Clu, Pro, Table}
 use Rattle.uc_depth_laws.specs.Entering.{is_ending}
 use Rattle.uc_depth_laws.specs.Owing.{Ex, entering, is_again}
-use Rattle.uc_life_laws.specs.Belonging.{Belongs, fields, object}
+use Rattle.uc_life_laws.specs.Belonging.{Belongs, frame, fields, object}
 use Rattle.uc_life_laws.specs.Homes.{home_of}
 use Rattle.uc_life_laws.specs.Knowing.{main_of}
 use Rattle.uc_life_laws.specs.LifeStates.{EnvBy}
@@ -46,12 +46,13 @@ use Rattle.uc_life_laws.proofs.OwnNamesLemmas.{run_first}
 use Rattle.uc_life_laws.proofs.Rooted.{env_in}
 use Rattle.uc_apart_laws.specs.Before.{world_at}
 use Rattle.uc_apart_laws.specs.Clear.{IsNoHome}
-use Rattle.uc_making_laws.specs.BeforeRides.{HasNoHomeBy, HasNoHome, LiveElsewhere}
-use Rattle.uc_lasting_programs.specs.Bases.{ends_in, lies_under, in_object, is_started, slot_has, parked_has, hand_has, env_has, members_have, home_has, task_has, tasks_have, lives_in, is_none, is_no_task, stands_at, is_around, is_bare, is_scalar, of_others, bars_by, ride_bars, run_bars, way_bars, unbarred, based, seats_of, BareOnWayBy, BareOnWay, SeatsElsewhereBy, SeatsElsewhere}
-use Rattle.uc_lasting_programs.specs.Seats.{but_raw, seated, housed}
+use Rattle.uc_making_laws.specs.BeforeRides.{HasNoHomeBy, HasNoHome, LiveElsewhere, IsLone, ElsewhereOnWayBy}
+use Rattle.uc_lasting_programs.specs.Bases.{ends_in, lies_under, in_object, is_started, slot_has, parked_has, hand_has, env_has, members_have, home_has, task_has, tasks_have, lives_in, is_none, is_no_task, stands_at, is_around, is_bare, is_scalar, of_others, bars_by, ride_bars, run_bars, way_bars, unbarred, based, seats_of, SeatsElsewhereBy, SeatsElsewhere}
+use Rattle.uc_lasting_programs.specs.Seats.{ride_seats, run_seats, but_raw, seated, housed}
 use Rattle.uc_lasting_programs.specs.Telling.{main_class, is_main_home, on_places, few_of}
 use Rattle.uc_lasting_programs.specs.Ways.{RunHoldsOnWay}
 use Rattle.uc_lasting_programs.proofs.Seats.{left_true, right_true, both_true, path_self, owner_self}
+use Rattle.uc_lasting_programs.proofs.SeatHomes.{IsForeign, SeatOf, whole_told, ride_told, run_told, one_true, no_true, left_both, right_both}
 use Rattle.uc_lasting_programs.proofs.Telling.{law_telling}
 
 -- truth values
@@ -273,10 +274,50 @@ module _ (t : Table) (few : Few) (nobodys : (n : Exec) → Belongs few n (few.ho
     not_first b v (inside {o = q} {c} m s h) belongs =
         not_first (Cell (Obj c)) (few.home q) s (home_own q v (within_in t q (Obj c) v b h) belongs)
 
+  -- nor in what is not its own
+  own_place : (o : Owner) (p q : List Link) → Belongs few n (Place o p) → Belongs few n (Place o q)
+  own_place (Frame x d) p q (frame e) = frame e
+  own_place (Fields i) p q (fields h) = fields h
+
+  owned_in : (o : Owner) (q : List Link) (a b : Ty) (v : Value) → Stands t few (λ x d. (x ≡ Place o q) × (d ≡ a)) b v → Belongs few n v → Belongs few n (Place o q)
+  owned_in o q a b v (lies {w = x} {a = c} k h) belongs =
+      let u = within_under t o q c v b (subst (λ y. Within t y c v b) k.0 h) in
+      own_place o u.path q (subst (Belongs few n) u.is belongs)
+  owned_in o q a b v (inside {o = i} {c} m s h) belongs =
+      owned_in o q a (Cell (Obj c)) (few.home i) s (home_own i v (within_in t i (Obj c) v b h) belongs)
+
+  owned : (z : Value) (a : Ty) → IsPlace z → (b : Ty) (v : Value) → Stands t few (λ x d. (x ≡ z) × (d ≡ a)) b v → Belongs few n v → Belongs few n z
+  owned (Number y) a i b v s h = absurd i
+  owned (Place o q) a i b v s h = owned_in o q a b v s h
+  owned (Running y) a i b v s h = absurd i
+  owned (Object y) a i b v s h = absurd i
+  owned Nothing a i b v s h = absurd i
+
+none_in : (t : Table) (few : Few) (b : Ty) (v : Value) → Stands t few (λ w a. ⊥) b v → ⊥
+none_in t few b v (lies k h) = k
+none_in t few b v (inside {o = i} {c} m s h) = none_in t few (Cell (Obj c)) (few.home i) s
+
+-- what is asked of states where an object is entered again to be destroyed, which is at home in what is the own of who runs, who has nothing to clean up around it:
+-- it is not the own object of the task; and it is not at home in what who runs has of others, if that is at home in no object that is at home in its own, and the
+-- main of none; else what `ElsewhereOnWay` asks
+module _ (t : Table) (few : Few) (j : Journal) (w : World) (u : ℕ) (v : State) where
+  abbrev pub BareOn : Source → ℕ → Type 0
+  BareOn source r =
+      is_ending source r ≡ true → is_again source r v ≡ true → IsLone t few j w u v (entering source r v) →
+      (IsForeign few v.env.exec → IsNoHome t few (entering source r v) (Base few v.env.exec)) ×
+      (v.env.own ≡ entering source r v → ⊥)
+
+  abbrev pub BareOnWayBy : Source → List Todo → Type 0
+  BareOnWayBy source (piece.EnterNow m r ∷ todo) = BareOn source r
+  BareOnWayBy source todo = ElsewhereOnWayBy t few j w u v source todo
+
+  abbrev pub BareOnWay : Source → Type 0
+  BareOnWay source = BareOnWayBy source v.run.control
+
 -- in a state: what nothing bars stands around nothing that goes while it is had
 
 -- what is told of others: by fewer, and what nothing bars
-module _ (t : Table) (few seats : Few) (same : (o : ℕ) → seats.home o ≡ few.home o) (places : (n : Exec) (z : Value) (b : Ty) → Base few n z b → IsPlace z) (Free : Exec → Value → Type 0) (split : (n : Exec) (z : Value) (b : Ty) → Base few n z b → Base seats n z b ⊎ (Free n z ⊎ IsBare b)) (made : Few) (alike : (o : ℕ) → made.home o ≡ few.home o) (splits : (n : Exec) (z : Value) (b : Ty) → Base few n z b → Base made n z b ⊎ ((z ≡ Place (Fields 0) []) ⊎ (Free n z ⊎ IsBare b))) (nobodys : (n : Exec) → Belongs few n (few.home 0) → ⊥) where
+module _ (t : Table) (few seats : Few) (same : (o : ℕ) → seats.home o ≡ few.home o) (places : (n : Exec) (z : Value) (b : Ty) → Base few n z b → IsPlace z) (Free : Exec → Value → Type 0) (split : (n : Exec) (z : Value) (b : Ty) → Base few n z b → Base seats n z b ⊎ (Free n z ⊎ IsBare b)) (made : Few) (alike : (o : ℕ) → made.home o ≡ few.home o) (splits : (n : Exec) (z : Value) (b : Ty) → Base few n z b → Base made n z b ⊎ ((z ≡ Place (Fields 0) []) ⊎ (Free n z ⊎ IsBare b))) (nobodys : (n : Exec) → Belongs few n (few.home 0) → ⊥) (foreign : (n : Exec) (z : Value) (b : Ty) → Base made n z b → Belongs few n z → IsForeign few n → ⊥) (places_made : (n : Exec) (z : Value) (b : Ty) → Base made n z b → IsPlace z) where
   -- had of others, and nothing bars it, or no mutex object is at home in it
   abbrev Open : Exec → Value → Ty → Type 0
   Open n z b = Base few n z b × (Free n z ⊎ IsBare b)
@@ -333,32 +374,24 @@ module _ (t : Table) (few seats : Few) (same : (o : ℕ) → seats.home o ≡ fe
             (stands_or t few made (λ q. sym (alike q)) (Base few n) (Base made n) (Rest n) (rests n) (Cell (Obj c)) (few.home o) s)
         by Ended n y q i k = tt
 
-    -- of who runs
-    running : (o : ℕ) (again : Bool) → again ≡ true → Belongs few v.env.exec (few.home o) → ((n : Exec) (z : Value) → Free n z → ((exec_eq n v.env.exec && again) && is_around few.home o z) ≡ false) → IsNoHome t made o (Base made v.env.exec) → IsNoHome t few o (Base few v.env.exec)
-    running o again a belongs free h c s =
+    -- of who runs, where what it has so is not its own
+    running : (o : ℕ) (again : Bool) → again ≡ true → Belongs few v.env.exec (few.home o) → ((n : Exec) (z : Value) → Free n z → ((exec_eq n v.env.exec && again) && is_around few.home o z) ≡ false) → IsForeign few v.env.exec → IsNoHome t few o (Base few v.env.exec)
+    running o again a belongs free f c s =
         let n = v.env.exec in
         ⊎_elim
-        (λ b. h c (subst (Stands t made (Base made n) (Cell (Obj c))) (sym (alike o)) b))
-        (λ r.
-        ⊎_elim
-        (λ f. not_first t few nobodys n r.thing r.type f (Cell (Obj c)) (few.home o) r.stands belongs)
-        (λ k.
-        ⊎_elim
-        (λ f. no_both ((exec_eq n n && again) && is_around few.home o r.thing) (both_true (exec_eq n n && again) (is_around few.home o r.thing) (both_true (exec_eq n n) again (exec_self n) a) (around_place t few o r.thing r.type c (places n r.thing r.type k.0) r.stands)) (free n r.thing f))
-        (λ bare. no_bare t few r.thing r.type bare c (few.home o) r.stands)
-        k.1)
-        r.one)
-        (stands_or t few made (λ q. sym (alike q)) (Base few n) (Base made n) (Rest n) (rests n) (Cell (Obj c)) (few.home o) s)
+        (λ b. none_in t few (Cell (Obj c)) (few.home o) b)
+        (λ r. ⊎_elim (λ b. foreign n r.thing r.type b (owned t few nobodys n r.thing r.type (places_made n r.thing r.type b) (Cell (Obj c)) (few.home o) r.stands belongs) f) (λ g. ⊎_elim (λ e. not_first t few nobodys n r.thing r.type e (Cell (Obj c)) (few.home o) r.stands belongs) (λ k. ⊎_elim (λ x. no_both ((exec_eq n n && again) && is_around few.home o r.thing) (both_true (exec_eq n n && again) (is_around few.home o r.thing) (both_true (exec_eq n n) again (exec_self n) a) (around_place t few o r.thing r.type c (places n r.thing r.type k.0) r.stands)) (free n r.thing x)) (λ bare. no_bare t few r.thing r.type bare c (few.home o) r.stands) k.1) g) r.one)
+        (stands_or t few few (λ q. refl) (Base few n) (λ w b. ⊥) (λ z b. Base made n z b ⊎ Rest n z b) (λ z b m. inr (rests n z b m)) (Cell (Obj c)) (few.home o) s)
 
     at : (l : List Todo) → ((n : Exec) (z : Value) → Free n z → bars_by few.home source j w u l v n z ≡ false) → SeatsElsewhereBy t few made j w u v source l → BareOnWayBy t few j w u v source l
     at (piece.GoneNow ∷ todo) free h = λ lone. elsewhere (this_object v) lone.0 free (h lone)
     at (piece.GiveUpNow ∷ todo) free h = λ lone. elsewhere (this_object v) lone.0 free (h lone)
     at (piece.MadeNow ∷ todo) free h = λ lone. none_of (this_object v) (record v.env { hand = without (this_object v) v.env.hand }) lone.0 free (h lone)
     at (piece.SpawnNow r ∷ todo) free h = λ lone. none_of (this_object v) (record v.env { hand = without (this_object v) v.env.hand }) lone.0 free (h lone)
-    at (piece.EnterNow m r ∷ todo) free h = λ ends again lone.
-        let x = h ends again lone in
-        let o = entering source r v in
-        (x.0, running o (is_ending source r && is_again source r v) (both_true (is_ending source r) (is_again source r v) ends again) lone.0 free x.1, x.2)
+    at (piece.EnterNow m r ∷ todo) free h = λ ends again lone. (
+      λ f. running (entering source r v) (is_ending source r && is_again source r v) (both_true (is_ending source r) (is_again source r v) ends again) lone.0 free f,
+      h ends again lone,
+    )
     at [] free h = λ k. tt
     at (p ∷ todo) free h = λ k. tt
 
@@ -419,10 +452,6 @@ module _ (t : Table) (few seats : Few) (same : (o : ℕ) → seats.home o ≡ fe
 
 -- what is told of a run of a program
 
-one_true : (a b : Bool) → (a || b) ≡ true → (a ≡ true) ⊎ (b ≡ true)
-one_true true b h = inl refl
-one_true false b h = inr h
-
 not_so : (b : Bool) → not b ≡ true → b ≡ false
 not_so true h = let e : false ≡ true = h in absurd (cc)
 not_so false h = refl
@@ -446,17 +475,6 @@ raw_or f n v (Raw c) h = inr refl
 raw_or f n v (Row m a) h = inl h
 raw_or f n v Clu h = inl h
 raw_or f n v Pro h = inl h
-
-no_true : {A : Type 0} → false ≡ true → A
-no_true h = absurd (cc)
-
-left_both : (a b : Bool) → (a && b) ≡ true → a ≡ true
-left_both true b h = refl
-left_both false b h = no_true h
-
-right_both : (a b : Bool) → (a && b) ≡ true → b ≡ true
-right_both true b h = h
-right_both false b h = no_true h
 
 -- what is told of all that is another's, or a scalar
 scalar_bare : (b : Ty) → is_scalar b ≡ true → IsBare b
@@ -544,17 +562,31 @@ module _ (p : Program) (formed : IsFormed p) (ok : breaks_of p ≡ []) (input : 
   nobodys : (m : Exec) → Belongs few m (few.home 0) → ⊥
   nobodys m h = (law_telling p formed ok input opts j w r (based p input opts r d)).nobodys m h
 
+  seat_of : (m : Exec) (z : Value) (b : Ty) → Base (seats_of p input opts r d) m z b → SeatOf few m z
+  seat_of m z b h =
+      let x = whole_told (seated p input opts r d) m z b h in
+      ⊎_elim
+      (λ e. run_told (table_of p) few (source_of p) input opts r m z b x.1 e)
+      (λ e. ride_told (table_of p) few d.rides m z b x.1 e)
+      (one_true (run_seats (table_of p) Homes (source_of p) input opts r m z b) (ride_seats (table_of p) Homes d.rides m z b) x.0)
+
+  foreign : (m : Exec) (z : Value) (b : Ty) → Base (seats_of p input opts r d) m z b → Belongs few m z → IsForeign few m → ⊥
+  foreign m z b h own f = let x = seat_of m z b h in f x.object x.whose (x.own own)
+
+  places_made : (m : Exec) (z : Value) (b : Ty) → Base (seats_of p input opts r d) m z b → IsPlace z
+  places_made m z b h = (seat_of m z b h).place
+
   open_way : (m : Exec) (z : Value) → Free m z → way_bars Homes (source_of p) input opts r d m z ≡ false
   open_way m z f = not_so (way_bars Homes (source_of p) input opts r d m z) f
 
   -- so what executions have of others besides is not asked of ways
   pub ways_elsewhere : RunHoldsOnWay (λ j w u v. SeatsElsewhere (table_of p) few (seats_of p input opts r d) j w u v (source_of p)) (source_of p) input opts r → RunHoldsOnWay (λ j w u v. BareOnWay (table_of p) few j w u v (source_of p)) (source_of p) input opts r
   ways_elsewhere h =
-      run_elsewhere (table_of p) few seats (λ o. refl) places Free split (seats_of p input opts r d) (λ o. refl) splits nobodys (source_of p) input opts range r fits (λ m z f. left_false (run_bars Homes (source_of p) input opts r m z) (ride_bars Homes (source_of p) j w u d.rides m z) (open_way m z f)) h
+      run_elsewhere (table_of p) few seats (λ o. refl) places Free split (seats_of p input opts r d) (λ o. refl) splits nobodys foreign places_made (source_of p) input opts range r fits (λ m z f. left_false (run_bars Homes (source_of p) input opts r m z) (ride_bars Homes (source_of p) j w u d.rides m z) (open_way m z f)) h
 
   pub way_elsewhere : RideMeets (λ v. SeatsElsewhere (table_of p) few (seats_of p input opts r d) j w u v (source_of p)) (source_of p) (answered (source_of p) d.given (drawn j w u)) (left opts j u) s n asked d.rides → RideMeets (λ v. BareOnWay (table_of p) few j w u v (source_of p)) (source_of p) (answered (source_of p) d.given (drawn j w u)) (left opts j u) s n asked d.rides
   way_elsewhere h =
-      ride_elsewhere (table_of p) few seats (λ o. refl) places Free split (seats_of p input opts r d) (λ o. refl) splits nobodys (source_of p) j w u (run_first (source_of p) input opts range r fits on) d.rides (λ m z f. right_false (run_bars Homes (source_of p) input opts r m z) (ride_bars Homes (source_of p) j w u d.rides m z) (open_way m z f)) h
+      ride_elsewhere (table_of p) few seats (λ o. refl) places Free split (seats_of p input opts r d) (λ o. refl) splits nobodys foreign places_made (source_of p) j w u (run_first (source_of p) input opts range r fits on) d.rides (λ m z f. right_false (run_bars Homes (source_of p) input opts r m z) (ride_bars Homes (source_of p) j w u d.rides m z) (open_way m z f)) h
 
   -- nor of who raises an event
   abbrev pub BarsNone : State → Type 0
@@ -562,8 +594,8 @@ module _ (p : Program) (formed : IsFormed p) (ok : breaks_of p ≡ []) (input : 
 
   pub bars_none : RideMeets BarsNone (source_of p) (answered (source_of p) d.given (drawn j w u)) (left opts j u) s n asked d.rides
   bars_none =
-      ride_open (table_of p) few seats (λ o. refl) places Free split (seats_of p input opts r d) (λ o. refl) splits nobodys (source_of p) j w u d.rides (λ m z f. right_false (run_bars Homes (source_of p) input opts r m z) (ride_bars Homes (source_of p) j w u d.rides m z) (open_way m z f))
+      ride_open (table_of p) few seats (λ o. refl) places Free split (seats_of p input opts r d) (λ o. refl) splits nobodys foreign places_made (source_of p) j w u d.rides (λ m z f. right_false (run_bars Homes (source_of p) input opts r m z) (ride_bars Homes (source_of p) j w u d.rides m z) (open_way m z f))
 
   pub holds_none : (v : State) → BarsNone v → (todo : List Todo) (o : ℕ) → v.run.control ≡ piece.RaiseAtNow ∷ todo → top v.run.operands ≡ Object o → owner o j ≡ [] → o < object_count j → is_gone o j ≡ false → IsNoHome (table_of p) seats o (Base seats v.env.exec) → IsNoHome (table_of p) few o (Base few v.env.exec)
   holds_none v free todo o e operand none made there h =
-      unheld (table_of p) few seats (λ o. refl) places Free split (seats_of p input opts r d) (λ o. refl) splits nobodys (source_of p) j w u v free todo o e operand none made there h
+      unheld (table_of p) few seats (λ o. refl) places Free split (seats_of p input opts r d) (λ o. refl) splits nobodys foreign places_made (source_of p) j w u v free todo o e operand none made there h

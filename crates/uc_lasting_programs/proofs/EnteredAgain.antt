@@ -25,8 +25,9 @@ use Rattle.uc_making_laws.specs.LettingGo.{opens_object, is_letting, IsTold, Tol
 use Rattle.uc_making_laws.specs.NoOthers.{NoThis}
 use Rattle.uc_making_laws.proofs.LettingLists as lists
 use Rattle.uc_making_laws.proofs.NoOthers.{law_no_others}
-use Rattle.uc_lasting_programs.specs.Bases.{BareOnWayBy}
+use Rattle.uc_lasting_programs.proofs.Bases.{BareOnWayBy}
 use Rattle.uc_lasting_programs.proofs.Presence.{closed}
+use Rattle.uc_lasting_programs.proofs.SeatHomes.{IsForeign}
 
 -- what is still to let go of the object in a list that waits is a scope in which that is built or destroyed
 
@@ -126,9 +127,9 @@ module _ (t : Table) (few : Few) (source : Source) (tells : Aspect → ℕ → B
       let left = rest.1 in
       ((away, rest.0), omega (arith, owed, left))
 
--- in a state in which an object is entered again to be destroyed that is in nothing that who enters it has of others
+-- in a state in which an object is entered again to be destroyed, where who enters it is at home in no object of its own, and the main of none
 
-module _ (t : Table) (few : Few) (source : Source) (nobodys : (n : Exec) → Belongs few n (few.home 0) → ⊥) (news : Tests) (s : State) (k : KnowsState t few [] s) (deep : Deep source news s) (lets : LetsState t few s) (lone : LoneObject t few source s) where
+module _ (t : Table) (few : Few) (source : Source) (nobodys : (n : Exec) → Belongs few n (few.home 0) → ⊥) (news : Tests) (s : State) (k : KnowsState t few [] s) (deep : Deep source news s) (lets : LetsState t few s) (lone : LoneObject t few source s) (foreign : IsForeign few s.env.exec) where
   abbrev n : Exec
   n = s.env.exec
 
@@ -164,7 +165,7 @@ module _ (t : Table) (few : Few) (source : Source) (nobodys : (n : Exec) → Bel
         let free : Free t few o (Marked t s.env.exec (s.run ∷ s.callers)) = subst (λ c. Free t few o (Outward t s.env.exec s.run.frame s.run.this s.callers c)) (sym e) l.0.1 in
         let b = bare ends again (l.0.0, free) in
         let no_home : IsNoHome t few o (Things t few s.env.exec (s.run ∷ s.callers)) = λ c x.
-        ⊎_elim (free c) (b.1 c) (stands_split t few (Things t few s.env.exec (s.run ∷ s.callers)) (Marked t s.env.exec (s.run ∷ s.callers)) (Base few s.env.exec) (things_split t few s.env.exec (s.run ∷ s.callers)) (Cell (Obj c)) (few.home o) x) in
+        ⊎_elim (free c) (b.0 foreign c) (stands_split t few (Things t few s.env.exec (s.run ∷ s.callers)) (Marked t s.env.exec (s.run ∷ s.callers)) (Base few s.env.exec) (things_split t few s.env.exec (s.run ∷ s.callers)) (Cell (Obj c)) (few.home o) x) in
         let not_first : o ≡ 0 → ⊥ = λ z. nobodys s.env.exec (subst (λ (q : ℕ). Belongs few s.env.exec (few.home q)) z l.0.0) in
         let so = none t few source (news s.env.exec.home) o not_first s.env.exec (s.run ∷ s.callers) waits entered l.1 no_home in
-        (b.0, (law_no_others.making t few o k.sigs (s.run ∷ s.callers) so.0, no_home), b.2)
+        ((λ e. foreign o (inl e) l.0.0), (law_no_others.making t few o k.sigs (s.run ∷ s.callers) so.0, no_home), b.1)

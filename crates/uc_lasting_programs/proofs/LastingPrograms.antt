@@ -70,7 +70,7 @@ use Rattle.uc_making_laws.specs.ForgetsThis.{RunGoes, IsLeftNowhere}
 use Rattle.uc_lasting_programs.specs.Forgetting.{IsLeftOf}
 use Rattle.uc_lasting_programs.specs.LastingPrograms.{IsLeftFor, LawLastingPrograms}
 use Rattle.uc_lasting_programs.specs.Meeting.{RunHoldsAt}
-use Rattle.uc_lasting_programs.specs.Bases.{based, BareOnWayBy, BareOnWay}
+use Rattle.uc_lasting_programs.specs.Bases.{based}
 use Rattle.uc_lasting_programs.specs.Seats.{ride_seats, run_seats, seated}
 use Rattle.uc_lasting_programs.specs.Telling.{main_class, is_main_home, few_of, IsTelling}
 use Rattle.uc_lasting_programs.specs.Ways.{RunHoldsOnWay}
@@ -85,7 +85,7 @@ use Rattle.uc_lasting_programs.proofs.Meeting.{tells_made, ride_outside, run_out
 use Rattle.uc_lasting_programs.proofs.Numbers.{passes}
 use Rattle.uc_lasting_programs.proofs.PresentRides.{EntersClear, Began}
 use Rattle.uc_lasting_programs.proofs.PresentRuns.{began}
-use Rattle.uc_lasting_programs.proofs.Bases.{ways_elsewhere, way_elsewhere, BarsNone, bars_none, holds_none}
+use Rattle.uc_lasting_programs.proofs.Bases.{BareOnWayBy, BareOnWay, ways_elsewhere, way_elsewhere, BarsNone, bars_none, holds_none}
 use Rattle.uc_lasting_programs.proofs.OfOthers.{HasOthers, others_had}
 use Rattle.uc_lasting_programs.proofs.Seats.{left_true, right_true, Seats, ride_has, run_has}
 use Rattle.uc_lasting_programs.proofs.Remaining.{ride_remains, last_whole, run_remains}
@@ -323,17 +323,17 @@ module _ (p : Program) (formed : IsFormed p) (ok : breaks_of p ≡ []) (within :
       ride_zip (Told p few all) (λ v. BareOnWay (table_of p) few j w t v source) (Conds j w t) (λ v a b. (a, b)) d.rides told_next way_here
 
   clear_now : RideMeets (EntersClear p few) source start (left opts j t) s n asked d.rides
-  clear_now = ride_clear p formed ok few.numbers few.home few.base within tells.raws tells.places tells.nobodys tells.main all input opts range j w r f on tells.below forgets shows.homes told_here so q t n s asked d begins met_next cond_now
+  clear_now = ride_clear p formed ok few.numbers few.home few.base within tells.raws tells.places tells.nobodys tells.main all input opts range j w r f on tells.below forgets shows.homes told_here shows.alone so q t n s asked d begins met_next cond_now
 
   elsewhere_now : RideMeets (λ v. ElsewhereOnWay (table_of p) few j w t v source) source start (left opts j t) s n asked d.rides
   elsewhere_now =
       ride_elsewhere p formed ok within all few.numbers few.home few.base tells.raws tells.main tells.places tells.nobodys input opts range j w t d.rides way_here clear_now
 
   lasts_now : RideMeets (Meets (table_of p) (lasting few j)) source start (left opts j t) s n asked d.rides
-  lasts_now = ride_lasts p formed ok few.numbers few.home few.base within tells.raws tells.places tells.nobodys tells.main all input opts range j w r f on tells.below forgets shows.homes told_here so q t n s asked d begins met_next cond_now
+  lasts_now = ride_lasts p formed ok few.numbers few.home few.base within tells.raws tells.places tells.nobodys tells.main all input opts range j w r f on tells.below forgets shows.homes told_here shows.alone so q t n s asked d begins met_next cond_now
 
   met_now : RideMeets (Meets (table_of p) few) source start (left opts j t) s n asked d.rides
-  met_now = ride_all p formed ok few.numbers few.home few.base within tells.raws tells.places tells.nobodys tells.main all input opts range j w r f on tells.below forgets shows.homes told_here so q t n s asked d begins met_next cond_now
+  met_now = ride_all p formed ok few.numbers few.home few.base within tells.raws tells.places tells.nobodys tells.main all input opts range j w r f on tells.below forgets shows.homes told_here shows.alone so q t n s asked d begins met_next cond_now
 
   known_now : RideMeets (KnowsReads (table_of p) few) source start (left opts j t) s n asked d.rides
   known_now = ride_reads p formed ok few.numbers few.home few.base within tells.raws tells.places tells.nobodys tells.main all input opts range j w r f on tells.below so.all q t n s asked d met_now
@@ -381,7 +381,7 @@ module _ (p : Program) (formed : IsFormed p) (ok : breaks_of p ≡ []) (within :
 
   ends_now : RideMeets Ends source start (left opts j t) s n asked d.rides
   ends_now =
-      ride_both (Fair (setting_of p few)) (λ v. LivesState (table_of p) (lasting few j) v × Free v) source d.rides fair_now (ride_both (LivesState (table_of p) (lasting few j)) Free source d.rides (ride_lives p formed ok few.numbers few.home few.base within tells.raws tells.places tells.nobodys tells.main all input opts range j w r f on tells.below forgets shows.homes told_here so q t n s asked d begins met_next cond_now) (bars_none p formed ok input opts range j w r f on q t n s asked d))
+      ride_both (Fair (setting_of p few)) (λ v. LivesState (table_of p) (lasting few j) v × Free v) source d.rides fair_now (ride_both (LivesState (table_of p) (lasting few j)) Free source d.rides (ride_lives p formed ok few.numbers few.home few.base within tells.raws tells.places tells.nobodys tells.main all input opts range j w r f on tells.below forgets shows.homes told_here shows.alone so q t n s asked d begins met_next cond_now) (bars_none p formed ok input opts range j w r f on q t n s asked d))
 
   calls_now : RideMeets Calls source start (left opts j t) s n asked d.rides
   calls_now =

@@ -12,6 +12,7 @@ pub mod Ways
 pub mod Telling
 pub mod Numbers
 pub mod Seats
+pub mod SeatHomes
 pub mod Bases
 pub mod OfOthers
 pub mod PlacedHomes
@@ -19,6 +20,7 @@ pub mod Presence
 pub mod OwnScopes
 pub mod PutLeads
 pub mod EnteredAgain
+pub mod HomesAway
 pub mod PresentRides
 pub mod PresentRuns
 pub mod Meeting

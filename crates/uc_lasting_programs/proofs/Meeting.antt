@@ -65,17 +65,19 @@ use Rattle.uc_building_laws.proofs.BuiltLasting.{law_built_lasting}
 use Rattle.uc_building_laws.proofs.Worlds.{lives}
 use Rattle.uc_lasting_programs.specs.Meeting.{RunHoldsAt}
 use Rattle.uc_lasting_programs.proofs.OwnScopes.{Owned, leads_led, owned_on}
-use Rattle.uc_lasting_programs.specs.Bases.{BareOnWayBy, BareOnWay}
 use Rattle.uc_lasting_programs.specs.Telling.{few_of}
+use Rattle.uc_lasting_programs.proofs.Bases.{BareOnWayBy, BareOnWay}
 use Rattle.uc_lasting_programs.proofs.EnteredAgain.{clear}
-use Rattle.uc_lasting_programs.proofs.PutLeads.{leads_less, leads_turned, Seen, put_on, lets_on}
+use Rattle.uc_lasting_programs.proofs.HomesAway.{homes_away}
+use Rattle.uc_lasting_programs.proofs.PutLeads.{leads_less, leads_turned, Seen, run_fair, put_on, lets_on}
+use Rattle.uc_lasting_programs.proofs.SeatHomes.{IsForeign}
 use Rattle.uc_making_laws.specs.ForgetsThis.{RunGoes}
 use Rattle.uc_making_laws.specs.LettingGo.{LetsState, LetsAsked}
 use Rattle.uc_making_laws.specs.Nobodys.{IsNobodys}
 use Rattle.uc_lasting_programs.proofs.Numbers.{passes, knows_all, meets}
 use Rattle.uc_lasting_programs.proofs.PlacedHomes.{homes_placed}
 use Rattle.uc_lasting_programs.proofs.Presence.{there}
-use Rattle.uc_lasting_programs.proofs.PresentRides.{IsPresent, EntersClear, Stood, Began, Once, led, rode, cleared, ended}
+use Rattle.uc_lasting_programs.proofs.PresentRides.{IsPresent, EntersClear, Stood, Began, made_home, Once, led, rode, cleared, ended}
 use Rattle.uc_lasting_programs.proofs.PresentRuns.{PresentWorld, present_begun, present_given, present_acted, began}
 
 -- what passes the test of a run has been made
@@ -185,7 +187,7 @@ module _ (p : Program) (formed : IsFormed p) (ok : breaks_of p ≡ []) (numbers 
         (run_reads r f.0 e h.0, ride_reads j w r f.0 on e h.0 q n k s asked d h.1)
 
     -- of a run in which nobody has at hand what has gone
-    module _ (j : Journal) (w : World) (r : Runs source input opts j w) (f : RunFits source input opts j w r) (on : is_over j ≡ false) (below : PassesBelow few opts j) (forgets : RunForgets t few source input opts j w r) (homes : (o : ℕ) → o < object_count j → home o ≡ home_of source input opts j w r o) (told : RunMeets (Told p few many) source input opts j w r) (so : HasMet input opts j w r) where
+    module _ (j : Journal) (w : World) (r : Runs source input opts j w) (f : RunFits source input opts j w r) (on : is_over j ≡ false) (below : PassesBelow few opts j) (forgets : RunForgets t few source input opts j w r) (homes : (o : ℕ) → o < object_count j → home o ≡ home_of source input opts j w r o) (told : RunMeets (Told p few many) source input opts j w r) (alone : RunAlone source input opts j w r) (so : HasMet input opts j w r) where
       known : AllIsKnown t (lasting few j) source j w
       known = law_lasting p formed ok few input opts range j w r f on below main so.lasts forgets
 
@@ -256,12 +258,17 @@ module _ (p : Program) (formed : IsFormed p) (ok : breaks_of p ≡ []) (numbers 
 
         -- so what is entered again to be destroyed is not at hand
         module _ (b : Began p few j start) where
+          foreign_at : (v : State) (l : Leads source start v) → LeadsMeet Finds_all source start v l → Stood p j b.own b.news b.ks b.hs v → IsForeign few v.env.exec
+          foreign_at v l m h = λ o whose own.
+              let there : (o < object_count j) × (is_gone o j ≡ false) = made_home p formed ok few places j start b v h o whose in
+              homes_away p formed ok few zero input opts range r f alone on (run_fair p formed ok within few many places input opts range main j w r f on below so.all told (run_reads r f below so.all)) homes o there.0 there.1 v.env.exec whose own
+
           clear_at : (v : State) (l : Leads source start v) → LeadsMeet Finds_all source start v l → Stood p j b.own b.news b.ks b.hs v → Cond v → EntersClear p few v
           clear_at v l m h c = λ k x y todo e.
               let seen = seen_on v l m in
               let puts = put_on p formed ok within few many places input opts range main j w r f on below so.all told (run_reads r f below so.all) n d.given q d.runs d.told v l (leads_less Seen_all (λ s. Told p few many s × KnowsReads t few s) source (λ s x. x.0) l seen) in
               let lets = lets_on p formed ok within few many places input opts range main j w r f on below so.all told (run_reads r f below so.all) n d.given q d.runs d.told v l seen in
-              clear t few source zero b.news v k h.deep lets (law_lone_objects (setting_of p few) (law_calling p formed ok) v puts.put) x y todo e j w n (subst (BareOnWayBy t few j w n v source) e c.1)
+              clear t few source zero b.news v k h.deep lets (law_lone_objects (setting_of p few) (law_calling p formed ok) v puts.put) (foreign_at v l m h) x y todo e j w n (subst (BareOnWayBy t few j w n v source) e c.1)
 
           -- where the object at hand is told of
           module _ (h : RideHolds (BuiltHere j) source 0 start (left opts j n) s k asked d.rides) (cond : RideMeets Cond source start (left opts j n) s k asked d.rides) where
@@ -316,7 +323,7 @@ module _ (p : Program) (formed : IsFormed p) (ok : breaks_of p ≡ []) (numbers 
           let had = run_present r f.0 o e so_far l in
           let g = shows j w r f.0 o e so_far l in
           let b = began p formed ok input opts range j w r f.0 o g.alone had few (homed j w r f.0 e so_far g.homes) q n k s asked d in
-          let y = ends j w r f.0 o e g.forgets g.homes g.told so_far q n k s asked d b (conds j w r o q n k s asked d x) so.clear.1 so.built.1 in
+          let y = ends j w r f.0 o e g.forgets g.homes g.told g.alone so_far q n k s asked d b (conds j w r o q n k s asked d x) so.clear.1 so.built.1 in
           present_acted t source input opts j w q n k s asked d on had y.0 y.1 (shows (j ++ a) v (more r o (acts q n k s asked d)) f on below so x).nobodys.1
 
       pub run_met : {j : Journal} {w : World} (r : Runs source input opts j w) → RunFits source input opts j w r → PassesBelow few opts j → RunHoldsAt BuiltHere source input opts j w r → Left j w r → HasMet input opts j w r
@@ -335,9 +342,9 @@ module _ (p : Program) (formed : IsFormed p) (ok : breaks_of p ≡ []) (numbers 
           let c = conds j w r on q n k s asked d x in
           let b = began p formed ok input opts range j w r f.0 on g.alone (run_present r f.0 on e so l) few (homed j w r f.0 e so g.homes) q n k s asked d in
           record {
-            all = (so.all, ride_all j w r f.0 on e g.forgets g.homes g.told so q n k s asked d b h.1 c);
-            lasts = (so.lasts, ride_lasts j w r f.0 on e g.forgets g.homes g.told so q n k s asked d b h.1 c);
-            lives = (so.lives, ride_lives j w r f.0 on e g.forgets g.homes g.told so q n k s asked d b h.1 c);
-            built = (so.built, ride_built j w r f.0 on e g.forgets g.homes g.told so q n k s asked d b h.1 c);
-            clear = (so.clear, ride_clear j w r f.0 on e g.forgets g.homes g.told so q n k s asked d b h.1 c);
+            all = (so.all, ride_all j w r f.0 on e g.forgets g.homes g.told g.alone so q n k s asked d b h.1 c);
+            lasts = (so.lasts, ride_lasts j w r f.0 on e g.forgets g.homes g.told g.alone so q n k s asked d b h.1 c);
+            lives = (so.lives, ride_lives j w r f.0 on e g.forgets g.homes g.told g.alone so q n k s asked d b h.1 c);
+            built = (so.built, ride_built j w r f.0 on e g.forgets g.homes g.told g.alone so q n k s asked d b h.1 c);
+            clear = (so.clear, ride_clear j w r f.0 on e g.forgets g.homes g.told g.alone so q n k s asked d b h.1 c);
           }

@@ -1,5 +1,5 @@
 -- What is another's, and no mutex object, is at hand of each execution by what is told of others, and so is the place of each scalar.
-use Rattle.std.proofs.Common.{◌≡◌, ℕ, inl, inr, ◌&&◌, ◌||◌, Bool, true, false, List, refl}
+use Rattle.std.proofs.Common.{◌≡◌, ℕ, inl, inr, ◌&&◌, ◌||◌, true, false, List, refl}
 use Rattle.uc_tree.specs.Programs.{Program}
 use Rattle.uc_entry.specs.declared.entry.Options.{Options}
 use Rattle.uc_entry.specs.declared.request.Asked.{Asked}

@@ -1,7 +1,7 @@
 -- Along a ride activations go on to be told of objects that have not gone, as the task is as deep in objects as it owes them; as far as each step that enters
 -- an object again to be destroyed finds its own execution clear of that.
-use Rattle.std.proofs.Common.{◌≡◌, ℕ, ◌<◌, inl, inr, suc, ◌||◌, Bool, true, false, List, [], ◌∷◌, Some, refl, sym, ap, ◌∙◌, subst, arith}
-use Rattle.std.specs.Prelude.{if◌then◌else◌, nat_eq}
+use Rattle.std.proofs.Common.{◌≡◌, ℕ, ◌<◌, ◌⊎◌, inl, inr, suc, ◌||◌, Bool, true, false, List, [], ◌∷◌, Option, Some, None, refl, sym, ap, ◌∙◌, subst, arith}
+use Rattle.std.specs.Prelude.{if◌then◌else◌, is_some, nat_eq}
 use Rattle.uc_tree.specs.Programs.{Program}
 use Rattle.uc_entry.specs.Keyed.{find}
 use Rattle.uc_entry.specs.declared.request.Asked.{Asked}
@@ -38,13 +38,13 @@ use Rattle.uc_depth_laws.specs.Owing.{Tests, marks, AloneAt, Alone, Deep, DeepSt
 use Rattle.uc_depth_laws.proofs.Answers.{law_steps}
 use Rattle.uc_depth_laws.proofs.Standing.{law_inside}
 use Rattle.uc_inner_laws.specs.Inner.{InnerSource}
-use Rattle.uc_inner_laws.specs.Standing.{StandsState, StandsStep}
+use Rattle.uc_inner_laws.specs.Standing.{IsHere, StandsState, StandsStep}
 use Rattle.uc_inner_laws.proofs.Walk.{law_steps as inner_steps, law_fair}
 use Rattle.uc_letting_laws.proofs.Hands.{found_some}
 use Rattle.uc_letting_laws.proofs.LettingWorlds.{sole, tells as tells_others}
 use Rattle.uc_life_laws.specs.Things.{Few, Base}
 use Rattle.uc_life_laws.specs.Silent.{AllSilent}
-use Rattle.uc_life_laws.specs.Knowing.{KnowsState}
+use Rattle.uc_life_laws.specs.Knowing.{KnowsState, main_of}
 use Rattle.uc_life_laws.specs.Lasting.{lasting}
 use Rattle.uc_life_laws.specs.Rooted.{IsPlace}
 use Rattle.uc_life_laws.proofs.Aparts.{law_apart}
@@ -87,7 +87,7 @@ pub record Began (p : Program) (few : Few) (j : Journal) (start : State) : Type 
   pub away : (h : Home) (k : Aspect) (q : ℕ) → news h k q ≡ true → h ≡ home.Object q → ⊥
   pub ks : List ℕ
   pub hs : List ℕ
-  pub made : (o : ℕ) → has hs o ≡ true → o < object_count j
+  pub made : (o : ℕ) → has hs o ≡ true → (o < object_count j) × (is_gone o j ≡ false)
   pub held : (o : ℕ) → has ks o ≡ true → (o < object_count j) × (is_gone o j ≡ false)
   pub homed : (o : ℕ) → o < object_count j → IsPlace (few.home o)
   pub first : is_gone 0 j ≡ false
@@ -160,8 +160,19 @@ module _ (p : Program) (formed : IsFormed p) (ok : breaks_of p ≡ []) (few : Fe
           let one : 0 < marks s.run.control = subst (λ l. 0 < marks l) (sym e) (omega (arith)) in
           b.homed (this_object s) (made s h (this_object s) (law_inside.marked (source_of p) b.news s h.deep 0 s.run refl one)).0;
       in_hand = λ o m e.
-          b.homed o (b.made o (ap (λ l. has l o) (sym (settled_keys b.hs s h.settled)) ∙ hand_some o m s.env.hand e));
+          b.homed o (b.made o (ap (λ l. has l o) (sym (settled_keys b.hs s h.settled)) ∙ hand_some o m s.env.hand e)).0;
     }
+
+    -- so is that at which who runs is at home, and that of which it is the main
+    pub made_home : (s : State) → Here s → (o : ℕ) → (s.env.exec.home ≡ home.Object o) ⊎ (s.env.exec ≡ main_of o) → (o < object_count j) × (is_gone o j ≡ false)
+    made_home s h o (inl e) = by (find o s.env.hand) refl (subst (IsHere s.env.own s.env.hand) e h.stands.here)
+      where
+        by : (x : Option Members) → find o s.env.hand ≡ x → is_some x ≡ true → (o < object_count j) × (is_gone o j ≡ false)
+        by None f i = let z : false ≡ true = i in absurd (cc)
+        by (Some m) f i = b.made o (ap (λ l. has l o) (sym (settled_keys b.hs s h.settled)) ∙ hand_some o m s.env.hand f)
+    made_home s h o (inr e) =
+        let here : o ≡ s.env.own = subst (IsHere s.env.own s.env.hand) (ap (λ (n : Exec). n.home) e) h.stands.here in
+        subst (λ (i : ℕ). (i < object_count j) × (is_gone i j ≡ false)) (sym here) (made s h s.env.own (law_inside.own (source_of p) b.news s h.deep))
 
     lets_on : (s : State) → KnowsState (table_of p) (lasting few j) [] s → Here s → LetsStep (table_of p) (there (λ o. is_gone o j)) (quiet (source_of p) s)
     lets_on s k h =

@@ -28,10 +28,9 @@ use Rattle.uc_depth_laws.specs.Owing.{Ex, entering, is_again}
 use Rattle.uc_life_laws.specs.Homes.{home_of}
 use Rattle.uc_life_laws.specs.Knowing.{main_of}
 use Rattle.uc_life_laws.specs.KnownRuns.{made_by}
-use Rattle.uc_life_laws.specs.Things.{Few, Base, or_raw}
+use Rattle.uc_life_laws.specs.Things.{Few, or_raw}
 use Rattle.uc_apart_laws.specs.Before.{world_at}
-use Rattle.uc_apart_laws.specs.Clear.{IsNoHome}
-use Rattle.uc_making_laws.specs.BeforeRides.{HaveNoHome, LiveElsewhere, IsLone, ElsewhereOnWayBy}
+use Rattle.uc_making_laws.specs.BeforeRides.{HaveNoHome, LiveElsewhere, IsLone}
 use Rattle.uc_lasting_programs.specs.Seats.{same_path, same_owner, seated, housed}
 
 -- a place lies at another, or in what is there
@@ -200,33 +199,16 @@ seats_of p input opts {j} {w} r d = record {
 
 -- what is left to show of ways
 
--- what is entered again to be destroyed is not that at which who enters it is at home, nor the own object of its task; and it is at home in nothing that is
--- told of what who enters it has of others (`told`)
-abbrev pub BareOn : (t : Table) (few told : Few) (j : Journal) (w : World) (u : ℕ) (v : State) → Source → ℕ → Type 0
-BareOn t few told j w u v source r =
-    is_ending source r ≡ true → is_again source r v ≡ true → IsLone t few j w u v (entering source r v) →
-    (v.env.exec.home ≡ Object (entering source r v) → ⊥) ×
-    IsNoHome t told (entering source r v) (Base told v.env.exec) ×
-    (v.env.own ≡ entering source r v → ⊥)
-
-module _ (t : Table) (few : Few) (j : Journal) (w : World) (u : ℕ) (v : State) where
-  -- what `ElsewhereOnWay` asks, but where an object is entered again to be destroyed of what who enters it has of others alone
-  abbrev pub BareOnWayBy : Source → List Todo → Type 0
-  BareOnWayBy source (EnterNow m r ∷ todo) = BareOn t few few j w u v source r
-  BareOnWayBy source todo = ElsewhereOnWayBy t few j w u v source todo
-
-  abbrev pub BareOnWay : Source → Type 0
-  BareOnWay source = BareOnWayBy source v.run.control
-
 -- `made`: seats of those that were made
 module _ (t : Table) (few made : Few) (j : Journal) (w : World) (u : ℕ) (v : State) where
-  -- what `BareOnWay` asks, but of these alone
+  -- what `ElsewhereOnWay` asks, but of these alone; and what is entered again to be destroyed is not the own object of the task
   abbrev pub SeatsElsewhereBy : Source → List Todo → Type 0
   SeatsElsewhereBy source (GoneNow ∷ todo) = IsLone t few j w u v (this_object v) → LiveElsewhere t made j w u v (this_object v)
   SeatsElsewhereBy source (GiveUpNow ∷ todo) = IsLone t few j w u v (this_object v) → LiveElsewhere t made j w u v (this_object v)
   SeatsElsewhereBy source (MadeNow ∷ todo) = IsLone t few j w u v (this_object v) → HaveNoHome t made v
   SeatsElsewhereBy source (SpawnNow r ∷ todo) = IsLone t few j w u v (this_object v) → HaveNoHome t made v
-  SeatsElsewhereBy source (EnterNow m r ∷ todo) = BareOn t few made j w u v source r
+  SeatsElsewhereBy source (EnterNow m r ∷ todo) = is_ending source r ≡ true → is_again source r v ≡ true → IsLone t few j w u v (entering source r v) →
+      v.env.own ≡ entering source r v → ⊥
   SeatsElsewhereBy source todo = Unit {0}
 
   abbrev pub SeatsElsewhere : Source → Type 0

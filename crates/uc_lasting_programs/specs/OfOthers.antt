@@ -1,5 +1,5 @@
 -- References to scalars, and to what is another's and no mutex object.
-use Rattle.std.specs.Prelude.{◌≡◌, Bool, true, false}
+use Rattle.std.specs.Prelude.{◌≡◌, true, false}
 use Rattle.uc_machine.specs.declared.exec.Exec.{Exec}
 use Rattle.uc_machine.specs.Pieces.{Value}
 use Rattle.uc_typing.specs.Typing.{Ty, Num, Cell, Obj, Table}
