@@ -47,7 +47,7 @@ use Rattle.uc_life_laws.proofs.Rooted.{env_in}
 use Rattle.uc_apart_laws.specs.Before.{world_at}
 use Rattle.uc_apart_laws.specs.Clear.{IsNoHome}
 use Rattle.uc_making_laws.specs.BeforeRides.{HasNoHomeBy, HasNoHome, LiveElsewhere, IsLone, ElsewhereOnWayBy}
-use Rattle.uc_lasting_programs.specs.Bases.{ends_in, lies_under, in_object, is_started, slot_has, parked_has, hand_has, env_has, members_have, home_has, task_has, tasks_have, lives_in, is_none, is_no_task, stands_at, is_around, is_bare, is_scalar, of_others, bars_by, ride_bars, run_bars, way_bars, unbarred, based, seats_of, SeatsElsewhereBy, SeatsElsewhere}
+use Rattle.uc_lasting_programs.specs.Bases.{ends_in, lies_under, in_object, is_started, slot_has, parked_has, hand_has, env_has, members_have, home_has, task_has, tasks_have, lives_in, is_none, is_no_task, stands_at, is_around, is_bare, is_scalar, of_others, bars_by, ride_bars, run_bars, way_bars, unbarred, based, seats_of, OwnSeats, LiveApart, ApartBy, HaveApart, SeatsElsewhereBy, SeatsElsewhere}
 use Rattle.uc_lasting_programs.specs.Seats.{ride_seats, run_seats, but_raw, seated, housed}
 use Rattle.uc_lasting_programs.specs.Telling.{main_class, is_main_home, on_places, few_of}
 use Rattle.uc_lasting_programs.specs.Ways.{RunHoldsOnWay}
@@ -337,12 +337,23 @@ module _ (t : Table) (few seats : Few) (same : (o : ℕ) → seats.home o ≡ fe
     late i le =
         ap (λ (b : Bool). if b then v else w.tasks i) (ne_eqb i u (λ e. let f : ⊥ = omega (arith, le, e) in f)) ∙ first i (omega (arith, le))
 
+    -- what is at home in a seat makes that the own of who runs, as it is
+    own_seat : (n : Exec) (o c : ℕ) → Belongs few v.env.exec (few.home o) → (r : OneOf t few (Base made n) (Cell (Obj c)) (few.home o)) → Stands t made (OwnSeats t few made j w u v n) (Cell (Obj c)) (made.home o)
+    own_seat n o c belongs r =
+        ⊎_elim
+        (λ s. subst (Stands t made (OwnSeats t few made j w u v n) (Cell (Obj c))) (sym (alike o)) s)
+        (λ q. absurd q.one)
+        (stands_or t few made (λ q. sym (alike q)) (λ x d. (x ≡ r.thing) × (d ≡ r.type)) (OwnSeats t few made j w u v n) (λ x d. ⊥) (λ x d e. inl (subst (λ y. OwnSeats t few made j w u v n y d) (sym e.0) (subst (λ a. OwnSeats t few made j w u v n r.thing a) (sym e.1) (r.one, owned t few nobodys v.env.exec r.thing r.type (places_made n r.thing r.type r.one) (Cell (Obj c)) (few.home o) r.stands belongs)))) (Cell (Obj c)) (few.home o) r.stands)
+
     -- of those that live
-    elsewhere : (o : ℕ) → Belongs few v.env.exec (few.home o) → ((n : Exec) (z : Value) → Free n z → (lives_in n j (world_at w u v) many && is_around few.home o z) ≡ false) → LiveElsewhere t made j w u v o → LiveElsewhere t few j w u v o
+    elsewhere : (o : ℕ) → Belongs few v.env.exec (few.home o) → ((n : Exec) (z : Value) → Free n z → (lives_in n j (world_at w u v) many && is_around few.home o z) ≡ false) → LiveApart t few made j w u v o → LiveElsewhere t few j w u v o
     elsewhere o belongs free h n cs i c s =
         ⊎_elim
-        (λ b. h n cs i c (subst (Stands t made (Base made n) (Cell (Obj c))) (sym (alike o)) b))
+        (λ b. none_in t few (Cell (Obj c)) (few.home o) b)
         (λ r.
+        ⊎_elim
+        (λ m. h n cs i c (own_seat n o c belongs (record { thing = r.thing; type = r.type; one = m; stands = r.stands })))
+        (λ g.
         ⊎_elim
         (λ e. not_first t few nobodys v.env.exec r.thing r.type e (Cell (Obj c)) (few.home o) r.stands belongs)
         (λ k.
@@ -350,19 +361,26 @@ module _ (t : Table) (few seats : Few) (same : (o : ℕ) → seats.home o ≡ fe
         (λ f. no_both (lives_in n j (world_at w u v) many && is_around few.home o r.thing) (both_true (lives_in n j (world_at w u v) many) (is_around few.home o r.thing) (lives_here n cs source j (world_at w u v) many late i) (around_place t few o r.thing r.type c (places n r.thing r.type k.0) r.stands)) (free n r.thing f))
         (λ bare. no_bare t few r.thing r.type bare c (few.home o) r.stands)
         k.1)
+        g)
         r.one)
-        (stands_or t few made (λ q. sym (alike q)) (Base few n) (Base made n) (Rest n) (rests n) (Cell (Obj c)) (few.home o) s)
+        (stands_or t few few (λ q. refl) (Base few n) (λ w b. ⊥) (λ z b. Base made n z b ⊎ Rest n z b) (λ z b m. inr (rests n z b m)) (Cell (Obj c)) (few.home o) s)
+
+    abbrev Apart : ℕ → Exec → Ex → Type 0
+    Apart o n y = ApartBy t few made j w u v o y.links.stage n
 
     -- of those that do not run
-    none_of : (o : ℕ) (e : Env) → Belongs few v.env.exec (few.home o) → ((n : Exec) (z : Value) → Free n z → (env_has n e && is_around few.home o z) ≡ false) → EnvBy (HasNoHome t made o) e → EnvBy (HasNoHome t few o) e
-    none_of o e belongs free h = env_in (HasNoHome t made o) (HasNoHome t few o) e (λ n y i k. by y.links.stage n y refl i k) h
+    none_of : (o : ℕ) (e : Env) → Belongs few v.env.exec (few.home o) → ((n : Exec) (z : Value) → Free n z → (env_has n e && is_around few.home o z) ≡ false) → EnvBy (Apart o) e → EnvBy (HasNoHome t few o) e
+    none_of o e belongs free h = env_in (Apart o) (HasNoHome t few o) e (λ n y i k. by y.links.stage n y refl i k) h
       where
-        by : (g : Stage) (n : Exec) (y : Ex) → y.links.stage ≡ g → (y.links.stage ≡ Started → InParked n (y.run ∷ y.callers) (home.Task e.own) e.house.parked ⊎ InHand n (y.run ∷ y.callers) e.hand) → HasNoHomeBy t made o g n → HasNoHomeBy t few o g n
+        by : (g : Stage) (n : Exec) (y : Ex) → y.links.stage ≡ g → (y.links.stage ≡ Started → InParked n (y.run ∷ y.callers) (home.Task e.own) e.house.parked ⊎ InHand n (y.run ∷ y.callers) e.hand) → ApartBy t few made j w u v o g n → HasNoHomeBy t few o g n
         by Fresh n y q i k = tt
         by Started n y q i k = λ c s.
             ⊎_elim
-            (λ b. k c (subst (Stands t made (Base made n) (Cell (Obj c))) (sym (alike o)) b))
+            (λ b. none_in t few (Cell (Obj c)) (few.home o) b)
             (λ r.
+            ⊎_elim
+            (λ m. k c (own_seat n o c belongs (record { thing = r.thing; type = r.type; one = m; stands = r.stands })))
+            (λ g.
             ⊎_elim
             (λ f. not_first t few nobodys v.env.exec r.thing r.type f (Cell (Obj c)) (few.home o) r.stands belongs)
             (λ l.
@@ -370,8 +388,9 @@ module _ (t : Table) (few seats : Few) (same : (o : ℕ) → seats.home o ≡ fe
             (λ f. no_both (env_has n e && is_around few.home o r.thing) (both_true (env_has n e) (is_around few.home o r.thing) (in_env n (y.run ∷ y.callers) e (i q)) (around_place t few o r.thing r.type c (places n r.thing r.type l.0) r.stands)) (free n r.thing f))
             (λ bare. no_bare t few r.thing r.type bare c (few.home o) r.stands)
             l.1)
+            g)
             r.one)
-            (stands_or t few made (λ q. sym (alike q)) (Base few n) (Base made n) (Rest n) (rests n) (Cell (Obj c)) (few.home o) s)
+            (stands_or t few few (λ q. refl) (Base few n) (λ w b. ⊥) (λ z b. Base made n z b ⊎ Rest n z b) (λ z b m. inr (rests n z b m)) (Cell (Obj c)) (few.home o) s)
         by Ended n y q i k = tt
 
     -- of who runs, where what it has so is not its own

@@ -18,7 +18,7 @@ use Rattle.uc_machine.specs.Executions.{exec_eq}
 use Rattle.uc_machine.specs.Monitors.{this_object}
 use Rattle.uc_machine.specs.Switches.{without}
 use Rattle.uc_machine.specs.Pieces as piece
-use Rattle.uc_machine.specs.Pieces.{Link, Value, Place, Todo, EnterNow, MadeNow, SpawnNow, GoneNow, GiveUpNow, RaiseAtNow, State, Env, Members, object_in, top}
+use Rattle.uc_machine.specs.Pieces.{Link, Value, Place, Todo, EnterNow, MadeNow, SpawnNow, GoneNow, GiveUpNow, RaiseAtNow, Active, State, Env, Members, object_in, top}
 use Rattle.uc_machine.specs.Rides.{Rides, slices, goes_on, ticks, asks}
 use Rattle.uc_meaning.specs.Runs.{World, May, Runs, AsksIn, gives, no_room, acts, begun, more}
 use Rattle.uc_resolve.specs.Resolve.{source_of}
@@ -28,9 +28,13 @@ use Rattle.uc_depth_laws.specs.Owing.{Ex, entering, is_again}
 use Rattle.uc_life_laws.specs.Homes.{home_of}
 use Rattle.uc_life_laws.specs.Knowing.{main_of}
 use Rattle.uc_life_laws.specs.KnownRuns.{made_by}
-use Rattle.uc_life_laws.specs.Things.{Few, or_raw}
+use Rattle.uc_life_laws.specs.Things.{Few, Base, or_raw}
+use Rattle.uc_life_laws.specs.Belonging.{Belongs}
+use Rattle.uc_life_laws.specs.LifeStates.{EnvBy}
+use Rattle.uc_life_laws.specs.Rooted.{Lives}
+use Rattle.uc_apart_laws.specs.Clear.{IsNoHome}
 use Rattle.uc_apart_laws.specs.Before.{world_at}
-use Rattle.uc_making_laws.specs.BeforeRides.{HaveNoHome, LiveElsewhere, IsLone}
+use Rattle.uc_making_laws.specs.BeforeRides.{IsLone}
 use Rattle.uc_lasting_programs.specs.Seats.{same_path, same_owner, seated, housed}
 
 -- a place lies at another, or in what is there
@@ -201,12 +205,28 @@ seats_of p input opts {j} {w} r d = record {
 
 -- `made`: seats of those that were made
 module _ (t : Table) (few made : Few) (j : Journal) (w : World) (u : ℕ) (v : State) where
+  -- of these, what is the own of who runs
+  abbrev pub OwnSeats : Exec → Value → Ty → Type 0
+  OwnSeats n z b = Base made n z b × Belongs few v.env.exec z
+
+  -- an object is not at home there: in that of one that lives; in that of one that does not run, in the task, but of those at home in the object
+  abbrev pub LiveApart : ℕ → Type 0
+  LiveApart o = (n : Exec) (cs : List Active) → Lives j (world_at w u v) n cs → IsNoHome t made o (OwnSeats n)
+
+  abbrev pub ApartBy : ℕ → Stage → Exec → Type 0
+  ApartBy o Fresh n = Unit {0}
+  ApartBy o Started n = IsNoHome t made o (OwnSeats n)
+  ApartBy o Ended n = Unit {0}
+
+  abbrev pub HaveApart : Type 0
+  HaveApart = EnvBy (λ n y. ApartBy (this_object v) y.links.stage n) (record v.env { hand = without (this_object v) v.env.hand })
+
   -- what `ElsewhereOnWay` asks, but of these alone; and what is entered again to be destroyed is not the own object of the task
   abbrev pub SeatsElsewhereBy : Source → List Todo → Type 0
-  SeatsElsewhereBy source (GoneNow ∷ todo) = IsLone t few j w u v (this_object v) → LiveElsewhere t made j w u v (this_object v)
-  SeatsElsewhereBy source (GiveUpNow ∷ todo) = IsLone t few j w u v (this_object v) → LiveElsewhere t made j w u v (this_object v)
-  SeatsElsewhereBy source (MadeNow ∷ todo) = IsLone t few j w u v (this_object v) → HaveNoHome t made v
-  SeatsElsewhereBy source (SpawnNow r ∷ todo) = IsLone t few j w u v (this_object v) → HaveNoHome t made v
+  SeatsElsewhereBy source (GoneNow ∷ todo) = IsLone t few j w u v (this_object v) → LiveApart (this_object v)
+  SeatsElsewhereBy source (GiveUpNow ∷ todo) = IsLone t few j w u v (this_object v) → LiveApart (this_object v)
+  SeatsElsewhereBy source (MadeNow ∷ todo) = IsLone t few j w u v (this_object v) → HaveApart
+  SeatsElsewhereBy source (SpawnNow r ∷ todo) = IsLone t few j w u v (this_object v) → HaveApart
   SeatsElsewhereBy source (EnterNow m r ∷ todo) = is_ending source r ≡ true → is_again source r v ≡ true → IsLone t few j w u v (entering source r v) →
       v.env.own ≡ entering source r v → ⊥
   SeatsElsewhereBy source todo = Unit {0}

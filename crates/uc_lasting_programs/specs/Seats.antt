@@ -58,7 +58,7 @@ is_place v w = false
 -- one is had as one that is not whole, so that nothing is had which stands in it
 abbrev pub is_seat : (ℕ → Value) → ℕ → Value → Value → Ty → Bool
 is_seat homes c (Place o p) w (Raw d) = nat_eq c d && is_place (Place o p) w
-is_seat homes c (Object o) w (Cell (Obj d)) = false
+is_seat homes c (Object o) w (Cell (Obj d)) = nat_eq c d && is_place (homes o) w
 is_seat homes c v w a = false
 
 abbrev pub of_class : Option ℕ → (ℕ → Bool) → Bool
