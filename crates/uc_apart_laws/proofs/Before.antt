@@ -23,20 +23,13 @@ use Rattle.uc_apart_laws.proofs.Nowhere.{law_nowhere}
 
 module _ (t : Table) (few : Few) (source : Source) (places : (n : Exec) (w : Value) (b : Ty) → Base few n w b → IsPlace w) where
   module _ (j : Journal) (w : World) (u : ℕ) where
-    clear : (s : State) (o : ℕ) → NowhereBefore t few j w u s o → EnvBy (ClearEx t few o) s.env
-    clear s o h =
-        subst (λ (v : State). EnvBy (ClearEx t few o) v.env) same (law_nowhere.rests t few j (world_at w u s) o h.nowhere u (subst (λ (v : State). EnvBy (SparesEx t few o) v.env) (sym same) h.spares))
-      where
-        same : (if u == u then s else w.tasks u) ≡ s
-        same = ap (λ b. if b then s else w.tasks u) (eq-eqb u u refl)
-
     pub apart : (s : State) → Before t few j w u s source → (k : KnowsState t few [] s) → IsApart t few source s k
     apart s h k = law_clear.step t few places source s k (by s.run.control (h k))
       where
         by : (l : List Todo) → BeforeAt t few j w u s source k l → IsClearAt t few source s k l
         by [] f = f
-        by (piece.GoneNow ∷ todo) f = clear s (this_object s) f
-        by (piece.GiveUpNow ∷ todo) f = clear s (this_object s) f
+        by (piece.GoneNow ∷ todo) f = f.0
+        by (piece.GiveUpNow ∷ todo) f = f.0
         by (p ∷ todo) f = f
 
 pub law_before : LawBefore

@@ -1,4 +1,4 @@
--- Just before an object goes, or is given up, it is nowhere in the world: nobody who does not run has it at hand.
+-- Just before an object goes, or is given up, nobody who does not run has it at hand; and it is nowhere in the world, if nobody who lives has it of others.
 use Rattle.std.specs.Prelude.{ℕ, ◌==◌, Bool, List, [], ◌∷◌, if◌then◌else◌}
 use Rattle.uc_tree.specs.Source.{Source}
 use Rattle.uc_entry.specs.Keyed.{find}
@@ -11,9 +11,9 @@ use Rattle.uc_typing.specs.Typing.{Ty, Table}
 use Rattle.uc_life_laws.specs.Things.{Few, Base}
 use Rattle.uc_life_laws.specs.LifeStates.{EnvBy}
 use Rattle.uc_life_laws.specs.Knowing.{KnowsState}
-use Rattle.uc_life_laws.specs.Rooted.{IsPlace}
+use Rattle.uc_life_laws.specs.Rooted.{IsPlace, Lives}
 use Rattle.uc_life_laws.specs.AtHand.{IsApart}
-use Rattle.uc_apart_laws.specs.Clear.{IsClearAt}
+use Rattle.uc_apart_laws.specs.Clear.{IsNoHome, IsClearAt}
 use Rattle.uc_apart_laws.specs.Nowhere.{IsNowhere, SparesEx}
 
 -- the world while task u has come to a state: what it has in hand is no more at home where it was drawn from
@@ -29,10 +29,15 @@ module _ (t : Table) (few : Few) (j : Journal) (w : World) (u : ℕ) (s : State)
     pub nowhere : IsNowhere t few j (world_at w u s) o
     pub spares : EnvBy (SparesEx t few o) s.env
 
-  -- so it is of what goes, or is given up; of what else is let go of, or is entered again to be destroyed, those of whom it is asked are clear
+  -- so it is where nothing that those which live have of others is that in which the object is at home
+  abbrev pub WouldBeNowhere : ℕ → Type 0
+  WouldBeNowhere o = ((n : Exec) (cs : List Active) → Lives j (world_at w u s) n cs → IsNoHome t few o (Base few n)) → NowhereBefore o
+
+  -- so it is of what goes, or is given up, and those that do not run in the task are clear; of what else is let go of, or is entered again to be destroyed, those
+  -- of whom it is asked are
   abbrev pub BeforeAt : Source → KnowsState t few [] s → List Todo → Type 0
-  BeforeAt source k (GoneNow ∷ todo) = NowhereBefore (this_object s)
-  BeforeAt source k (GiveUpNow ∷ todo) = NowhereBefore (this_object s)
+  BeforeAt source k (GoneNow ∷ todo) = IsClearAt t few source s k (GoneNow ∷ todo) × WouldBeNowhere (this_object s)
+  BeforeAt source k (GiveUpNow ∷ todo) = IsClearAt t few source s k (GiveUpNow ∷ todo) × WouldBeNowhere (this_object s)
   BeforeAt source k todo = IsClearAt t few source s k todo
 
   abbrev pub Before : Source → Type 0

@@ -146,6 +146,10 @@ module _ (t : Table) (few : Few) (source : Source) (j : Journal) (w : World) (u 
             (both_env (λ n y. n ≡ s.env.exec → ⊥) FreshEx (λ n y. (n ≡ s.env.exec → ⊥) × FreshEx n y) (λ n y a b. (a, b)) s.env own.alone fresh.slots)
             (both_env (ThisEx t few) (λ n y. Free t few o (Marked t n (y.run ∷ y.callers))) (λ n y. ThisEx t few n y × Free t few o (Marked t n (y.run ∷ y.callers))) (λ n y a b. (a, b)) s.env this.env free_slots)
 
+        -- so are all that do not run in the task
+        pub clear_all : EnvBy (HasNoHome t few o) s.env → EnvBy (ClearEx t few o) s.env
+        clear_all b = both_env IsOther (HasNoHome t few o) (ClearEx t few o) (λ n y a b. clear_by y.links.stage n y refl a b) s.env others b
+
         -- so are all that are at home elsewhere
         pub clear : EnvBy (HasNoHome t few o) (record s.env { hand = without o s.env.hand }) → EnvBy (ClearEx t few o) (record s.env { hand = without o s.env.hand })
         clear b =

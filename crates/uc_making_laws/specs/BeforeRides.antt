@@ -60,8 +60,8 @@ module _ (t : Table) (few : Few) (j : Journal) (w : World) (u : ℕ) (v : State)
   -- so it is where an object goes, or is given up; where an object has been built, what the others have of others is not that in which it is at home; both
   -- need be so of objects alone of which that is known; and where one is entered again to be destroyed, those of whom it is asked are clear
   abbrev pub ElsewhereOnWayBy : Source → List Todo → Type 0
-  ElsewhereOnWayBy source (GoneNow ∷ todo) = IsLone (this_object v) → LiveElsewhere (this_object v)
-  ElsewhereOnWayBy source (GiveUpNow ∷ todo) = IsLone (this_object v) → LiveElsewhere (this_object v)
+  ElsewhereOnWayBy source (GoneNow ∷ todo) = IsLone (this_object v) → EnvBy (HasNoHome t few (this_object v)) v.env
+  ElsewhereOnWayBy source (GiveUpNow ∷ todo) = IsLone (this_object v) → EnvBy (HasNoHome t few (this_object v)) v.env
   ElsewhereOnWayBy source (MadeNow ∷ todo) = IsLone (this_object v) → HaveNoHome t few v
   ElsewhereOnWayBy source (SpawnNow r ∷ todo) = IsLone (this_object v) → HaveNoHome t few v
   ElsewhereOnWayBy source todo = (k : KnowsState t few [] v) → IsClearAt t few source v k todo
