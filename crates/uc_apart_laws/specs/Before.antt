@@ -10,6 +10,8 @@ use Rattle.uc_meaning.specs.Runs.{World, or_else}
 use Rattle.uc_typing.specs.Typing.{Ty, Table}
 use Rattle.uc_life_laws.specs.Things.{Few, Base}
 use Rattle.uc_life_laws.specs.LifeStates.{EnvBy}
+use Rattle.uc_life_laws.specs.Belonging.{Belongs}
+use Rattle.uc_life_laws.specs.Marks.{Marked, Free}
 use Rattle.uc_life_laws.specs.Knowing.{KnowsState}
 use Rattle.uc_life_laws.specs.Rooted.{IsPlace, Lives}
 use Rattle.uc_life_laws.specs.AtHand.{IsApart}
@@ -29,9 +31,12 @@ module _ (t : Table) (few : Few) (j : Journal) (w : World) (u : ℕ) (s : State)
     pub nowhere : IsNowhere t few j (world_at w u s) o
     pub spares : EnvBy (SparesEx t few o) s.env
 
-  -- so it is where nothing that those which live have of others is that in which the object is at home
+  -- so it is where nothing that those which live have of others is that in which the object is at home; and that need be so of an object alone that is at home
+  -- in what is the own of who runs, where nothing is to be cleaned up
   abbrev pub WouldBeNowhere : ℕ → Type 0
-  WouldBeNowhere o = ((n : Exec) (cs : List Active) → Lives j (world_at w u s) n cs → IsNoHome t few o (Base few n)) → NowhereBefore o
+  WouldBeNowhere o =
+      (Belongs few s.env.exec (few.home o) × Free t few o (Marked t s.env.exec (s.run ∷ s.callers)) →
+      (n : Exec) (cs : List Active) → Lives j (world_at w u s) n cs → IsNoHome t few o (Base few n)) → NowhereBefore o
 
   -- so it is of what goes, or is given up, and those that do not run in the task are clear; of what else is let go of, or is entered again to be destroyed, those
   -- of whom it is asked are

@@ -135,11 +135,11 @@ law_before_rides t few source input opts j w r range fits on zero leaves spares 
         by (piece.GoneNow ∷ todo) e h k object known =
             let at : AllLone t few v.env.exec v.run.frame v.run.this v.callers (piece.GoneNow ∷ todo) = subst (AllLone t few v.env.exec v.run.frame v.run.this v.callers) e k in
             let free = freed t few v.env.exec v.run v.callers (piece.GoneNow ∷ todo) (piece.GoneNow ∷ todo) (this_object v) refl at.0.1 e in
-            subst (λ c. BeforeAt t few j w u v source known c) (sym e) (every (this_object v) at.0.0 free (h (at.0.0, free)), λ bare. f (this_object v) bare at.0.0 free)
+            subst (λ c. BeforeAt t few j w u v source known c) (sym e) (every (this_object v) at.0.0 free (h (at.0.0, free)), λ bare. f (this_object v) (bare (at.0.0, free)) at.0.0 free)
         by (piece.GiveUpNow ∷ todo) e h k object known =
             let at : AllLone t few v.env.exec v.run.frame v.run.this v.callers (piece.GiveUpNow ∷ todo) = subst (AllLone t few v.env.exec v.run.frame v.run.this v.callers) e k in
             let free = freed t few v.env.exec v.run v.callers (piece.GiveUpNow ∷ todo) (piece.GiveUpNow ∷ todo) (this_object v) refl at.0.1 e in
-            subst (λ c. BeforeAt t few j w u v source known c) (sym e) (every (this_object v) at.0.0 free (h (at.0.0, free)), λ bare. f (this_object v) bare at.0.0 free)
+            subst (λ c. BeforeAt t few j w u v source known c) (sym e) (every (this_object v) at.0.0 free (h (at.0.0, free)), λ bare. f (this_object v) (bare (at.0.0, free)) at.0.0 free)
         by (piece.MadeNow ∷ todo) e h k object known =
             let at : LoneBefore t few (this_object v) todo v = subst (λ c. LoneObjectAt t few source c v) e object in
             let free = freed t few v.env.exec v.run v.callers (piece.MadeNow ∷ todo) (piece.MadeNow ∷ todo) (this_object v) refl at.1 e in
