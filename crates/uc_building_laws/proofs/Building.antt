@@ -11,8 +11,8 @@ use Rattle.uc_machine.specs.Pieces.{FieldAt, Value, Place, Todo, Active, address
 use Rattle.uc_typing.specs.Typing.{Ty, Cell, Obj, Row, Sig, Table, element_shape, IsParam, CleansAt}
 use Rattle.uc_life_laws.specs.Things.{Few, IsField, Within, itself, field, element, IsUnbound, Known, Holds}
 use Rattle.uc_life_laws.specs.LifeStates.{frame_at}
-use Rattle.uc_building_laws.specs.Building.{IsHead, AllLeft, Behind, Now}
-use Rattle.uc_building_laws.specs.BuildingStates.{variable, AtScope, Awaits, IsBuilt, IsMaking, Builds, of_wait, AllBuild}
+use Rattle.uc_building_laws.specs.Building.{IsHead, Behind, Lands, Now}
+use Rattle.uc_building_laws.specs.BuildingStates.{variable, AtScope, Awaits, IsLoose, IsBuilt, IsMaking, Builds, of_wait, AllBuild}
 use Rattle.uc_building_laws.proofs.Memory.{FrameKeeps, same_frame, known_kept, holds_kept}
 
 -- parts
@@ -48,48 +48,26 @@ where_bound t few n K o vs w a h p b i binds = h (λ none. none w (Place o p) b 
 
 -- lists
 
--- what stands behind what is still to be bound is left as a whole
-pub head_left : (t : Table) (ps : List Ty) (c i : ℕ) (a : Stmt) (A B : Type 0) → (A → B) → IsHead a A → B
-head_left t ps c i (src.Evaluate line e) A B f h = f h
-head_left t ps c i (src.Fill line n b d) A B f h = f h
-head_left t ps c i (src.OfTasks (src.SetUp r)) A B f h = f h
-head_left t ps c i a A B f h = absurd h
+pub head_more : (t : Table) (c i : ℕ) (a : Stmt) (A B : Type 0) → (A → B) → IsHead t c i a A → IsHead t c i a B
+head_more t c i (src.Evaluate line e) A B f h = (h.0, f h.1)
+head_more t c i (src.OfTasks (src.SetUp r)) A B f h = (h.0, f h.1)
+head_more t c i a A B f h = absurd h
 
-pub head_more : (a : Stmt) (A B : Type 0) → (A → B) → IsHead a A → IsHead a B
-head_more (src.Evaluate line e) A B f h = f h
-head_more (src.Fill line n b d) A B f h = f h
-head_more (src.OfTasks (src.SetUp r)) A B f h = f h
-head_more a A B f h = absurd h
+module _ (t : Table) (heads : ℕ → ℕ → Bool) (ps : List Ty) (c i : ℕ) (w : Value) (K : Ty → Value → Type 0) where
+  -- behind a number that is written, or what is bound
+  pub now : (todo : List Todo) (vs : List Value) → Behind t heads ps c i todo → Now t heads ps c i w K todo vs
+  now (piece.Rest ss ∷ todo) vs h = h
+  now (piece.Do a ∷ todo) vs h = inr h
+  now (piece.DropNow ∷ todo) vs h = h
+  now (piece.Within line ∷ todo) vs h = h
+  now todo vs h = absurd h
 
-module _ (t : Table) (heads : ℕ → ℕ → Bool) (ps : List Ty) (c i : ℕ) where
-  pub left : (todo : List Todo) → Behind t heads ps c i todo → AllLeft todo
-  left [] h = absurd h
-  left (piece.Rest ss ∷ todo) h = h.1
-  left (piece.Do a ∷ todo) h = head_left t ps c i a (Behind t heads ps c i todo) (AllLeft todo) (left todo) h
-  left (piece.Unwind ∷ todo) h = h
-  left (piece.ClearNow k n ∷ todo) h = absurd h
-  left (piece.Variables ds ∷ todo) h = absurd h
-  left (piece.Branch a b ∷ todo) h = absurd h
-  left (piece.TurnNow o e step b ∷ todo) h = absurd h
-  left (piece.Again o e step b ∷ todo) h = absurd h
-  left (piece.Exit w ∷ todo) h = absurd h
-  left (piece.ChooseNow cs ∷ todo) h = absurd h
-  left (piece.InLoop o e step b ∷ todo) h = absurd h
-  left (piece.InWhole ∷ todo) h = absurd h
-  left (piece.Clean x ∷ todo) h = absurd h
-  left (piece.Part x ∷ todo) h = absurd h
-  left (piece.Guard hs ∷ todo) h = absurd h
-  left (piece.Finish ∷ todo) h = absurd h
-  left (piece.FinishCoroutine ∷ todo) h = absurd h
-  left (p ∷ todo) h = left todo h
-
-  pub now : (w : Value) (K : Ty → Value → Type 0) (todo : List Todo) (vs : List Value) → Behind t heads ps c i todo → Now t heads ps c i w K todo vs
-  now w K [] vs h = h
-  now w K (piece.Do a ∷ todo) vs h = inr h
-  now w K (piece.Eval e ∷ todo) vs h = inr h
-  now w K (piece.FieldNow k j ∷ todo) vs h = inr h
-  now w K (piece.BindNow ∷ todo) vs h = inr h
-  now w K (p ∷ todo) vs h = h
+  -- what another field is bound to has been found
+  pub lands : (todo : List Todo) (v : Value) (vs : List Value) → Lands t heads ps c i w K todo vs → Now t heads ps c i w K todo (v ∷ vs)
+  lands (piece.FieldNow s m ∷ todo) v vs h = inr h
+  lands (piece.BindNow ∷ todo) v vs h = inr h
+  lands (piece.KeepNow ∷ todo) v vs h = h
+  lands todo v vs h = absurd h
 
 -- what is next
 
@@ -131,9 +109,9 @@ module _ (t : Table) (heads : ℕ → ℕ → Bool) (few : Few) (kinds : List Si
   Lying E (b ∷ older) = Awaits (λ c todo. (k i : ℕ) → CleansAt t (Obj i) (src.Variable k) c → E b.frame k i) b.control
 
   module _ (E : ℕ → ℕ → ℕ → Type 0) (L M : List Ty → ℕ → ℕ → Value → (Ty → Value → Type 0) → Type 0) (fs gs : List (List Value)) (f : ℕ) (this : Value) where
-    -- what is still to be bound of an object is bound, or still to be bound
+    -- what is still to be bound of an object is bound, or still to be bound, and then nothing is there
     abbrev pub Goes : ℕ → Type 1
-    Goes g = (k : ℕ) (ps : List Ty) (c i : ℕ) (K : Value → Ty → Type 0) → E g k c → IsField t c i → heads c i ≡ true → this ≡ variable n g k → ((j : ℕ) (b : Ty) → IsParam ps j b → Known t few n K b (slice_index_or (frame_at f fs) j nought)) → Known t few n K (Obj c) (variable n g k) → ((j : ℕ) → IsField t c j → heads c j ≡ true → Holds t few n K (Frame n g) (frame_at g fs) (further (FieldAt (t.shape c) j) (variable n g k)) (t.fields c j) ⊎ L ps c j (variable n g k) (Known t few n K)) → L ps c i (variable n g k) (Known t few n K) → Holds t few n K (Frame n g) (frame_at g gs) (further (FieldAt (t.shape c) i) (variable n g k)) (t.fields c i) ⊎ M ps c i (variable n g k) (Known t few n K)
+    Goes g = (k : ℕ) (ps : List Ty) (c i : ℕ) (K : Value → Ty → Type 0) → E g k c → IsField t c i → heads c i ≡ true → this ≡ variable n g k → ((j : ℕ) (b : Ty) → IsParam ps j b → Known t few n K b (slice_index_or (frame_at f fs) j nought)) → Known t few n K (Obj c) (variable n g k) → ((j : ℕ) → IsField t c j → heads c j ≡ true → Holds t few n K (Frame n g) (frame_at g fs) (further (FieldAt (t.shape c) j) (variable n g k)) (t.fields c j) ⊎ (L ps c j (variable n g k) (Known t few n K) × IsLoose fs g (further (FieldAt (t.shape c) j) (variable n g k)))) → L ps c i (variable n g k) (Known t few n K) → IsLoose fs g (further (FieldAt (t.shape c) i) (variable n g k)) → Holds t few n K (Frame n g) (frame_at g gs) (further (FieldAt (t.shape c) i) (variable n g k)) (t.fields c i) ⊎ (M ps c i (variable n g k) (Known t few n K) × IsLoose gs g (further (FieldAt (t.shape c) i) (variable n g k)))
 
     making_to : (depth g k c : ℕ) (K : Value → Ty → Type 0) → FrameKeeps fs gs f → FrameKeeps fs gs g → Goes g → E g k c → IsMaking t heads few kinds n L fs f depth this g (variable n g k) c K → IsMaking t heads few kinds n M gs f depth this g (variable n g k) c K
     making_to depth g k c K kf kg m e h = record {
@@ -145,9 +123,9 @@ module _ (t : Table) (heads : ℕ → ℕ → Bool) (few : Few) (kinds : List Si
       fields = λ i x told. by i x told (h.fields i x told);
     }
       where
-        by : (i : ℕ) → IsField t c i → heads c i ≡ true → Holds t few n K (Frame n g) (frame_at g fs) (further (FieldAt (t.shape c) i) (variable n g k)) (t.fields c i) ⊎ L h.params c i (variable n g k) (Known t few n K) → Holds t few n K (Frame n g) (frame_at g gs) (further (FieldAt (t.shape c) i) (variable n g k)) (t.fields c i) ⊎ M h.params c i (variable n g k) (Known t few n K)
+        by : (i : ℕ) → IsField t c i → heads c i ≡ true → Holds t few n K (Frame n g) (frame_at g fs) (further (FieldAt (t.shape c) i) (variable n g k)) (t.fields c i) ⊎ (L h.params c i (variable n g k) (Known t few n K) × IsLoose fs g (further (FieldAt (t.shape c) i) (variable n g k))) → Holds t few n K (Frame n g) (frame_at g gs) (further (FieldAt (t.shape c) i) (variable n g k)) (t.fields c i) ⊎ (M h.params c i (variable n g k) (Known t few n K) × IsLoose gs g (further (FieldAt (t.shape c) i) (variable n g k)))
         by i x told (inl y) = inl (holds_kept t few n K (Frame n g) (frame_at g fs) (frame_at g gs) _ (t.fields c i) kg y)
-        by i x told (inr y) = m k h.params c i K e x told h.object h.known h.known_object h.fields y
+        by i x told (inr y) = m k h.params c i K e x told h.object h.known h.known_object h.fields y.0 y.1
 
     either_to : (depth g k c : ℕ) (K : Value → Ty → Type 0) → FrameKeeps fs gs f → FrameKeeps fs gs g → Goes g → E g k c → IsBuilt t heads few kinds n fs g (variable n g k) c K ⊎ IsMaking t heads few kinds n L fs f depth this g (variable n g k) c K → IsBuilt t heads few kinds n gs g (variable n g k) c K ⊎ IsMaking t heads few kinds n M gs f depth this g (variable n g k) c K
     either_to depth g k c K kf kg m e (inl h) = inl (built_kept fs gs g (variable n g k) c K kg h)
@@ -162,30 +140,22 @@ module _ (t : Table) (heads : ℕ → ℕ → Bool) (few : Few) (kinds : List Si
   all_lying [] = tt
   all_lying (b ∷ older) = awaits_all _ (λ c todo k i d. tt) b.control
 
-  module _ (L M : List Ty → ℕ → ℕ → Value → (Ty → Value → Type 0) → Type 0) (fs gs : List (List Value)) (f : ℕ) (this : Value) where
-    pub builds_to : (cs : List Active) → FrameKeeps fs gs f → AllKeep fs gs cs → ((g k : ℕ) (ps : List Ty) (c i : ℕ) (K : Value → Ty → Type 0) → this ≡ variable n g k → ((j : ℕ) (b : Ty) → IsParam ps j b → Known t few n K b (slice_index_or (frame_at f fs) j nought)) → Known t few n K (Obj c) (variable n g k) → L ps c i (variable n g k) (Known t few n K) → Holds t few n K (Frame n g) (frame_at g gs) (further (FieldAt (t.shape c) i) (variable n g k)) (t.fields c i) ⊎ M ps c i (variable n g k) (Known t few n K)) → Builds t heads few kinds n L fs f this cs → Builds t heads few kinds n M gs f this cs
-    builds_to cs kf k m h = builds_in (λ g k c. Unit {0}) L M fs gs f this cs kf k (all_lying cs) (λ g k ps c i K e x told o q p all y. m g k ps c i K o q p y) h
+  -- something else is left, in the same frames, by what is known there
+  pub builds_with : (L M : List Ty → ℕ → ℕ → Value → (Ty → Value → Type 0) → Type 0) (fs : List (List Value)) (f : ℕ) (this : Value) (cs : List Active) → ((g k : ℕ) (ps : List Ty) (c i : ℕ) (K : Value → Ty → Type 0) → this ≡ variable n g k → ((j : ℕ) (b : Ty) → IsParam ps j b → Known t few n K b (slice_index_or (frame_at f fs) j nought)) → Known t few n K (Obj c) (variable n g k) → L ps c i (variable n g k) (Known t few n K) → M ps c i (variable n g k) (Known t few n K)) → Builds t heads few kinds n L fs f this cs → Builds t heads few kinds n M fs f this cs
+  builds_with L M fs f this cs m h =
+      builds_in (λ g k c. Unit {0}) L M fs fs f this cs (same_frame fs f) (all_keep fs fs (same_frame fs) cs) (all_lying cs) (λ g k ps c i K e x told o q p all y free. inr (m g k ps c i K o q p y, free)) h
 
-  -- without a frame of its own an activation builds nothing
-  pub not_making : (L M : List Ty → ℕ → ℕ → Value → (Ty → Value → Type 0) → Type 0) (fs : List (List Value)) (f : ℕ) (this : Value) (cs : List Active) → (f ≡ length cs → ⊥) → Builds t heads few kinds n L fs f this cs → Builds t heads few kinds n M fs f this cs
-  not_making L M fs f this [] none h = tt
-  not_making L M fs f this (b ∷ older) none h = awaits_more _ _ (λ c todo x j i d. by c todo j i (x j i d)) b.control h
-    where
-      by : (c : CleanUp) (todo : List Todo) (j i : ℕ) → IsBuilt t heads few kinds n fs b.frame (variable n b.frame j) i (AtScope t few kinds n b.frame b.this older c todo) ⊎ IsMaking t heads few kinds n L fs f (suc (length older)) this b.frame (variable n b.frame j) i (AtScope t few kinds n b.frame b.this older c todo) → IsBuilt t heads few kinds n fs b.frame (variable n b.frame j) i (AtScope t few kinds n b.frame b.this older c todo) ⊎ IsMaking t heads few kinds n M fs f (suc (length older)) this b.frame (variable n b.frame j) i (AtScope t few kinds n b.frame b.this older c todo)
-      by c todo j i (inl x) = inl x
-      by c todo j i (inr x) = absurd (none x.frame)
+  pub builds_more : (L M : List Ty → ℕ → ℕ → Value → (Ty → Value → Type 0) → Type 0) → ((ps : List Ty) (c i : ℕ) (w : Value) (K : Ty → Value → Type 0) → L ps c i w K → M ps c i w K) → (fs : List (List Value)) (f : ℕ) (this : Value) (cs : List Active) → Builds t heads few kinds n L fs f this cs → Builds t heads few kinds n M fs f this cs
+  builds_more L M m fs f this cs h = builds_with L M fs f this cs (λ g k ps c i K o q p y. m ps c i (variable n g k) (Known t few n K) y) h
 
-  pub builds_kept : (L : List Ty → ℕ → ℕ → Value → (Ty → Value → Type 0) → Type 0) (fs gs : List (List Value)) (f : ℕ) (this : Value) (cs : List Active) → FrameKeeps fs gs f → AllKeep fs gs cs → Builds t heads few kinds n L fs f this cs → Builds t heads few kinds n L gs f this cs
-  builds_kept L fs gs f this cs kf k h = builds_to L L fs gs f this cs kf k (λ g j ps c i K e p o x. inr x) h
+  -- nothing is left
+  pub builds_kept : (fs gs : List (List Value)) (f : ℕ) (this : Value) (cs : List Active) → FrameKeeps fs gs f → AllKeep fs gs cs → Builds t heads few kinds n of_wait fs f this cs → Builds t heads few kinds n of_wait gs f this cs
+  builds_kept fs gs f this cs kf k h =
+      builds_in (λ g k c. Unit {0}) of_wait of_wait fs gs f this cs kf k (all_lying cs) (λ g k ps c i K e x told o q p all y free. absurd y) h
 
   pub all_kept : (fs gs : List (List Value)) (cs : List Active) → AllKeep fs gs cs → AllBuild t heads few kinds n fs cs → AllBuild t heads few kinds n gs cs
   all_kept fs gs [] k h = tt
-  all_kept fs gs (a ∷ older) k h = (builds_kept (of_wait t heads a) fs gs a.frame a.this older k.0 k.1 h.0, all_kept fs gs older k.1 h.1)
-
-  -- something else is left
-  pub builds_more : (L M : List Ty → ℕ → ℕ → Value → (Ty → Value → Type 0) → Type 0) → ((ps : List Ty) (c i : ℕ) (w : Value) (K : Ty → Value → Type 0) → L ps c i w K → M ps c i w K) → (fs : List (List Value)) (f : ℕ) (this : Value) (cs : List Active) → Builds t heads few kinds n L fs f this cs → Builds t heads few kinds n M fs f this cs
-  builds_more L M m fs f this cs h =
-      builds_to L M fs fs f this cs (same_frame fs f) (all_keep fs fs (same_frame fs) cs) (λ g j ps c i K e p o x. inr (m ps c i (variable n g j) (Known t few n K) x)) h
+  all_kept fs gs (a ∷ older) k h = (builds_kept fs gs a.frame a.this older k.0 k.1 h.0, all_kept fs gs older k.1 h.1)
 
   -- an object of which all fields hold what is known does
   pub whole_built : (fs : List (List Value)) (g : ℕ) (w : Value) (c : ℕ) (K : Value → Ty → Type 0) → ((i : ℕ) → IsField t c i → Holds t few n K (Frame n g) (frame_at g fs) (further (FieldAt (t.shape c) i) w) (t.fields c i)) → Holds t few n K (Frame n g) (frame_at g fs) w (Obj c)

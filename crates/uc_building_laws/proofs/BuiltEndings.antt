@@ -16,9 +16,12 @@ use Rattle.uc_state_laws.specs.RoomRuns as runs
 use Rattle.uc_state_laws.specs.RoomRuns.{Leads, Comes}
 use Rattle.uc_state_laws.specs.Endings.{RunHolds}
 use Rattle.uc_state_laws.specs.Opens.{RunMeets, LeadsMeet}
+use Rattle.uc_state_laws.specs.Layout.{Sized}
+use Rattle.uc_state_laws.specs.Limits.{IsWithinLimits}
 use Rattle.uc_typing.specs.Typing.{Table}
 use Rattle.uc_sound.specs.SoundFormed.{IsFormed}
 use Rattle.uc_sound.specs.Tables.{table_of}
+use Rattle.uc_place_laws.specs.Sparing.{SparesAt}
 use Rattle.uc_life_laws.specs.Things.{Few}
 use Rattle.uc_life_laws.specs.LifeStates.{OpensAtBy}
 use Rattle.uc_life_laws.specs.Lives.{OutwardsOrMade, LivesState}
@@ -26,7 +29,7 @@ use Rattle.uc_life_laws.specs.Opened.{any}
 use Rattle.uc_life_laws.proofs.Endings as endings
 use Rattle.uc_life_laws.proofs.Endings.{Ending, there_opens, no_scope}
 use Rattle.uc_building_laws.specs.Building.{heads_of}
-use Rattle.uc_building_laws.specs.BuildingRuns.{BindsAnew, MeetsBuilding}
+use Rattle.uc_building_laws.specs.BuildingRuns.{MeetsBuilding}
 use Rattle.uc_building_laws.specs.BuildingLaws.{BuildsAt}
 use Rattle.uc_building_laws.specs.BuiltLasting.{FindsBuilt}
 use Rattle.uc_building_laws.specs.BuiltEndings.{BuildingOutside, BuildingIsMet, BuiltOutside, LawBuiltEndings}
@@ -54,7 +57,6 @@ module _ (p : Program) (formed : IsFormed p) (accepted : breaks_of p ≡ []) whe
   met zero s m h = m
   met (suc n) s m h = record {
     opens = there_opens t any source n s h;
-    anew = at_ending t any n s (BindsAnew t (heads_of p) s) (λ l. tt) (λ a l. tt) h;
     finds = λ x. (
       x,
       (
@@ -68,7 +70,7 @@ module _ (p : Program) (formed : IsFormed p) (accepted : breaks_of p ≡ []) whe
   }
 
   -- so it is with the numbers of what is told
-  pub built_met : (few : Few) (n : ℕ) (s : State) → BuiltOutside p few n s → Ending t few n s → FindsBuilt t (heads_of p) few source s
+  pub built_met : (few : Few) (n : ℕ) (s : State) → BuiltOutside p few n s → Ending t few n s → FindsBuilt p few s
   built_met few zero s m h = m
   built_met few (suc n) s m h = λ x. (
     x,
@@ -76,14 +78,18 @@ module _ (p : Program) (formed : IsFormed p) (accepted : breaks_of p ≡ []) whe
     at_ending t few n s (λ l. OpensAtBy t few (OutwardsOrMade x.0.sigs) l s) (λ l. tt) (λ a l. tt) h,
     record {
       at = at_ending t few n s (λ l. BuildsAt t (heads_of p) few x.0.sigs source s l) (λ l. tt) (λ a l. tt) h;
-      joins = m.joins;
+      joins = m.0.joins;
+      follows = m.0.follows;
+      tails = m.0.tails;
+      spares = at_ending t few n s (λ l. SparesAt (Sized p) source l s) (λ l. tt) (λ a l. tt) h;
+      addresses = m.1;
     },
   )
 
-  module _ (input : List ℕ) (opts : Options) (range : InRange opts) where
+  module _ (within : IsWithinLimits p) (input : List ℕ) (opts : Options) (range : InRange opts) where
     module _ (j : Journal) (w : World) (r : Runs source input opts j w) (f : RunFits source input opts j w r) (on : is_over j ≡ false) (m : RunMeets M source input opts j w r) (n : ℕ) where
       there : (s : State) (c : Comes source j w n s) → LeadsMeet M source (answered source c.given (drawn j w n)) s c.leads → LivesState t any s
-      there s c l = lives p formed accepted any s (law_built.comes p formed accepted input opts range j w r f on m n s c l)
+      there s c l = lives p formed accepted any s (law_built.comes p formed accepted within input opts range j w r f on m n s c l)
 
     ran : {j : Journal} {w : World} (r : Runs source input opts j w) → RunFits source input opts j w r → RunHolds (BuildingOutside t (heads_of p) source) source input opts j w r → RunMeets M source input opts j w r
     ran begun f o = tt
@@ -102,4 +108,4 @@ module _ (p : Program) (formed : IsFormed p) (accepted : breaks_of p ≡ []) whe
         }
 
 pub law_built_endings : LawBuiltEndings
-law_built_endings p formed accepted input opts range j w r f on o = all_met p formed accepted input opts range j w r f on o
+law_built_endings p formed accepted within input opts range j w r f on o = all_met p formed accepted within input opts range j w r f on o

@@ -39,7 +39,7 @@ module _ (p : Program) (formed : IsFormed p) (accepted : breaks_of p ≡ []) (fe
   t = table_of p
 
   abbrev M : Journal → State → Type 0
-  M i s = FindsBuilt t (heads_of p) (lasting few i) source s
+  M i s = FindsBuilt p (lasting few i) s
 
   abbrev N : Journal → State → Type 0
   N i s = Follows p formed accepted (lasting few i) s

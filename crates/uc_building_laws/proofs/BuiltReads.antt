@@ -25,13 +25,12 @@ use Rattle.uc_life_laws.proofs.Knowns.{known_more, frames_length}
 use Rattle.uc_life_laws.proofs.LifeSteps.{exec_same}
 use Rattle.uc_life_laws.proofs.LivesLemmas.{Below, below, making_here}
 use Rattle.uc_life_laws.proofs.Reading.{exec_is}
-use Rattle.uc_building_laws.specs.Building.{is_settled, heads_of, Behind, Now}
-use Rattle.uc_building_laws.specs.BuildingStates.{variable, AtScope, Awaits, IsBuilt, IsMaking, Builds, of_run, of_wait, AllBuild, BuiltState}
+use Rattle.uc_building_laws.specs.Building.{is_settled, heads_of, Behind, Lands, Now}
+use Rattle.uc_building_laws.specs.BuildingStates.{variable, AtScope, Awaits, IsLoose, IsBuilt, IsMaking, Builds, of_run, of_wait, AllBuild, BuiltState}
 use Rattle.uc_building_laws.specs.BuiltReads.{may_bind, ended_class, scope_class, scope_variable, is_slot, in_frame, is_variable, is_told, builds_it, is_building, reads_bound_at, reads_bound, LawBuiltReads}
-use Rattle.uc_building_laws.proofs.Building.{head_left}
 use Rattle.uc_building_laws.proofs.Heads.{fields_are_kept}
 use Rattle.uc_building_laws.proofs.Keeping.{some_is}
-use Rattle.uc_building_laws.proofs.Settled.{settled_head}
+use Rattle.uc_building_laws.proofs.Settled.{settled_head, ahead}
 
 -- tests
 
@@ -70,7 +69,7 @@ told_are told (Some c) (Some d) h =
 told_are told (Some c) None h = absurd (cc)
 told_are told None b h = absurd (cc)
 
-ended_is : (g : Sig) (i : ℕ) → ended_class g ≡ Some i → (g.this ≡ Some i) × (g.whole ≡ true)
+pub ended_is : (g : Sig) (i : ℕ) → ended_class g ≡ Some i → (g.this ≡ Some i) × (g.whole ≡ true)
 ended_is g i = by g.whole refl
   where
     by : (b : Bool) → g.whole ≡ b → (if b then g.this else None) ≡ Some i → (g.this ≡ Some i) × (g.whole ≡ true)
@@ -116,32 +115,26 @@ no_truth e = absurd (cc)
 
 module _ (t : Table) (heads : ℕ → ℕ → Bool) (ps : List Ty) (c m : ℕ) where
   none_left : (todo : List Todo) → may_bind m todo ≡ false → Behind t heads ps c m todo → ⊥
-  none_left [] o h = h
-  none_left (piece.Rest ss ∷ todo) o h = settled_head t heads ps c m ss (none_settled (is_settled m ss) o) h.0
-  none_left (piece.Do a ∷ todo) o h = head_left t ps c m a (Behind t heads ps c m todo) ⊥ (none_left todo o) h
-  none_left (piece.Unwind ∷ todo) o h = absurd (cc)
-  none_left (piece.ClearNow k n ∷ todo) o h = h
-  none_left (piece.Variables ds ∷ todo) o h = h
-  none_left (piece.Branch a b ∷ todo) o h = h
-  none_left (piece.TurnNow q e step b ∷ todo) o h = h
-  none_left (piece.Again q e step b ∷ todo) o h = h
-  none_left (piece.Exit w ∷ todo) o h = h
-  none_left (piece.ChooseNow cs ∷ todo) o h = h
-  none_left (piece.InLoop q e step b ∷ todo) o h = h
-  none_left (piece.InWhole ∷ todo) o h = h
-  none_left (piece.Clean x ∷ todo) o h = h
-  none_left (piece.Part x ∷ todo) o h = h
-  none_left (piece.Guard hs ∷ todo) o h = h
-  none_left (piece.Finish ∷ todo) o h = h
-  none_left (piece.FinishCoroutine ∷ todo) o h = h
-  none_left (p ∷ todo) o h = none_left todo o h
+  none_left (piece.Rest ss ∷ todo) o h = settled_head t heads ps c m ss (none_settled (is_settled m ss) o) h
+  none_left (piece.Do a ∷ todo) o h = ahead t heads ps c m a (Behind t heads ps c m todo) ⊥ (none_left todo o) h
+  none_left (piece.DropNow ∷ todo) o h = none_left todo o h
+  none_left (piece.Within line ∷ todo) o h = none_left todo o h
+  none_left todo o h = absurd h
+
+  none_lands : (w : Value) (K : Ty → Value → Type 0) (todo : List Todo) (vs : List Value) → may_bind m todo ≡ false → Lands t heads ps c m w K todo vs → ⊥
+  none_lands w K (piece.FieldNow s j ∷ todo) vs o h = none_lands w K todo vs o h
+  none_lands w K (piece.BindNow ∷ todo) vs o h = none_left todo o h.1
+  none_lands w K (piece.KeepNow ∷ todo) vs o h = none_left todo o h
+  none_lands w K todo vs o h = absurd h
 
   -- nor what is read now
   not_now : (w : Value) (K : Ty → Value → Type 0) (k : Shape) (todo : List Todo) (vs : List Value) → may_bind m todo ≡ false → Now t heads ps c m w K (piece.Eval (src.OfObject (src.GetOwn k m)) ∷ todo) vs → ⊥
-  not_now w K k todo vs o (inl (inl x)) = x.0
+  not_now w K k todo vs o (inl (inl x)) = x
   not_now w K k todo vs o (inl (inr (inl x))) = x
   not_now w K k todo vs o (inl (inr (inr x))) = x.1.4.1 refl
-  not_now w K k todo vs o (inr x) = none_left todo o x
+  not_now w K k todo vs o (inr (inl x)) = x.0
+  not_now w K k todo vs o (inr (inr (inl x))) = x
+  not_now w K k todo vs o (inr (inr (inr x))) = none_lands w K todo vs o x.1
 
 -- what is at hand outwards of a scope that opens next is at hand
 
@@ -215,9 +208,9 @@ module _ (p : Program) (formed : IsFormed p) (accepted : breaks_of p ≡ []) (fe
       built M none own depth this (inl h) = held (h m is_field told)
       built M none own depth this (inr h) = by (h.fields m is_field told)
         where
-          by : Holds t few n K (Frame n f) (frame_at f s.env.frames) (further (FieldAt (t.shape i) m) (variable n f j)) (t.fields i m) ⊎ M h.params i m (variable n f j) (Known t few n K) → Known t few n L a read
+          by : Holds t few n K (Frame n f) (frame_at f s.env.frames) (further (FieldAt (t.shape i) m) (variable n f j)) (t.fields i m) ⊎ (M h.params i m (variable n f j) (Known t few n K) × IsLoose s.env.frames f (further (FieldAt (t.shape i) m) (variable n f j))) → Known t few n L a read
           by (inl y) = held y
-          by (inr y) = absurd (none h.params i (variable n f j) (Known t few n K) y)
+          by (inr y) = absurd (none h.params i (variable n f j) (Known t few n K) y.0)
 
     module _ (a : Ty) (d : ℕ) (class : x.0.run.sig.this ≡ Some d) (shape : k ≡ t.shape d) (cell : Cell a ≡ t.fields d m) (binds : IsBinding a) where
       -- by the list of the one that waits
@@ -232,7 +225,7 @@ module _ (p : Program) (formed : IsFormed p) (accepted : breaks_of p ≡ []) (fe
       by_callers : (M : List Ty → ℕ → ℕ → Value → (Ty → Value → Type 0) → Type 0) (own : ℕ) (this : Value) (l : List Todo) → (may_bind m l ≡ false → (ps : List Ty) (c : ℕ) (w : Value) (K : Ty → Value → Type 0) → M ps c m w K → ⊥) → (cs : List Active) → Builds t heads few gs n M s.env.frames own this cs → AllBuild t heads few gs n s.env.frames cs → ((w : Value) (e : Ty) → Behind_all t few n gs cs w e → Near w e) → is_building t heads x.0.run.sig s m l cs ≡ true → Known t few n Near a read
       by_callers M own this l none [] h all near o = absurd (no_truth o)
       by_callers M own this l none (b ∷ older) h all near o =
-          by (builds_it t heads x.0.run.sig s m b.frame b.control) refl (may_bind m l) refl o (λ q. by_callers (of_wait t heads b) b.frame b.this b.control (λ r ps c w K y. none_left t heads ps c m b.control r y.0) older all.0 all.1 (λ w e y. near w e (more_behind t few n gs b older w e y)) q)
+          by (builds_it t heads x.0.run.sig s m b.frame b.control) refl (may_bind m l) refl o (λ q. by_callers of_wait b.frame b.this b.control (λ r ps c w K y. y) older all.0 all.1 (λ w e y. near w e (more_behind t few n gs b older w e y)) q)
         where
           by : (u : Bool) → builds_it t heads x.0.run.sig s m b.frame b.control ≡ u → (v : Bool) → may_bind m l ≡ v → ((u && (if v then false else true)) || is_building t heads x.0.run.sig s m b.control older) ≡ true → (is_building t heads x.0.run.sig s m b.control older ≡ true → Known t few n Near a read) → Known t few n Near a read
           by true e false r q more =
@@ -245,7 +238,7 @@ module _ (p : Program) (formed : IsFormed p) (accepted : breaks_of p ≡ []) (fe
       known o =
           let f = x.1.0.frames in
           let same : length s.env.frames ≡ length gs = frames_length t few n gs s.env.frames (s.run ∷ s.callers) x.0.frames in
-          by_callers (of_run t heads s.run) s.run.frame s.run.this todo (λ r ps c w K y. not_now t heads ps c m w K k todo s.run.operands r (subst (λ l. Now t heads ps c m w K l s.run.operands) e y.0)) s.callers x.1.1.run x.1.1.callers (behind_here t few n gs s.run s.callers (below t few (OutwardsOrMade gs) n s.env.frames (s.run ∷ s.callers) x.1.0.stack) (omega (arith, same, f))) o
+          by_callers (of_run t heads s.run) s.run.frame s.run.this todo (λ r ps c w K y. not_now t heads ps c m w K k todo s.run.operands r (subst (λ l. Now t heads ps c m w K l s.run.operands) e y)) s.callers x.1.1.run x.1.1.callers (behind_here t few n gs s.run s.callers (below t few (OutwardsOrMade gs) n s.env.frames (s.run ∷ s.callers) x.1.0.stack) (omega (arith, same, f))) o
 
     all_read : (a : Ty) → Known t few n (Here t few gs s) a read → ReadsKnown t few gs s a (further (FieldAt k m) s.run.this)
     all_read a h = record {

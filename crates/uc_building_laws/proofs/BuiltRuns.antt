@@ -45,17 +45,17 @@ pub law_built_runs : LawBuiltRuns
 law_built_runs p formed accepted within input opts range j w r fits on finds = record {
   comes = λ n s c l. followed.comes n s c (objects n s c l);
   lives = λ n s c l. followed.lives n s c (objects n s c l);
-  reads = λ n s c l f. followed.reads n s c (objects n s c l) (law_built.here p formed accepted input opts range j w r fits on meets n s c (leads n s c l) (f (law_opens.comes p formed accepted within input opts range j w r fits on n s c)));
+  reads = λ n s c l f. followed.reads n s c (objects n s c l) (law_built.here p formed accepted within input opts range j w r fits on meets n s c (leads n s c l) (f (law_opens.comes p formed accepted within input opts range j w r fits on n s c)));
 }
   where
     meets : RunMeets (MeetsBuilding (table_of p) (heads_of p) (source_of p)) (source_of p) input opts j w r
     meets = run_by (Opens (source_of p)) (MeetsBuilding (table_of p) (heads_of p) (source_of p)) (source_of p) input opts r (law_opens.runs p formed accepted within input opts range j w r fits) finds
 
     followed : IsFollowed (table_of p) (source_of p) j w
-    followed = law_opened_runs p formed accepted input opts range j w r fits on (law_built.runs p formed accepted input opts range j w r fits meets)
+    followed = law_opened_runs p formed accepted input opts range j w r fits on (law_built.runs p formed accepted within input opts range j w r fits meets)
 
     leads : (n : ℕ) (s : State) (c : Comes (source_of p) j w n s) → LeadsMeet (FindsBuilding (table_of p) (heads_of p) (source_of p)) (source_of p) (answered (source_of p) c.given (drawn j w n)) s c.leads → LeadsMeet (MeetsBuilding (table_of p) (heads_of p) (source_of p)) (source_of p) (answered (source_of p) c.given (drawn j w n)) s c.leads
     leads n s c l = lead_by (Opens (source_of p)) (MeetsBuilding (table_of p) (heads_of p) (source_of p)) (source_of p) c.leads (law_opens.leads p formed accepted within input opts range j w r fits on n s c) l
 
     objects : (n : ℕ) (s : State) (c : Comes (source_of p) j w n s) → LeadsMeet (FindsBuilding (table_of p) (heads_of p) (source_of p)) (source_of p) (answered (source_of p) c.given (drawn j w n)) s c.leads → LeadsMeet (MeetsObjects (table_of p) (source_of p)) (source_of p) (answered (source_of p) c.given (drawn j w n)) s c.leads
-    objects n s c l = law_built.leads p formed accepted input opts range j w r fits on meets n s c (leads n s c l)
+    objects n s c l = law_built.leads p formed accepted within input opts range j w r fits on meets n s c (leads n s c l)

@@ -1,5 +1,5 @@
 -- A constructor that is called at the variable whose scope opens next is that of its class.
-use Rattle.std.proofs.Common.{◌≡◌, ℕ, ◌+◌, ◌⊎◌, inl, inr, Bool, true, false, List, [], ◌∷◌, drop, Option, Some, None, refl, sym, ap, ◌∙◌, subst}
+use Rattle.std.proofs.Common.{◌≡◌, ℕ, ◌+◌, ◌≤◌, ◌⊎◌, inl, inr, Bool, true, false, List, [], ◌∷◌, drop, Option, Some, None, refl, sym, ap, ◌∙◌, subst, arith}
 use Rattle.std.specs.Prelude.{slice_get, if◌then◌else◌}
 use Rattle.uc_tree.specs.declared.kinds.Base.{Base}
 use Rattle.uc_tree.specs.declared.kinds.Base.TheVariants as base
@@ -7,11 +7,11 @@ use Rattle.uc_tree.specs.declared.kinds.Kind.{Kind}
 use Rattle.uc_tree.specs.declared.kinds.Kind.TheVariants as kind
 use Rattle.uc_tree.specs.declared.kinds.Role.TheVariants as role
 use Rattle.uc_tree.specs.Names.{same_name}
-use Rattle.uc_tree.specs.Cells.{classes_of, object_of_kind, object_named}
+use Rattle.uc_tree.specs.Cells.{class_cells, classes_of, object_of_kind, object_named}
 use Rattle.uc_tree.specs.Objects.{APlain, making_by, making, written_at}
 use Rattle.uc_tree.specs.Programs.{Class, Program}
 use Rattle.uc_tree.specs.Source as src
-use Rattle.uc_tree.specs.Source.{Source, Purpose, Routine, CleanUp, routine_of, routine_or_none}
+use Rattle.uc_tree.specs.Source.{shape_cells, Source, Purpose, Routine, CleanUp, routine_of, routine_or_none}
 use Rattle.uc_machine.specs.Pieces as piece
 use Rattle.uc_machine.specs.Pieces.{Value, Todo, State, top}
 use Rattle.uc_resolve.specs.Resolve.{source_of}
@@ -35,14 +35,17 @@ use Rattle.uc_life_laws.specs.Makings.{Builds}
 use Rattle.uc_life_laws.specs.Knowing.{KnowsState}
 use Rattle.uc_place_laws.specs.Opened.{role_number, ArePaired, OfPlain}
 use Rattle.uc_place_laws.specs.OpeningLaws.{Awaited, IsAt, CallsAt, IsCalled}
-use Rattle.uc_building_laws.specs.Building.{is_bound_in, none_told, heads_of, InHead}
+use Rattle.uc_place_laws.specs.Sparing.{Sparing}
+use Rattle.uc_building_laws.specs.Building.{is_bound_in, all_clean, none_told, heads_of, InHead}
 use Rattle.uc_building_laws.specs.BuildingStates.{variable}
-use Rattle.uc_building_laws.specs.BuildingLaws.{IsConstructed, Constructs, BuildsAt, Fair}
-use Rattle.uc_building_laws.specs.BuildingRuns.{BindsAnew, LawHeads}
+use Rattle.uc_building_laws.specs.BuildingLaws.{AreAddressed, IsSpanned, IsConstructed, Constructs, BuildsAt, Fair}
+use Rattle.uc_building_laws.specs.BuildingRuns.{LawHeads}
 use Rattle.uc_building_laws.specs.Awaiting.{OpensPlain, LawAwaited}
 use Rattle.uc_building_laws.proofs.Given.{given, numbered_holds}
 use Rattle.uc_building_laws.proofs.Heads.{heads}
 use Rattle.uc_building_laws.proofs.Plain.{plain_of, no_scope}
+use Rattle.uc_building_laws.proofs.Spanning.{spanned}
+use Rattle.uc_life_laws.proofs.Laying.{laid_out}
 
 -- what is made of a sort
 
@@ -124,8 +127,8 @@ module _ (p : Program) (formed : IsFormed p) (accepted : breaks_of p ≡ []) whe
     binds q e i h =
         heads p formed accepted (heads_of p) r x.class constructs q e (λ m b. sym (same m) ∙ b) i (same i ∙ h)
       where
-        same : (m : ℕ) → is_bound_in none_told m q.body ≡ heads_of p x.class m
-        same m = sym (ap (λ o. is_bound_in none_told m (routine_or_none o).body) e) ∙ ap (λ n. is_bound_in none_told m (routine_of source n).body) x.builds
+        same : (m : ℕ) → is_bound_in all_clean none_told m q.body ≡ heads_of p x.class m
+        same m = sym (ap (λ o. is_bound_in all_clean none_told m (routine_or_none o).body) e) ∙ ap (λ n. is_bound_in all_clean none_told m (routine_of source n).body) x.builds
 
     -- the destructor is of the class
     this : (t.routine d).this ≡ Some x.class
@@ -146,9 +149,6 @@ module _ (p : Program) (formed : IsFormed p) (accepted : breaks_of p ≡ []) whe
 
     makes : (i : ℕ) → (t.routine d).this ≡ Some i → (q : Routine) → slice_get source.routines r ≡ Some q → (m : ℕ) → heads_of p i m ≡ true → InHead t (heads_of p) (t.routine r).params i m q.body ⊎ IsUnbound t (t.fields i m)
     makes i e q is m = subst (λ i. heads_of p i m ≡ true → InHead t (heads_of p) (t.routine r).params i m q.body ⊎ IsUnbound t (t.fields i m)) (class_is i e) (binds q is m)
-
-    purpose : (q : Routine) → slice_get source.routines r ≡ Some q → q.purpose ≡ src.Builder
-    purpose q e = builder q.purpose (t.routine r).whole whole ((law_sound p formed accepted).routines r q e).purpose
 
   -- what is called where the scope of an object opens next builds what is waited for
   module _ (ends : ℕ → Bool) (s : State) where
@@ -183,7 +183,6 @@ module _ (p : Program) (formed : IsFormed p) (accepted : breaks_of p ≡ []) whe
     is_constructed r k i line c ss todo calls d h =
         let z = plain_of t k i (Called r) c d h in
         record {
-          purpose = purpose r z.0 z.2.0;
           plain = plain r z.0 z.2.0 i z.1;
           makes = λ q e j f told. makes r z.0 z.2.0 i z.1 q e j told;
           object = object r k z.2.1;
@@ -194,16 +193,22 @@ module _ (p : Program) (formed : IsFormed p) (accepted : breaks_of p ≡ []) whe
     constructs_at r (piece.DropNow ∷ (piece.Within line ∷ (piece.Rest (src.Scoped c ss) ∷ todo))) e h = λ k i d. inr (is_constructed r k i line c ss todo e d h)
     constructs_at r todo e h = tt
 
-    at : (l : List Todo) → s.run.control ≡ l → CallsAt p source l s → BindsAnew t (heads_of p) s l → BuildsAt t (heads_of p) few x.sigs source s l
-    at (piece.CallNow r ∷ todo) e h m = no_scope t todo h
-    at (piece.RaiseNow ∷ todo) e h m = no_scope t (piece.DropNow ∷ todo) h
-    at (piece.CallOnNow r ∷ todo) e h m = constructs_at r todo (inl e) h
-    at (piece.CallUnwrittenNow r ∷ todo) e h m = constructs_at r todo (inr e) h
-    at (piece.BindNow ∷ todo) e h m = m
-    at l e h m = tt
+    at : (l : List Todo) → s.run.control ≡ l → CallsAt p source l s → BuildsAt t (heads_of p) few x.sigs source s l
+    at (piece.CallNow r ∷ todo) e h = no_scope t todo h
+    at (piece.RaiseNow ∷ todo) e h = no_scope t (piece.DropNow ∷ todo) h
+    at (piece.CallOnNow r ∷ todo) e h = constructs_at r todo (inl e) h
+    at (piece.CallUnwrittenNow r ∷ todo) e h = constructs_at r todo (inr e) h
+    at l e h = tt
 
-    pub fair : BindsAnew t (heads_of p) s s.run.control → IsCalled p source s → Fair t (heads_of p) few x.sigs source s
-    fair m c = record { at = at s.run.control refl c.calls m; joins = c.joins }
+    pub fair : AreAddressed s → Sparing p s → IsCalled p source s → Fair t (heads_of p) few x.sigs source s p
+    fair short spares c = record { at = at s.run.control refl c.calls; joins = c.joins; follows = c.follows; tails = c.tails; spares = spares; addresses = short }
+
+-- a declared object has all its cells
+pub is_spanned : (p : Program) → IsFormed p → breaks_of p ≡ [] → IsSpanned p (table_of p)
+is_spanned p formed accepted d n i x of =
+    let few : shape_cells ((table_of p).shape i) ≤ class_cells p x.class = (laid_out p formed accepted).counted d (class_cells p x.class) i (x.class, x.ended, refl) of in
+    let all = spanned p accepted d n x in
+    omega (arith, few, all)
 
 pub law_awaited : LawAwaited
 law_awaited p formed accepted ends s h r todo e o = awaited p formed accepted ends s h r todo e o
@@ -211,6 +216,7 @@ law_awaited p formed accepted ends s h r todo e o = awaited p formed accepted en
 pub law_heads : LawHeads
 law_heads = record {
   binds = λ p formed accepted r d x q e i h. binds p formed accepted r d x q e i h;
+  spans = λ p formed accepted d n i x of. is_spanned p formed accepted d n i x of;
   given = λ t few source sound s x r line c rest todo e q is j b i. given t few source sound s x r q is line c rest todo e j b i;
   numbered = λ t s c todo o vs p b n h. numbered_holds t s c todo o vs p b n h;
 }

@@ -21,7 +21,7 @@ use Rattle.uc_life_laws.proofs.Knowns.{Less, around_outer, around_hand, frames_l
 use Rattle.uc_life_laws.proofs.LivesLemmas.{Below, below, in_older, making_here, others_le}
 use Rattle.uc_life_laws.proofs.Parked.{Ex}
 use Rattle.uc_life_laws.proofs.Reading.{within_raw, unmade_number}
-use Rattle.uc_building_laws.specs.BuildingStates.{variable, AtScope, IsInScope, Awaits, Nears, IsBuilt, IsMaking, Builds, of_run, of_wait, AllBuild, BuildsEx, BuildsBy, Left, Built, BuiltState}
+use Rattle.uc_building_laws.specs.BuildingStates.{variable, AtScope, IsInScope, Awaits, Nears, IsBuilt, IsMaking, Builds, of_wait, AllBuild, BuildsEx, BuildsBy, Left, Built, BuiltState}
 use Rattle.uc_building_laws.proofs.Building.{within_more}
 use Rattle.uc_building_laws.proofs.Turning.{now_more}
 
@@ -52,7 +52,7 @@ module _ (t : Table) (heads : ℕ → ℕ → Bool) (few : Few) (numbers : Ty �
         known_object = known_fewer t few numbers keeps n K lasts (Obj c) w h.known_object;
         params = h.params;
         known = λ k b i. known_fewer t few numbers keeps n K lasts b _ (h.known k b i);
-        fields = λ i x told. ⊎_elim (λ y. inl (λ p b z u. known_fewer t few numbers keeps n K lasts b _ (y p b z u))) (λ y. inr (left h.params c i w y)) (h.fields i x told);
+        fields = λ i x told. ⊎_elim (λ y. inl (λ p b z u. known_fewer t few numbers keeps n K lasts b _ (y p b z u))) (λ y. inr (left h.params c i w y.0, y.1)) (h.fields i x told);
       }
 
     -- what lies in what a scope is of that opens next has no number, so what is known there lasts where all else is at hand
@@ -100,11 +100,11 @@ module _ (t : Table) (heads : ℕ → ℕ → Bool) (few : Few) (numbers : Ty �
       all_less fs [] more made h = tt
       all_less fs (a ∷ older) more made h =
           let next : Less t few n (Around t few n older) L = λ w b y. more w b (inr (around_outer t few n older w b y)) in
-          (builds_less (of_wait t heads a) (of_wait t heads a) (λ K l ps c i w y. y) fs a.frame a.this older next (λ w b m. made w b (inr m)) h.0, all_less fs older next (λ w b m. made w b (inr m)) h.1)
+          (builds_less of_wait of_wait (λ K l ps c i w y. y) fs a.frame a.this older next (λ w b m. made w b (inr m)) h.0, all_less fs older next (λ w b m. made w b (inr m)) h.1)
 
     -- what an activation has still to bind
     left_less : (given : List Ty) (a : Active) (K : Value → Ty → Type 0) → Lasts t few numbers K → (ps : List Ty) (c i : ℕ) (w : Value) → Left t heads given a ps c i w (Known t few n K) → Left t heads given a ps c i w (Known t less n K)
-    left_less [] a K lasts ps c i w y = (now_more t heads ps c i w (Known t few n K) (Known t less n K) (λ b v. known_fewer t few numbers keeps n K lasts b v) a.control a.operands y.0, y.1)
+    left_less [] a K lasts ps c i w y = now_more t heads ps c i w (Known t few n K) (Known t less n K) (λ b v. known_fewer t few numbers keeps n K lasts b v) a.control a.operands y
     left_less (b ∷ given) a K lasts ps c i w y = y
 
   -- of executions that do not run
@@ -120,13 +120,13 @@ module _ (t : Table) (heads : ℕ → ℕ → Bool) (few : Few) (numbers : Ty �
           let more : Less t few n (Around t few n x.callers) (AtHand t few n gs (x.run ∷ x.callers)) = λ w a y. around_hand t few n gs (x.run ∷ x.callers) w a (inr (around_outer t few n x.callers w a y)) in
           let made : (w : Value) (a : Ty) → MakingIn gs x.callers w a → AtHand t few n gs (x.run ∷ x.callers) w a = λ w a m. inr (inl (making_here t few gs (x.run ∷ x.callers) w a (below t few (OutwardsOrMade gs) n x.frames (x.run ∷ x.callers) h.0.stack) bounds (inr m))) in
           record {
-            apart = h.1.apart;
-            run = builds_less gs n (AtHand t few n gs (x.run ∷ x.callers)) lasts (of_run t heads x.run) (of_run t heads x.run) (left_less gs n [] x.run) x.frames x.run.frame x.run.this x.callers more made h.1.run;
+            anew = h.1.anew;
+            run = builds_less gs n (AtHand t few n gs (x.run ∷ x.callers)) lasts of_wait of_wait (λ K l ps c i w y. y) x.frames x.run.frame x.run.this x.callers more made h.1.run;
             callers = all_less gs n (AtHand t few n gs (x.run ∷ x.callers)) lasts x.frames x.callers more made h.1.callers;
           }
       by (inr fresh) = record {
-        apart = h.1.apart;
-        run = subst (λ cs. Builds t heads less gs n (of_run t heads x.run) x.frames x.run.frame x.run.this cs) (sym fresh.callers) tt;
+        anew = h.1.anew;
+        run = subst (λ cs. Builds t heads less gs n of_wait x.frames x.run.frame x.run.this cs) (sym fresh.callers) tt;
         callers = subst (λ cs. AllBuild t heads less gs n x.frames cs) (sym fresh.callers) tt;
       }
 
@@ -168,7 +168,7 @@ module _ (t : Table) (heads : ℕ → ℕ → Bool) (few : Few) (numbers : Ty �
           callers = waits_fewer t few numbers keeps s.env.exec (others x.0.sigs) s.callers r.waiting x.0.callers;
           env = env_claims t few numbers keeps (Built t heads few) (Built t heads less) built_turns s.env x.0.env e;
         },
-        (running_lives t few numbers keeps s.env.exec x.0.sigs (stopped s) same x.1.0 r.waiting r.operands, builds r.waiting, stands_less s x.0.sigs r.operands made_here s.run.control refl x.1.2),
+        (running_lives t few numbers keeps s.env.exec x.0.sigs (stopped s) same x.1.0 r.waiting r.operands, builds r.waiting, stands_less s x.0.sigs r.operands made_here s.run.control refl x.1.2, x.1.3),
       )
     where
       same_length : length s.env.frames ≡ length x.0.sigs
@@ -194,7 +194,7 @@ module _ (t : Table) (heads : ℕ → ℕ → Bool) (few : Few) (numbers : Ty �
 
       builds : Lasts t few numbers (AtHand t few s.env.exec (others x.0.sigs) s.callers) → BuildsBy t heads less x.0.sigs (Left t heads given s.run) s
       builds lasts = record {
-        apart = x.1.1.apart;
+        anew = x.1.1.anew;
         run = builds_less x.0.sigs s.env.exec (AtHand t few s.env.exec (others x.0.sigs) s.callers) lasts (Left t heads given s.run) (Left t heads given s.run) (left_less x.0.sigs s.env.exec given s.run) s.env.frames s.run.frame s.run.this s.callers (around_hand t few s.env.exec (others x.0.sigs) s.callers) made_older x.1.1.run;
         callers = all_less x.0.sigs s.env.exec (AtHand t few s.env.exec (others x.0.sigs) s.callers) lasts s.env.frames s.callers (around_hand t few s.env.exec (others x.0.sigs) s.callers) made_older x.1.1.callers;
       }

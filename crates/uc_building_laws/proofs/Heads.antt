@@ -1,7 +1,7 @@
 -- The constructors of a program bind fields in their first statements to what is of the type of the field.
 use Rattle.std.proofs.Common.{◌≡◌, ℕ, zero, suc, ◌+◌, ◌-◌, ◌++◌, ◌⊎◌, inl, inr, Bool, true, false, List, [], ◌∷◌, length, map, Option, Some, None, refl, sym, ap, ◌∙◌, subst, arith}
 use Rattle.std.specs.Prelude.{◌&&◌, ◌||◌, nat_eq, nat_lt, slice_get, if◌then◌else◌}
-use Rattle.std.proofs.lemmas.Bool.{eqb-true}
+use Rattle.std.proofs.lemmas.Bool.{eq-eqb, eqb-true}
 use Rattle.uc_tree.specs.declared.kinds.Param.{Param}
 use Rattle.uc_tree.specs.Cells.{leading_cells}
 use Rattle.uc_tree.specs.Expressions as expr
@@ -26,7 +26,8 @@ use Rattle.uc_sound.specs.Tables.{known_field, listed_field, class_field, writte
 use Rattle.uc_sound.proofs.Lists.{left_is, right_is}
 use Rattle.uc_sound.proofs.SoundLemmas.{law_sound}
 use Rattle.uc_life_laws.specs.Things.{IsField, Within, itself, field, element, IsBinding, IsUnbound}
-use Rattle.uc_building_laws.specs.Building.{is_other, is_settled, is_path, is_object_path, is_bound_by, told_behind, is_bound_in, none_told, StaysBy, IsGiven, BindsField, InHead}
+use Rattle.uc_building_laws.specs.Building.{is_calm, is_aside, is_other, is_settled, is_behind, is_path, is_object_path, is_bound_by, clean_behind, clean_up, told_behind, is_bound_in, all_clean, none_told, StaysBy, IsGiven, BindsField, Asides, InHead}
+use Rattle.uc_building_laws.proofs.Settled.{head_led}
 
 -- what is whole
 
@@ -198,34 +199,71 @@ module _ (t : Table) (g : Sig) (c : ℕ) (this : g.this ≡ Some c) (leads : (d 
       absurd (cc)
   names_it told i e h o = absurd (cc)
 
+  -- what is done before a field is bound
+  asides : (i : ℕ) (e : Expr) → is_aside i e ≡ true → Fine t g [] e → Asides t c i e
+  asides i (src.OfObject (src.Bind (src.OfObject (src.OwnField s m)) e)) h f =
+      let y = f.1.0 in
+      let same : y.0 ≡ c = class_is y.0 y.1 in
+      let other : (if nat_eq m i then false else true) ≡ true = left_is (if nat_eq m i then false else true) (is_calm e) h in
+      let x = cell_of f.0 (t.fields c m) (subst (λ d. (Cell f.0 ≡ t.fields d m) ⊎ (Cell f.0 ≡ raw (t.fields d m))) same y.4) in
+      (y.2 ∙ ap t.shape same, right_is (if nat_eq m i then false else true) (is_calm e) h, ((λ q. differs m i (eq-eqb m i q) other), of_cell m x.bound (sym x.is), (x.bound, x.is)))
+    where
+      differs : (m i : ℕ) → nat_eq m i ≡ true → (if nat_eq m i then false else true) ≡ true → ⊥
+      differs m i q r = let z : (if nat_eq m i then false else true) ≡ false = ap (λ (b : Bool). if b then false else true) q in absurd (cc)
+  asides i (src.Assign (src.OfObject (src.OwnField s m)) e) h f = h
+  asides i e h f = absurd (cc)
+
   -- the first statements
   module _ (heads : ℕ → ℕ → Bool) where
     -- fields that are told are bound by none of these statements; and each that these bind is one of which it is told
     abbrev AreTold : (ℕ → Bool) → Stmts → Type 0
     AreTold told ss = (m : ℕ) → told m ≡ true → (heads c m ≡ true) × (is_settled m ss ≡ true)
 
-    abbrev AreHeads : (ℕ → Bool) → Stmts → Type 0
-    AreHeads told ss = (m : ℕ) → is_bound_in told m ss ≡ true → heads c m ≡ true
+    abbrev AreHeads : (clean told : ℕ → Bool) → Stmts → Type 0
+    AreHeads clean told ss = (m : ℕ) → is_bound_in clean told m ss ≡ true → heads c m ≡ true
+
+    or_left : (a b : Bool) → a ≡ true → (a || b) ≡ true
+    or_left true b h = refl
+    or_left false b h = absurd (cc)
+
+    or_right : (a b : Bool) → b ≡ true → (a || b) ≡ true
+    or_right true b h = refl
+    or_right false b h = h
+
+    and_both : (a b : Bool) → a ≡ true → b ≡ true → (a && b) ≡ true
+    and_both true b h k = k
+    and_both false b h k = h
+
+    -- what is bound so is clean
+    clean_of : (clean told : ℕ → Bool) (i : ℕ) (ss : Stmts) → is_bound_in clean told i ss ≡ true → clean i ≡ true
+    clean_of clean told i src.Nil h = absurd (cc)
+    clean_of clean told i (src.Then (src.Evaluate line e) rest) h = by (clean i && is_bound_by told i e) refl h (λ k. clean_of (clean_behind clean e) (told_behind clean told e rest) i rest k)
+      where
+        by : (b : Bool) → (clean i && is_bound_by told i e) ≡ b → (b || is_bound_in (clean_behind clean e) (told_behind clean told e rest) i rest) ≡ true → (is_bound_in (clean_behind clean e) (told_behind clean told e rest) i rest ≡ true → (clean i && is_aside i e) ≡ true) → clean i ≡ true
+        by true q k more = left_is (clean i) (is_bound_by told i e) q
+        by false q k more = left_is (clean i) (is_aside i e) (more k)
+    clean_of clean told i (src.Then (src.OfTasks (src.SetUp r)) rest) h = left_is (clean i) (is_behind i rest) (clean_of (clean_up clean rest) told i rest h)
+    clean_of clean told i (src.Then a rest) h = absurd (cc)
+    clean_of clean told i (src.Scoped x rest) h = absurd (cc)
+    clean_of clean told i (src.Built x rest) h = clean_of clean told i rest h
 
     -- behind a statement that evaluates this
-    module _ (told : ℕ → Bool) (line : ℕ) (e : Expr) (rest : Stmts) (are : AreTold told (src.Then (src.Evaluate line e) rest)) (all : AreHeads told (src.Then (src.Evaluate line e) rest)) where
+    module _ (clean told : ℕ → Bool) (line : ℕ) (e : Expr) (rest : Stmts) (are : AreTold told (src.Then (src.Evaluate line e) rest)) (all : AreHeads clean told (src.Then (src.Evaluate line e) rest)) where
       settled : (m : ℕ) → told m ≡ true → is_settled m rest ≡ true
       settled m l = right_is (is_other m e) (is_settled m rest) (are m l).1
 
-      now_told : AreTold (told_behind told e rest) rest
-      now_told m = by (told m) refl (is_bound_by told m e) refl
+      now_told : AreTold (told_behind clean told e rest) rest
+      now_told m = by (told m) refl
         where
-          by : (a : Bool) → told m ≡ a → (b : Bool) → is_bound_by told m e ≡ b → (a || (b && is_settled m rest)) ≡ true → (heads c m ≡ true) × (is_settled m rest ≡ true)
-          by true x b y h = ((are m x).0, settled m x)
-          by false x true y h = (all m (ap (λ b. b || is_bound_in (told_behind told e rest) m rest) y), h)
-          by false x false y h = absurd (cc)
+          by : (a : Bool) → told m ≡ a → (a || (clean m && (is_bound_by told m e && is_settled m rest))) ≡ true → (heads c m ≡ true) × (is_settled m rest ≡ true)
+          by true x h = ((are m x).0, settled m x)
+          by false x h =
+              let k : (is_bound_by told m e && is_settled m rest) ≡ true = right_is (clean m) (is_bound_by told m e && is_settled m rest) h in
+              let b : (clean m && is_bound_by told m e) ≡ true = and_both (clean m) (is_bound_by told m e) (left_is (clean m) (is_bound_by told m e && is_settled m rest) h) (left_is (is_bound_by told m e) (is_settled m rest) k) in
+              (all m (or_left (clean m && is_bound_by told m e) (is_bound_in (clean_behind clean e) (told_behind clean told e rest) m rest) b), right_is (is_bound_by told m e) (is_settled m rest) k)
 
-      now_heads : AreHeads (told_behind told e rest) rest
-      now_heads m h = all m (by (is_bound_by told m e) (is_bound_in (told_behind told e rest) m rest) h)
-        where
-          by : (a b : Bool) → b ≡ true → (a || b) ≡ true
-          by true b h = refl
-          by false b h = h
+      now_heads : AreHeads (clean_behind clean e) (told_behind clean told e rest) rest
+      now_heads m h = all m (or_right (clean m && is_bound_by told m e) (is_bound_in (clean_behind clean e) (told_behind clean told e rest) m rest) h)
 
       stays : (i : ℕ) → is_bound_by told i e ≡ true → (m : ℕ) → told m ≡ true → StaysBy heads c i m (is_settled m rest ≡ true)
       stays i b m l =
@@ -239,23 +277,28 @@ module _ (t : Table) (g : Sig) (c : ℕ) (this : g.this ≡ Some c) (leads : (d 
       later a ss f (inl h) = inl (f h)
       later a ss f (inr h) = inr h
 
-      pub head : (told : ℕ → Bool) (ss : Stmts) → AreTold told ss → AreHeads told ss → is_bound_in told i ss ≡ true → FineStmts t g [] ss → Heads ss
-      head told src.Nil are all h f = absurd (cc)
-      head told (src.Then (src.Evaluate line e) rest) are all h f =
-          by (is_bound_by told i e) refl h (λ k. head (told_behind told e rest) rest (now_told told line e rest are all) (now_heads told line e rest are all) k f.1)
+      pub head : (clean told : ℕ → Bool) (ss : Stmts) → AreTold told ss → AreHeads clean told ss → is_bound_in clean told i ss ≡ true → FineStmts t g [] ss → Heads ss
+      head clean told src.Nil are all h f = absurd (cc)
+      head clean told (src.Then (src.Evaluate line e) rest) are all h f =
+          by (clean i && is_bound_by told i e) refl h (λ k. head (clean_behind clean e) (told_behind clean told e rest) rest (now_told clean told line e rest are all) (now_heads clean told line e rest are all) k f.1)
         where
           here : BindsField t g.params c (λ m. StaysBy heads c i m (is_settled m rest ≡ true)) i e ⊎ IsUnbound t (t.fields c i) → Heads (src.Then (src.Evaluate line e) rest)
           here (inl y) = inl (inl y)
           here (inr y) = inr y
 
-          by : (b : Bool) → is_bound_by told i e ≡ b → (b || is_bound_in (told_behind told e rest) i rest) ≡ true → (is_bound_in (told_behind told e rest) i rest ≡ true → Heads rest) → Heads (src.Then (src.Evaluate line e) rest)
-          by true q k more = here (bound_by told (λ m. StaysBy heads c i m (is_settled m rest ≡ true)) (stays told line e rest are all i q) i e q f.0)
-          by false q k more = later (src.Evaluate line e) rest (λ y. inr y) (more k)
-      head told (src.Then (src.Fill line n b d) rest) are all h f = later (src.Fill line n b d) rest (λ y. inr y) (head told rest are all h f.1)
-      head told (src.Then (src.OfTasks (src.SetUp r)) rest) are all h f = later (src.OfTasks (src.SetUp r)) rest (λ y. inr y) (head told rest are all h f.1)
-      head told (src.Then a rest) are all h f = absurd (cc)
-      head told (src.Scoped x rest) are all h f = absurd (cc)
-      head told (src.Built x rest) are all h f = head told rest are all h f.0
+          by : (b : Bool) → (clean i && is_bound_by told i e) ≡ b → (b || is_bound_in (clean_behind clean e) (told_behind clean told e rest) i rest) ≡ true → (is_bound_in (clean_behind clean e) (told_behind clean told e rest) i rest ≡ true → Heads rest) → Heads (src.Then (src.Evaluate line e) rest)
+          by true q k more =
+              let b : is_bound_by told i e ≡ true = right_is (clean i) (is_bound_by told i e) q in
+              here (bound_by told (λ m. StaysBy heads c i m (is_settled m rest ≡ true)) (stays clean told line e rest are all i b) i e b f.0)
+          by false q k more =
+              let a : is_aside i e ≡ true = right_is (clean i) (is_aside i e) (clean_of (clean_behind clean e) (told_behind clean told e rest) i rest k) in
+              later (src.Evaluate line e) rest (λ y. inr (asides i e a f.0, y)) (more k)
+      head clean told (src.Then (src.OfTasks (src.SetUp r)) rest) are all h f =
+          let b : is_behind i rest ≡ true = right_is (clean i) (is_behind i rest) (clean_of (clean_up clean rest) told i rest h) in
+          later (src.OfTasks (src.SetUp r)) rest (λ y. inr (head_led t heads g.params c i rest b y, y)) (head (clean_up clean rest) told rest are all h f.1)
+      head clean told (src.Then a rest) are all h f = absurd (cc)
+      head clean told (src.Scoped x rest) are all h f = absurd (cc)
+      head clean told (src.Built x rest) are all h f = head clean told rest are all h f.0
 
 -- all types of a table are whole
 
@@ -384,7 +427,7 @@ module _ (p : Program) where
     of_routine n = both (written_sigs p (routines_of p) 0 0 0) (unwritten_sigs p (unwritten_of p)) (of_written (routines_of p) 0 0 0) (of_unwritten (unwritten_of p)) n
 
 -- what a routine of a class binds in its first statements, of which it is told
-pub heads : (p : Program) → IsFormed p → breaks_of p ≡ [] → (told : ℕ → ℕ → Bool) (r c : ℕ) → ((table_of p).routine r).this ≡ Some c → (q : Routine) → slice_get (source_of p).routines r ≡ Some q → ((m : ℕ) → is_bound_in none_told m q.body ≡ true → told c m ≡ true) → (i : ℕ) → is_bound_in none_told i q.body ≡ true → InHead (table_of p) told ((table_of p).routine r).params c i q.body ⊎ IsUnbound (table_of p) ((table_of p).fields c i)
+pub heads : (p : Program) → IsFormed p → breaks_of p ≡ [] → (told : ℕ → ℕ → Bool) (r c : ℕ) → ((table_of p).routine r).this ≡ Some c → (q : Routine) → slice_get (source_of p).routines r ≡ Some q → ((m : ℕ) → is_bound_in all_clean none_told m q.body ≡ true → told c m ≡ true) → (i : ℕ) → is_bound_in all_clean none_told i q.body ≡ true → InHead (table_of p) told ((table_of p).routine r).params c i q.body ⊎ IsUnbound (table_of p) ((table_of p).fields c i)
 heads p formed accepted told r c this q e all i h =
     let sound : Sound (table_of p) (source_of p) = law_sound p formed accepted in
-    head (table_of p) ((table_of p).routine r) c this sound.leads (fields_are_whole p) (fields_are p IsKept tt field_kept) (of_routine p IsWhole tt found_whole r) told i none_told q.body (λ m l. absurd (cc)) all h (sound.routines r q e).body
+    head (table_of p) ((table_of p).routine r) c this sound.leads (fields_are_whole p) (fields_are p IsKept tt field_kept) (of_routine p IsWhole tt found_whole r) told i all_clean none_told q.body (λ m l. absurd (cc)) all h (sound.routines r q e).body

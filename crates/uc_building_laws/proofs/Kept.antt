@@ -1,26 +1,29 @@
 -- Each step keeps what constructors have bound, by the kinds of frames; and answers do.
-use Rattle.std.proofs.Common.{◌≡◌, ℕ, suc, ◌⊎◌, inl, inr, Bool, true, List, [], ◌∷◌, length, drop, Option, Some, None, refl, sym, ap, ◌∙◌, subst, arith}
+use Rattle.std.proofs.Common.{◌≡◌, ℕ, suc, ℤ, ◌⊎◌, inl, inr, Bool, true, false, List, [], ◌∷◌, length, drop, Option, Some, None, refl, sym, ap, ◌∙◌, subst, arith}
 use Rattle.uc_tree.specs.Programs.{Program}
 use Rattle.uc_tree.specs.Source as src
 use Rattle.uc_tree.specs.Source.{Source, Routine, Stmts, CleanUp}
 use Rattle.uc_entry.specs.declared.request.Request.{Request}
 use Rattle.uc_entry.specs.declared.request.Request.TheVariants as ask
 use Rattle.uc_machine.specs.declared.exec.Exec.{Exec}
-use Rattle.uc_machine.specs.declared.exec.Owner.TheVariants.{Frame}
+use Rattle.uc_machine.specs.declared.exec.Owner.TheVariants.{Frame, Fields}
 use Rattle.uc_machine.specs.declared.exec.UnwindReason.{UnwindReason}
 use Rattle.uc_machine.specs.declared.exec.UnwindReason.TheVariants as reason
-use Rattle.uc_machine.specs.Executions.{others, frame_changed, value_changed}
+use Rattle.uc_machine.specs.Executions.{others, exec_eq, frame_changed, value_changed}
 use Rattle.uc_machine.specs.Raising as raising
 use Rattle.uc_machine.specs.Switches as sw
 use Rattle.uc_machine.specs.Switches.{Moved, To, Stops, stopped, new_exec, unwound_there}
 use Rattle.uc_machine.specs.Pieces as piece
-use Rattle.uc_machine.specs.Pieces.{FieldAt, Value, Number, Running, Todo, Sort, Active, State, Step, Goes, Ticks, Asks, top, at, further, stored, nought}
+use Rattle.uc_machine.specs.Pieces.{FieldAt, Value, Number, Place, Running, Object, Nothing, Todo, Sort, Active, State, Step, Goes, Ticks, Asks, top, at, further, stored, nought}
 use Rattle.uc_machine.specs.Quiet.{act_todo, fresh, home_at, quiet}
 use Rattle.uc_state_laws.specs.Layout.{Sized}
 use Rattle.uc_state_laws.specs.RoomStacks.{StackState}
 use Rattle.uc_typing.specs.Typing.{Ty, Obj, Sig, Table, CleansAt}
 use Rattle.uc_typing.specs.States.{Sound}
-use Rattle.uc_place_laws.specs.CalledStates.{StepJoins}
+use Rattle.uc_place_laws.specs.CalledStates.{StepJoins, StepFollows}
+use Rattle.uc_place_laws.specs.Calling.{Calling}
+use Rattle.uc_place_laws.specs.Sparing.{Spares, SparesAt}
+use Rattle.uc_state_laws.specs.Counted.{params_at}
 use Rattle.uc_life_laws.specs.Things.{Few, IsField, Known, Holds}
 use Rattle.uc_life_laws.specs.LifeStates.{frame_at, Outwards, LifeStateBy, StepIs, OpensBy}
 use Rattle.uc_life_laws.specs.LifeRuns.{IsLaidOut}
@@ -37,16 +40,16 @@ use Rattle.uc_life_laws.proofs.LifeSteps.{life_kept}
 use Rattle.uc_life_laws.proofs.LifeWalk.{walk}
 use Rattle.uc_life_laws.proofs.LivesLemmas.{below, lives_kept, lives_parks, lives_read, lives_turned, nothing_kept}
 use Rattle.uc_life_laws.proofs.Parked.{Ex, each_env}
-use Rattle.uc_life_laws.proofs.Parking.{all_stays}
-use Rattle.uc_building_laws.specs.BuildingStates.{variable, of_run, of_wait, BuildsEx, BuildsBy, BuildsAsk, BuildsStep, Stands, Left, Built, BuiltState}
-use Rattle.uc_building_laws.specs.BuildingLaws.{Fair, LawKept}
-use Rattle.uc_building_laws.proofs.Building as building
+use Rattle.uc_building_laws.specs.Anew.{IsAnew}
+use Rattle.uc_building_laws.specs.BuildingStates.{variable, of_run, of_wait, BuildsEx, BuildsBy, BuildsAsk, BuildsStep, Stands, Starts, Left, Built, BuiltState}
+use Rattle.uc_building_laws.specs.BuildingLaws.{IsSpanned, Fair, LawKept}
 use Rattle.uc_building_laws.proofs.Building.{all_keep, all_kept, builds_kept, builds_more}
 use Rattle.uc_building_laws.proofs.Given.{holds_there}
-use Rattle.uc_building_laws.proofs.Keeping.{some_is}
+use Rattle.uc_building_laws.proofs.Anew.{all_loosen, all_anew, behind_calling}
 use Rattle.uc_building_laws.proofs.Laid.{clears}
-use Rattle.uc_building_laws.proofs.Memory.{FrameKeeps, frame_stored}
+use Rattle.uc_building_laws.proofs.Memory.{FrameKeeps, frame_stored, frame_number}
 use Rattle.uc_building_laws.proofs.Standing.{StandsOf, others_stand}
+use Rattle.uc_building_laws.proofs.Starting.{others_start}
 use Rattle.uc_building_laws.proofs.Turning.{AllMade, newer_made, older_made, now_more, by_kinds, stands_by}
 use Rattle.uc_building_laws.proofs.Walk.{law_steps}
 
@@ -89,52 +92,61 @@ module _ (t : Table) (heads : ℕ → ℕ → Bool) (few : Few) where
   abbrev S : List Ty → State → Type 0
   S given s = BuiltState t heads few given s
 
-  -- an activation that runs may come to less
-  run_left : (given : List Ty) (a : Active) (ps : List Ty) (c i : ℕ) (w : Value) (K : Ty → Value → Type 0) → of_wait t heads a ps c i w K → Left t heads given a ps c i w K
-  run_left [] a ps c i w K h = (building.now t heads ps c i w K a.control a.operands h.0, h.1)
-  run_left (b ∷ given) a ps c i w K h = h
+  -- nothing is left
+  run_left : (given : List Ty) (a : Active) (ps : List Ty) (c i : ℕ) (w : Value) (K : Ty → Value → Type 0) → of_wait ps c i w K → Left t heads given a ps c i w K
+  run_left given a ps c i w K h = absurd h
 
-  pub rest_left : (kinds : List Sig) (given : List Ty) (u : State) → BuildsBy t heads few kinds (of_wait t heads u.run) u → BuildsBy t heads few kinds (Left t heads given u.run) u
+  pub rest_left : (kinds : List Sig) (given : List Ty) (u : State) → BuildsBy t heads few kinds of_wait u → BuildsBy t heads few kinds (Left t heads given u.run) u
   rest_left kinds given u h = record {
-    apart = h.apart;
-    run = builds_more t heads few kinds u.env.exec (of_wait t heads u.run) (Left t heads given u.run) (λ ps c i w K x. run_left given u.run ps c i w K x) u.env.frames u.run.frame u.run.this u.callers h.run;
+    anew = h.anew;
+    run = builds_more t heads few kinds u.env.exec of_wait (Left t heads given u.run) (λ ps c i w K x. run_left given u.run ps c i w K x) u.env.frames u.run.frame u.run.this u.callers h.run;
     callers = h.callers;
   }
 
   -- executions that do not run keep it
 
-  ex_kept : (n : Exec) (kinds : List Sig) (x : Ex) (fs : List (List Value)) → ((d : ℕ) → FrameKeeps x.frames fs d) → BuildsEx t heads few n kinds x → BuildsEx t heads few n kinds (record x { frames = fs })
-  ex_kept n kinds x fs k r = record {
-    apart = r.apart;
-    run = builds_kept t heads few kinds n (of_run t heads x.run) x.frames fs x.run.frame x.run.this x.callers (k x.run.frame) (all_keep t heads few kinds n x.frames fs k x.callers) r.run;
-    callers = all_kept t heads few kinds n x.frames fs x.callers (all_keep t heads few kinds n x.frames fs k x.callers) r.callers;
+  ex_unwound : (n : Exec) (kinds : List Sig) (x : Ex) (why : UnwindReason) → BuildsEx t heads few n kinds x → BuildsEx t heads few n kinds (unwound_there why x)
+  ex_unwound n kinds x why r = record { anew = (r.anew.0, r.anew.1); run = r.run; callers = r.callers }
+
+  ex_written : (n : Exec) (kinds : List Sig) (x : Ex) (d k : ℕ) (z : ℤ) → BuildsEx t heads few n kinds x → BuildsEx t heads few n kinds (record x { frames = frame_changed d (value_changed k (stored (Number z)) nought) x.frames })
+  ex_written n kinds x d k z r = record {
+    anew = all_anew t heads x.frames fs (x.run ∷ x.callers) (all_loosen t heads x.frames fs (λ e. frame_number x.frames d k e z) (x.run ∷ x.callers)) r.anew;
+    run = builds_kept t heads few kinds n x.frames fs x.run.frame x.run.this x.callers (keep x.run.frame) (all_keep t heads few kinds n x.frames fs keep x.callers) r.run;
+    callers = all_kept t heads few kinds n x.frames fs x.callers (all_keep t heads few kinds n x.frames fs keep x.callers) r.callers;
   }
+    where
+      fs : List (List Value)
+      fs = frame_changed d (value_changed k (stored (Number z)) nought) x.frames
 
-  ex_unwound : (n : Exec) (kinds : List Sig) (x : Ex) (why : UnwindReason) → ((home : ℕ) → why ≡ reason.ReturnTo home → ⊥) → BuildsEx t heads few n kinds x → BuildsEx t heads few n kinds (unwound_there why x)
-  ex_unwound n kinds x why none r = record {
-    apart = ((r.apart.0.0, r.apart.0.1, λ home e. absurd (none home (some_is e))), r.apart.1);
-    run = builds_more t heads few kinds n (of_run t heads x.run) (of_run t heads (record x.run { raised = Some why })) (λ ps c i w K y. (y.0, λ e. none x.run.frame (some_is e))) x.frames x.run.frame x.run.this x.callers r.run;
-    callers = r.callers;
-  }
+      keep : (e : ℕ) → FrameKeeps x.frames fs e
+      keep e = frame_stored x.frames d k e (Number z)
 
-  built_written : (n : Exec) (kinds : List Sig) (x : Ex) (d k : ℕ) (v : Value) → J n kinds x → J n kinds (record x { frames = frame_changed d (value_changed k (stored v) nought) x.frames })
-  built_written n gs x d k v h = ((life_kept t few (OutwardsOrMade gs)).written n x d k v h.0, ex_kept n gs x (frame_changed d (value_changed k (stored v) nought) x.frames) (λ e. frame_stored x.frames d k e v) h.1)
+  -- what is bound lies in no frame of theirs
+  other_frame : (m n : Exec) → exec_eq m n ≡ true → exec_eq m n ≡ false → ⊥
+  other_frame m n e f = let q : true ≡ false = sym e ∙ f in absurd (cc)
 
-  -- whatever is written
-  built_stays : (n : Exec) (w v : Value) → Stays J n w v
-  built_stays = all_stays J (λ n gs x d k v h. built_written n gs x d k v h)
+  stays_spared : (Z : ℕ → ℕ → Type 0) (n : Exec) (cs : List Active) (w v : Value) → Spares Z n cs w → Stays J n w v
+  stays_spared Z n cs (Place (Frame m d) p) v h = λ far gs x y. absurd (other_frame m n h.0 far)
+  stays_spared Z n cs (Place (Fields o) p) v h = tt
+  stays_spared Z n cs (Object o) v h = tt
+  stays_spared Z n cs (Number z) v h = tt
+  stays_spared Z n cs (Running e) v h = tt
+  stays_spared Z n cs Nothing v h = tt
 
   pub built_kept : IsKept J
   built_kept = record {
-    written = λ n gs x d k z h. built_written n gs x d k (Number z) h;
-    linked = λ n gs x l h. ((lives_kept t few).linked n gs x l h.0, record { apart = h.1.apart; run = h.1.run; callers = h.1.callers });
-    unwound = λ n gs x why other h. ((lives_kept t few).unwound n gs x why other h.0, ex_unwound n gs x why other h.1);
+    written = λ n gs x d k z h. ((life_kept t few (OutwardsOrMade gs)).written n x d k (Number z) h.0, ex_written n gs x d k z h.1);
+    linked = λ n gs x l h. ((lives_kept t few).linked n gs x l h.0, record { anew = h.1.anew; run = h.1.run; callers = h.1.callers });
+    unwound = λ n gs x why other h. ((lives_kept t few).unwound n gs x why other h.0, ex_unwound n gs x why h.1);
   }
 
   pub fresh_built : (n : Exec) (kinds : List Sig) (r : Routine) (this : Value) → BuildsEx t heads few n kinds (fresh r this)
-  fresh_built n kinds r this = record { apart = ((tt, refl, λ home e. absurd (cc)), tt); run = tt; callers = tt }
+  fresh_built n kinds r this = record { anew = (behind_calling (IsAnew t heads (fresh r this).frames (fresh r this).run.frame) r.purpose r.line, tt); run = tt; callers = tt }
 
-  module _ (source : Source) (Z : ℕ → ℕ → Type 0) (s : State) (x : S [] s) where
+  module _ (source : Source) (p : Program) (s : State) (x : S [] s) where
+    abbrev Z : ℕ → ℕ → Type 0
+    Z = Sized p
+
     abbrev gs : List Sig
     gs = x.0.sigs
 
@@ -144,29 +156,26 @@ module _ (t : Table) (heads : ℕ → ℕ → Bool) (few : Few) where
     same : length s.env.frames ≡ length gs
     same = frames_length t few s.env.exec gs s.env.frames (s.run ∷ s.callers) x.0.frames
 
-    -- with something else to do, as it stops
-    left_to : (todo : List Todo) (vs : List Value) → ((ps : List Ty) (c i : ℕ) (w : Value) (K : Ty → Value → Type 0) → of_run t heads s.run ps c i w K → of_run t heads (at todo vs s).run ps c i w K) → BuildsEx t heads few s.env.exec gs (stopped (at todo vs s))
-    left_to todo vs more = record {
-      apart = x.1.1.apart;
-      run = builds_more t heads few gs s.env.exec (of_run t heads s.run) (of_run t heads (at todo vs s).run) more s.env.frames s.run.frame s.run.this s.callers x.1.1.run;
-      callers = x.1.1.callers;
-    }
-
-    parks : (l : List Todo) → s.run.control ≡ l → Parks J t source gs s l
-    parks l e = by l e (lives_parks t few s gs same claim source l e)
+    parks : (l : List Todo) → s.run.control ≡ l → SparesAt Z source l s → Parks J t source gs s l
+    parks l e spares = by l e spares (lives_parks t few s gs same claim source l e)
       where
-        behind : (p : Todo) (todo next : List Todo) → s.run.control ≡ p ∷ todo → ((ps : List Ty) (c i : ℕ) (w : Value) (K : Ty → Value → Type 0) → of_run t heads (at (p ∷ todo) s.run.operands s).run ps c i w K → of_run t heads (at next s.run.operands s).run ps c i w K) → BuildsEx t heads few s.env.exec gs (stopped (at next s.run.operands s))
-        behind p todo next e more = left_to next s.run.operands (λ ps c i w K h. more ps c i w K (subst (λ l. of_run t heads (at l s.run.operands s).run ps c i w K) e h))
+        -- with something else to do, as it stops
+        behind : (p : Todo) (todo next : List Todo) → s.run.control ≡ p ∷ todo → (Calling (IsAnew t heads s.env.frames s.run.frame) (p ∷ todo) → Calling (IsAnew t heads s.env.frames s.run.frame) next) → ((ps : List Ty) (c i : ℕ) (w : Value) (K : Ty → Value → Type 0) → of_run t heads (at (p ∷ todo) s.run.operands s).run ps c i w K → ⊥) → BuildsEx t heads few s.env.exec gs (stopped (at next s.run.operands s))
+        behind p todo next e calls none = record {
+          anew = (calls (subst (Calling (IsAnew t heads s.env.frames s.run.frame)) e x.1.1.anew.0), x.1.1.anew.1);
+          run = builds_more t heads few gs s.env.exec (of_run t heads s.run) of_wait (λ ps c i w K h. none ps c i w K (subst (λ l. of_run t heads (at l s.run.operands s).run ps c i w K) e h)) s.env.frames s.run.frame s.run.this s.callers x.1.1.run;
+          callers = x.1.1.callers;
+        }
 
-        by : (l : List Todo) → s.run.control ≡ l → Parks (Lives t few) t source gs s l → Parks J t source gs s l
-        by [] e h = tt
-        by (piece.TakeDownNow ∷ todo) e h = (h, behind piece.TakeDownNow todo todo e (λ ps c i w K y. (building.now t heads ps c i w K todo s.run.operands y.0, y.1)))
-        by (piece.ResumeNow ∷ todo) e h = (h, behind piece.ResumeNow todo (piece.Land ∷ todo) e (λ ps c i w K y. y))
-        by (piece.SuspendNow ∷ todo) e h = (h, behind piece.SuspendNow todo (piece.Land ∷ todo) e (λ ps c i w K y. y))
-        by (piece.SetUpNow r ∷ todo) e h = λ q is. (((h q is).0, fresh_built _ (t.routine r ∷ []) q s.run.this), built_stays s.env.exec s.run.this (Running (new_exec (home_at s.run.this s.env) s.env)))
-        by (piece.BindNow ∷ todo) e h = built_stays s.env.exec (top (piece.below s.run.operands)) (top s.run.operands)
-        by (piece.BindMadeNow c r ∷ todo) e h = λ q is. built_stays s.env.exec (top (drop q.params (piece.below s.run.operands))) (top s.run.operands)
-        by (p ∷ todo) e h = tt
+        by : (l : List Todo) → s.run.control ≡ l → SparesAt Z source l s → Parks (Lives t few) t source gs s l → Parks J t source gs s l
+        by [] e b h = tt
+        by (piece.TakeDownNow ∷ todo) e b h = (h, behind piece.TakeDownNow todo todo e (λ k. k) (λ ps c i w K y. y))
+        by (piece.ResumeNow ∷ todo) e b h = (h, behind piece.ResumeNow todo (piece.Land ∷ todo) e (λ k. k) (λ ps c i w K y. y))
+        by (piece.SuspendNow ∷ todo) e b h = (h, behind piece.SuspendNow todo (piece.Land ∷ todo) e (λ k. k) (λ ps c i w K y. y))
+        by (piece.SetUpNow r ∷ todo) e b h = λ q is. (((h q is).0, fresh_built _ (t.routine r ∷ []) q s.run.this), stays_spared Z s.env.exec (record s.run { control = todo } ∷ s.callers) s.run.this (Running (new_exec (home_at s.run.this s.env) s.env)) b)
+        by (piece.BindNow ∷ todo) e b h = stays_spared Z s.env.exec (record s.run { control = todo } ∷ s.callers) (top (piece.below s.run.operands)) (top s.run.operands) b
+        by (piece.BindMadeNow c r ∷ todo) e b h = λ q is. stays_spared Z s.env.exec (record s.run { control = todo } ∷ s.callers) (top (drop q.params (piece.below s.run.operands))) (top s.run.operands) (subst (λ o. Spares Z s.env.exec (record s.run { control = todo } ∷ s.callers) (top (drop (params_at o) (piece.below s.run.operands)))) is b)
+        by (p ∷ todo) e b h = tt
 
     -- the kinds that it then has tell the same
     turned : (u : State) (hs : List Sig) → Lives t few u.env.exec hs (stopped u) → Turned t source s gs u hs → AllMade gs hs (u.run ∷ u.callers)
@@ -192,30 +201,30 @@ module _ (t : Table) (heads : ℕ → ℕ → Bool) (few : Few) where
       more = turned u y.0.sigs lives y.1
 
       left_more : (given : List Ty) (K L : Value → Ty → Type 0) → ((w : Value) (a : Ty) → K w a → L w a) → (ps : List Ty) (c i : ℕ) (w : Value) → Left t heads given u.run ps c i w (Known t few u.env.exec K) → Left t heads given u.run ps c i w (Known t few u.env.exec L)
-      left_more [] K L m ps c i w z = (now_more t heads ps c i w (Known t few u.env.exec K) (Known t few u.env.exec L) (λ a v. known_more t few u.env.exec K L m a v) u.run.control u.run.operands z.0, z.1)
+      left_more [] K L m ps c i w z = now_more t heads ps c i w (Known t few u.env.exec K) (Known t few u.env.exec L) (λ a v. known_more t few u.env.exec K L m a v) u.run.control u.run.operands z
       left_more (b ∷ given) K L m ps c i w z = z
 
-      joined : BuildsBy t heads few gs (Left t heads given u.run) u → Stands t heads few gs u → S given u
-      joined b st = (y.0, (lives, by_kinds t heads few gs y.0.sigs (Left t heads given u.run) (Left t heads given u.run) u (left_more given) more b, stands_by t heads few gs y.0.sigs u more st))
+      joined : BuildsBy t heads few gs (Left t heads given u.run) u → Stands t heads few gs u → Starts t heads few gs u → S given u
+      joined b st way = (y.0, (lives, by_kinds t heads few gs y.0.sigs (Left t heads given u.run) (Left t heads given u.run) u (left_more given) more b, stands_by t heads few gs y.0.sigs u more st, way))
 
     asks : (r : Request) (u : State) → Walked u → BuildsAsk t heads few gs r u → AskedBy t few (FollowsOn J t few source s gs) (ClaimsEnv t few J) source r u → AskedBy t few S (ClaimsEnv t few J) source r u
     asks ask.End u h b y = y
     asks (ask.Fault n) u h b y = tt
-    asks r u h b y = asked_more t few source (FollowsOn J t few source s gs) S (ClaimsEnv t few J) (ClaimsEnv t few J) (λ e k. k) u (λ given z. joined given u z h (rest_left gs given u b.builds) b.stands) r y
+    asks r u h b y = asked_more t few source (FollowsOn J t few source s gs) S (ClaimsEnv t few J) (ClaimsEnv t few J) (λ e k. k) u (λ given z. joined given u z h (rest_left gs given u b.builds) b.stands b.starts) r y
 
     goes : (step : Step) → StepIs Walked step → BuildsStep t heads few gs step → StepBy t few (FollowsOn J t few source s gs) (ClaimsEnv t few J) source step → StepBy t few S (ClaimsEnv t few J) source step
-    goes (Goes u) h b y = joined [] u y h b.builds b.stands
-    goes (Ticks u) h b y = joined [] u y h (rest_left gs [] u b.builds) b.stands
+    goes (Goes u) h b y = joined [] u y h b.builds b.stands b.starts
+    goes (Ticks u) h b y = joined [] u y h (rest_left gs [] u b.builds) b.stands b.starts
     goes (Asks r u) h b y = (y.0, asks r u h b y.1)
 
     -- another execution goes on, by kinds of its own
-    stops : (GoesOn s.run.control s.run.raised → ⊥) → (step : Step) → OnlyFaults step → StepJoins s step → StepBy t few (Claimed J t few) (ClaimsEnv t few J) source step → StepBy t few S (ClaimsEnv t few J) source step
-    stops other (Goes u) only j y = (y.0, (y.1.0, record { apart = y.1.1.apart; run = y.1.1.run; callers = y.1.1.callers }, others_stand s other t heads few y.0.sigs u u.run.control j))
-    stops other (Ticks u) only j y = absurd only
-    stops other (Asks (ask.Fault n) u) only j y = (y.0, tt)
-    stops other (Asks r u) only j y = absurd only
+    stops : (GoesOn s.run.control s.run.raised → ⊥) → (step : Step) → OnlyFaults step → StepJoins s step → StepFollows p s step → StepBy t few (Claimed J t few) (ClaimsEnv t few J) source step → StepBy t few S (ClaimsEnv t few J) source step
+    stops other (Goes u) only j f y = (y.0, (y.1.0, rest_left y.0.sigs [] u (record { anew = y.1.1.anew; run = y.1.1.run; callers = y.1.1.callers }), others_stand s other t heads few y.0.sigs u u.run.control j, others_start p s other (IsAnew t heads u.env.frames u.run.frame) u.run.control f))
+    stops other (Ticks u) only j f y = absurd only
+    stops other (Asks (ask.Fault n) u) only j f y = (y.0, tt)
+    stops other (Asks r u) only j f y = absurd only
 
-    module _ (p : Program) (sound : Sound t source) (laid : IsLaidOut (Sized p) t) (st : StackState (Sized p) s) (l : Finds t few gs x.0.run.sig x.0.run.scope s s.run.control x.0.run.own) (o : OpensBy t few (OutwardsOrMade gs) s) (fair : Fair t heads few gs source s) where
+    module _ (sound : Sound t source) (laid : IsLaidOut (Sized p) t) (spanned : IsSpanned p t) (st : StackState (Sized p) s) (l : Finds t few gs x.0.run.sig x.0.run.scope s s.run.control x.0.run.own) (o : OpensBy t few (OutwardsOrMade gs) s) (fair : Fair t heads few gs source s p) where
       steps : StepBy t few S (ClaimsEnv t few J) source (quiet source s)
       steps = by (goes_or s.run.control s.run.raised)
         where
@@ -224,9 +233,9 @@ module _ (t : Table) (heads : ℕ → ℕ → Bool) (few : Few) where
 
           by : GoesOn s.run.control s.run.raised ⊎ (GoesOn s.run.control s.run.raised → ⊥) → StepBy t few S (ClaimsEnv t few J) source (quiet source s)
           by (inl calm) =
-              goes (quiet source s) (walk t few (OutwardsOrMade gs) (λ n x. Unit {0}) (nothing_kept t few) source s walked o (clearing.clears (Sized p) t laid s st) calm) (law_steps.steps t heads few gs source p laid s st (record { builds = x.1.1; stands = x.1.2 }) calm (clears (Sized p) t laid s st) fair) ((law_claims J built_kept).goes t few source sound s x.0 (lives_read t few s gs same claim) l (parks s.run.control refl) calm)
+              goes (quiet source s) (walk t few (OutwardsOrMade gs) (λ n x. Unit {0}) (nothing_kept t few) source s walked o (clearing.clears (Sized p) t laid s st) calm) (law_steps.steps t heads few gs source p laid spanned s st (record { builds = x.1.1; stands = x.1.2; starts = x.1.3 }) calm (clears (Sized p) t laid s st) fair) ((law_claims J built_kept).goes t few source sound s x.0 (lives_read t few s gs same claim) l (parks s.run.control refl fair.spares) calm)
           by (inr other) =
-              stops other (quiet source s) (stops_only source s s.run.control other) fair.joins ((law_claims J built_kept).stops t few source sound s x.0 (lives_read t few s gs same claim) l (parks s.run.control refl) other)
+              stops other (quiet source s) (stops_only source s s.run.control other) fair.joins fair.follows ((law_claims J built_kept).stops t few source sound s x.0 (lives_read t few s gs same claim) l (parks s.run.control refl fair.spares) other)
 
   opens : (s : State) (x : S [] s) (c : CleanUp) (rest : Stmts) (todo : List Todo) → s.run.control ≡ piece.Rest (src.Scoped c rest) ∷ todo → (k i : ℕ) → CleansAt t (Obj i) (src.Variable k) c → (m : ℕ) → IsField t i m → heads i m ≡ true → Holds t few s.env.exec (OutwardsOrMade x.0.sigs (Outwards t few s.env.exec s.run.frame s.run.this s.callers c todo) s.env.exec s.run.frame s.run.this s.callers) (Frame s.env.exec s.run.frame) (frame_at s.run.frame s.env.frames) (further (FieldAt (t.shape i) m) (variable s.env.exec s.run.frame k)) (t.fields i m)
   opens s x c rest todo e k i d m f told =
@@ -234,6 +243,6 @@ module _ (t : Table) (heads : ℕ → ℕ → Bool) (few : Few) where
 
 pub law_kept : LawKept
 law_kept = record {
-  steps = λ t heads few source p sound laid s st x l o fair. steps t heads few source (Sized p) s x p sound laid st l o fair;
+  steps = λ t heads few source p sound laid spanned s st x l o fair. steps t heads few source p s x sound laid spanned st l o fair;
   opens = λ t heads few s x c rest todo e k i d m f told. opens t heads few s x c rest todo e k i d m f told;
 }

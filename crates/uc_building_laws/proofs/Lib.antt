@@ -1,19 +1,21 @@
 pub mod Memory
+pub mod Anew
 pub mod Building
 pub mod Keeping
-pub mod Searching
 pub mod Settled
 pub mod Steps
 pub mod Making
 pub mod Clears
 pub mod Plain
 pub mod Standing
+pub mod Starting
 pub mod Laid
 pub mod Walk
 pub mod Heads
 pub mod Given
 pub mod Turning
 pub mod Kept
+pub mod Spanning
 pub mod Constructors
 pub mod Worlds
 pub mod BuiltRuns
@@ -21,3 +23,4 @@ pub mod BuiltEndings
 pub mod Fewer
 pub mod BuiltLasting
 pub mod BuiltReads
+pub mod ScopedReads

@@ -1,5 +1,5 @@
 -- What a frame is changed to: what is bound stays so, and cells that start anew are told.
-use Rattle.std.proofs.Common.{◌≡◌, ℕ, zero, suc, ◌<◌, ◌⊎◌, inl, inr, Bool, true, false, List, [], ◌∷◌, ◌++◌, length, take, Some, refl, sym, ap, ◌∙◌, subst, arith}
+use Rattle.std.proofs.Common.{◌≡◌, ℕ, zero, suc, ◌+◌, ◌≤◌, ◌<◌, ℤ, ◌⊎◌, inl, inr, Bool, true, false, List, [], ◌∷◌, ◌++◌, length, take, Some, refl, sym, ap, ◌∙◌, subst, arith}
 use Rattle.std.specs.Prelude.{nat_eq, if◌then◌else◌, slice_index_or}
 use Rattle.std.proofs.lemmas.Bool.{eqb-true}
 use Rattle.uc_machine.specs.declared.exec.Exec.{Exec}
@@ -10,7 +10,7 @@ use Rattle.uc_typing.specs.Typing.{Ty, Num, Cell, Obj, Raw, Row, Clu, Pro, Table
 use Rattle.uc_typing.specs.States.{whole, IsAt, IsNumbered, IsObjectBy}
 use Rattle.uc_life_laws.specs.Things.{Few, Known, Holds, LiesBefore}
 use Rattle.uc_life_laws.specs.LifeStates.{frame_at}
-use Rattle.uc_building_laws.specs.BuildingStates.{IsFree}
+use Rattle.uc_building_laws.specs.Anew.{IsFree}
 use Rattle.uc_life_laws.proofs.Cells.{tested, set_length}
 
 abbrev pub Kept : Value → Value → Type 0
@@ -70,7 +70,7 @@ set_at P (x ∷ xs) d f y h k = by (set_at P xs d f y h) (nat_eq d (length xs)) 
         subst (λ (c : Bool). P (list_in (if c then Some x else at_depth (set_depth xs d y) f))) (sym l) (more k)
 
 -- what is there is changed
-set_there : (P : List Value → Type 0) (fs : List (List Value)) (d k : ℕ) (y : List Value) → k < length (frame_at d fs) → P y → P (frame_at d (set_depth fs d y))
+pub set_there : (P : List Value → Type 0) (fs : List (List Value)) (d k : ℕ) (y : List Value) → k < length (frame_at d fs) → P y → P (frame_at d (set_depth fs d y))
 set_there P [] d k y l h = let f : ⊥ = omega (arith, l) in absurd f
 set_there P (x ∷ xs) d k y l h = by (nat_eq d (length xs)) refl l (λ m. set_there P xs d k y m h)
   where
@@ -113,6 +113,105 @@ pub frame_older : (fs : List (List Value)) (f : ℕ) → f < length (others fs) 
 frame_older [] f l = same_frame [] f
 frame_older (x ∷ xs) f l =
     tested (λ o. CellsKeep (list_in o) (frame_at f xs)) (nat_eq f (length xs)) (Some x) (at_depth xs f) (λ e. let q : f ≡ length xs = eqb-true f (length xs) e in let n : ⊥ = omega (arith, q, l) in absurd n) (λ e. same_frame xs f)
+
+-- what is free stays free
+
+abbrev pub Loosens : List Value → List Value → Type 0
+Loosens vs us = (k : ℕ) → IsFree (slice_index_or vs k nought) → IsFree (slice_index_or us k nought)
+
+-- the frame of a depth keeps free what is
+abbrev pub FrameLoosens : List (List Value) → List (List Value) → ℕ → Type 0
+FrameLoosens fs gs d = Loosens (frame_at d fs) (frame_at d gs)
+
+pub same_loose : (fs : List (List Value)) (d : ℕ) → FrameLoosens fs fs d
+same_loose fs d k h = h
+
+number_stored : (z : ℤ) (x : Value) → IsFree x → IsFree (stored (Number z) x)
+number_stored z (Number n) h = tt
+number_stored z (Place o p) h = h
+number_stored z (Running e) h = h
+number_stored z (Object o) h = h
+number_stored z Nothing h = tt
+
+cells_number : (z : ℤ) (vs : List Value) (j : ℕ) → Loosens vs (value_changed j (stored (Number z)) nought vs)
+cells_number z [] j k h = h
+cells_number z (x ∷ vs) zero zero h = number_stored z x h
+cells_number z (x ∷ vs) zero (suc k) h = h
+cells_number z (x ∷ vs) (suc j) zero h = h
+cells_number z (x ∷ vs) (suc j) (suc k) h = cells_number z vs j k h
+
+pub frame_number : (fs : List (List Value)) (d k f : ℕ) (z : ℤ) → FrameLoosens fs (frame_changed d (value_changed k (stored (Number z)) nought) fs) f
+frame_number fs d k f z =
+    set_at (Loosens (frame_at f fs)) fs d f (value_changed k (stored (Number z)) nought (frame_at d fs)) (λ e. subst (λ d. Loosens (frame_at f fs) (value_changed k (stored (Number z)) nought (frame_at d fs))) e (cells_number z (frame_at f fs) k)) (same_loose fs f)
+
+-- but where something is bound in another cell
+cell_beside : (v : Value) (vs : List Value) (j k : ℕ) → (k ≡ j → ⊥) → IsFree (slice_index_or vs k nought) → IsFree (slice_index_or (value_changed j (stored v) nought vs) k nought)
+cell_beside v [] j k other h = h
+cell_beside v (x ∷ vs) zero zero other h = absurd (other refl)
+cell_beside v (x ∷ vs) zero (suc k) other h = h
+cell_beside v (x ∷ vs) (suc j) zero other h = h
+cell_beside v (x ∷ vs) (suc j) (suc k) other h = cell_beside v vs j k (λ e. other (ap suc e)) h
+
+pub frame_beside : (fs : List (List Value)) (d j f k : ℕ) (v : Value) → (f ≡ d → k ≡ j → ⊥) → IsFree (slice_index_or (frame_at f fs) k nought) → IsFree (slice_index_or (frame_at f (frame_changed d (value_changed j (stored v) nought) fs)) k nought)
+frame_beside fs d j f k v other h =
+    set_at (λ vs. IsFree (slice_index_or vs k nought)) fs d f (value_changed j (stored v) nought (frame_at d fs)) (λ e. subst (λ d. IsFree (slice_index_or (value_changed j (stored v) nought (frame_at d fs)) k nought)) e (cell_beside v (frame_at f fs) j k (other e) h)) h
+
+-- no cell is bound behind a frame
+pub cell_past : (vs : List Value) (k : ℕ) → length vs ≤ k → IsFree (slice_index_or vs k nought)
+cell_past [] k l = tt
+cell_past (x ∷ vs) zero l = let n : ⊥ = omega (arith, l) in absurd n
+cell_past (x ∷ vs) (suc k) l = cell_past vs k (omega (arith, l))
+
+stored_length : (v : Value) (vs : List Value) (j : ℕ) → length (value_changed j (stored v) nought vs) ≡ length vs
+stored_length v [] j = refl
+stored_length v (x ∷ vs) zero = refl
+stored_length v (x ∷ vs) (suc j) = ap suc (stored_length v vs j)
+
+pub past_stored : (fs : List (List Value)) (d j f k : ℕ) (v : Value) → length (frame_at f fs) ≤ k → IsFree (slice_index_or (frame_at f (frame_changed d (value_changed j (stored v) nought) fs)) k nought)
+past_stored fs d j f k v l =
+    set_at (λ vs. IsFree (slice_index_or vs k nought)) fs d f (value_changed j (stored v) nought (frame_at d fs)) (λ e. subst (λ d. IsFree (slice_index_or (value_changed j (stored v) nought (frame_at d fs)) k nought)) e (cell_past (value_changed j (stored v) nought (frame_at f fs)) k (let n = stored_length v (frame_at f fs) j in omega (arith, n, l)))) (cell_past (frame_at f fs) k l)
+
+pub loose_newer : (x : List Value) (xs : List (List Value)) (f : ℕ) → f < length xs → FrameLoosens xs (x ∷ xs) f
+loose_newer x xs f l =
+    tested (λ o. Loosens (frame_at f xs) (list_in o)) (nat_eq f (length xs)) (Some x) (at_depth xs f) (λ e. let q : f ≡ length xs = eqb-true f (length xs) e in let n : ⊥ = omega (arith, q, l) in absurd n) (λ e. same_loose xs f)
+
+pub loose_older : (fs : List (List Value)) (f : ℕ) → f < length (others fs) → FrameLoosens fs (others fs) f
+loose_older [] f l = same_loose [] f
+loose_older (x ∷ xs) f l =
+    tested (λ o. Loosens (list_in o) (frame_at f xs)) (nat_eq f (length xs)) (Some x) (at_depth xs f) (λ e. let q : f ≡ length xs = eqb-true f (length xs) e in let n : ⊥ = omega (arith, q, l) in absurd n) (λ e. same_loose xs f)
+
+-- cells that start anew are free
+
+cells_naught : (vs : List Value) (n j : ℕ) → IsFree (slice_index_or vs j nought) → IsFree (slice_index_or (values_cleared 0 n nought vs) j nought)
+cells_naught [] zero j h = tt
+cells_naught [] (suc n) j h = tt
+cells_naught (x ∷ vs) zero j h = h
+cells_naught (x ∷ vs) (suc n) zero h = tt
+cells_naught (x ∷ vs) (suc n) (suc j) h = cells_naught vs n j h
+
+cells_loose : (vs : List Value) (k n : ℕ) → Loosens vs (values_cleared k n nought vs)
+cells_loose vs zero n j h = cells_naught vs n j h
+cells_loose [] (suc k) zero j h = tt
+cells_loose [] (suc k) (suc n) j h = tt
+cells_loose (x ∷ vs) (suc k) n zero h = h
+cells_loose (x ∷ vs) (suc k) n (suc j) h = cells_loose vs k n j h
+
+pub frame_loose : (fs : List (List Value)) (d k n f : ℕ) → FrameLoosens fs (frame_changed d (values_cleared k n nought) fs) f
+frame_loose fs d k n f =
+    set_at (Loosens (frame_at f fs)) fs d f (values_cleared k n nought (frame_at d fs)) (λ e. subst (λ d. Loosens (frame_at f fs) (values_cleared k n nought (frame_at d fs))) e (cells_loose (frame_at f fs) k n)) (same_loose fs f)
+
+first_anew : (vs : List Value) (n j : ℕ) → j < n → IsFree (slice_index_or (values_cleared 0 n nought vs) j nought)
+first_anew vs zero j l = let n : ⊥ = omega (arith, l) in absurd n
+first_anew [] (suc n) j l = tt
+first_anew (x ∷ vs) (suc n) zero l = tt
+first_anew (x ∷ vs) (suc n) (suc j) l = first_anew vs n j (omega (arith, l))
+
+pub cells_anew : (vs : List Value) (k n j : ℕ) → k ≤ j → j < k + n → IsFree (slice_index_or (values_cleared k n nought vs) j nought)
+cells_anew vs zero n j l m = first_anew vs n j (omega (arith, m))
+cells_anew [] (suc k) zero j l m = tt
+cells_anew [] (suc k) (suc n) j l m = tt
+cells_anew (x ∷ vs) (suc k) n zero l m = let n : ⊥ = omega (arith, l) in absurd n
+cells_anew (x ∷ vs) (suc k) n (suc j) l m = cells_anew vs k n j (omega (arith, l)) (omega (arith, m))
 
 -- what is bound is no number
 

@@ -5,8 +5,6 @@ use Rattle.uc_tree.specs.Source.{Source, Stmts, Way, CleanUp}
 use Rattle.uc_entry.specs.declared.request.Request.{Request}
 use Rattle.uc_entry.specs.declared.request.Request.TheVariants as ask
 use Rattle.uc_machine.specs.declared.exec.UnwindReason.{UnwindReason}
-use Rattle.uc_machine.specs.declared.exec.UnwindReason.TheVariants as reason
-use Rattle.std.proofs.lemmas.Bool.{eqb-true}
 use Rattle.uc_machine.specs.declared.exec.Visited.{Visited}
 use Rattle.uc_machine.specs.Insides as inside
 use Rattle.uc_machine.specs.Raising as raising
@@ -22,18 +20,11 @@ use Rattle.uc_life_laws.specs.Kinds.{GoesOn}
 use Rattle.uc_state_laws.specs.RoomStacks.{Stack, StackState}
 use Rattle.uc_life_laws.proofs.Cells.{either, others_length}
 use Rattle.uc_building_laws.specs.Building.{Now}
-use Rattle.uc_building_laws.specs.BuildingStates.{variable, AtScope, Awaits, Nears, NotBack, IsBuilt, IsMaking, Builds, of_run, Stands, StandsBehind, BuildsState}
+use Rattle.uc_building_laws.specs.BuildingStates.{variable, AtScope, Awaits, Nears, IsLoose, IsBuilt, IsMaking, Builds, of_run, Stands, StandsBehind, BuildsState}
 use Rattle.uc_place_laws.specs.CalledStates.{Ends, Joins, AskJoins, StepJoins}
 use Rattle.uc_building_laws.proofs.Memory.{frame_older}
 use Rattle.uc_building_laws.proofs.Plain.{none_plain}
 use Rattle.uc_building_laws.proofs.Building.{built_kept}
-
--- a return is over
-arrives_is : (o : Option UnwindReason) (n : ℕ) → raising.arrives o n ≡ true → o ≡ Some (reason.ReturnTo n)
-arrives_is None n e = absurd (cc)
-arrives_is (Some (reason.Event k x y)) n e = absurd (cc)
-arrives_is (Some (reason.ReturnTo home)) n e = ap (λ m. Some (reason.ReturnTo m)) (eqb-true home n e)
-arrives_is (Some reason.Destroyed) n e = absurd (cc)
 
 -- so a list tells
 abbrev pub StandsOf : (t : Table) (heads : ℕ → ℕ → Bool) (few : Few) (kinds : List Sig) → State → List Todo → Type 0
@@ -135,14 +126,14 @@ module _ (t : Table) (heads : ℕ → ℕ → Bool) (few : Few) (kinds : List Si
     dropped_stands e = subst (StandsOf t heads few kinds s) e st.stands
 
     -- a constructor has come to its end, and nothing is left to be bound
-    module _ (nothing : suc s.run.frame ≡ length s.env.frames → (ps : List Ty) (d i : ℕ) (w : Value) (K : Ty → Value → Type 0) → of_run t heads s.run ps d i w K → ⊥) (b : Active) (cs : List Active) (l : length s.env.frames ≡ suc (length (b ∷ cs))) (h : Stack Z s.env.frames (b ∷ cs)) (control : b.control ≡ drop) (x : Builds t heads few kinds s.env.exec (of_run t heads s.run) s.env.frames s.run.frame s.run.this (b ∷ cs)) where
+    module _ (nothing : (ps : List Ty) (d i : ℕ) (w : Value) (K : Ty → Value → Type 0) → of_run t heads s.run ps d i w K → ⊥) (b : Active) (cs : List Active) (l : length s.env.frames ≡ suc (length (b ∷ cs))) (h : Stack Z s.env.frames (b ∷ cs)) (control : b.control ≡ drop) (x : Builds t heads few kinds s.env.exec (of_run t heads s.run) s.env.frames s.run.frame s.run.this (b ∷ cs)) where
       made : (g : ℕ) (w : Value) (d : ℕ) (K : Value → Ty → Type 0) → IsBuilt t heads few kinds s.env.exec s.env.frames g w d K ⊎ IsMaking t heads few kinds s.env.exec (of_run t heads s.run) s.env.frames s.run.frame (suc (length cs)) s.run.this g w d K → IsBuilt t heads few kinds s.env.exec s.env.frames g w d K
       made g w d K (inl y) = y
       made g w d K (inr m) = λ i f told. by i (m.fields i f told)
         where
-          by : (i : ℕ) → Holds t few s.env.exec K (Frame s.env.exec g) (frame_at g s.env.frames) (further (FieldAt (t.shape d) i) w) (t.fields d i) ⊎ of_run t heads s.run m.params d i w (Known t few s.env.exec K) → Holds t few s.env.exec K (Frame s.env.exec g) (frame_at g s.env.frames) (further (FieldAt (t.shape d) i) w) (t.fields d i)
+          by : (i : ℕ) → Holds t few s.env.exec K (Frame s.env.exec g) (frame_at g s.env.frames) (further (FieldAt (t.shape d) i) w) (t.fields d i) ⊎ (of_run t heads s.run m.params d i w (Known t few s.env.exec K) × IsLoose s.env.frames g (further (FieldAt (t.shape d) i) w)) → Holds t few s.env.exec K (Frame s.env.exec g) (frame_at g s.env.frames) (further (FieldAt (t.shape d) i) w) (t.fields d i)
           by i (inl y) = y
-          by i (inr y) = let q = m.frame in absurd (nothing (omega (arith, q, l)) m.params d i w (Known t few s.env.exec K) y)
+          by i (inr y) = absurd (nothing m.params d i w (Known t few s.env.exec K) y.0)
 
       handed : (k i : ℕ) → CleansAt t (Obj i) (src.Variable k) c → IsBuilt t heads few kinds s.env.exec (others s.env.frames) b.frame (variable s.env.exec b.frame k) i (AtScope t few kinds s.env.exec b.frame b.this cs c todo)
       handed k i d =
@@ -151,7 +142,7 @@ module _ (t : Table) (heads : ℕ → ℕ → Bool) (few : Few) (kinds : List Si
           let le = h.0.frame in
           built_kept t heads few kinds s.env.exec s.env.frames (others s.env.frames) b.frame (variable s.env.exec b.frame k) i (AtScope t few kinds s.env.exec b.frame b.this cs c todo) (frame_older s.env.frames b.frame (omega (arith, n, le))) (made b.frame (variable s.env.exec b.frame k) i (AtScope t few kinds s.env.exec b.frame b.this cs c todo) (y k i d))
 
-    returned_goes : (suc s.run.frame ≡ length s.env.frames → (ps : List Ty) (d i : ℕ) (w : Value) (K : Ty → Value → Type 0) → of_run t heads s.run ps d i w K → ⊥) → (given : Value) (u : State) → u.run.control ≡ drop → piece.return_step given s.callers s ≡ Goes u → Claim u c todo
+    returned_goes : ((ps : List Ty) (d i : ℕ) (w : Value) (K : Ty → Value → Type 0) → of_run t heads s.run ps d i w K → ⊥) → (given : Value) (u : State) → u.run.control ≡ drop → piece.return_step given s.callers s ≡ Goes u → Claim u c todo
     returned_goes nothing given u control q = by s.callers life.frames life.stack.1 st.builds.run q
       where
         by : (cs : List Active) → length s.env.frames ≡ suc (length cs) → Stack Z s.env.frames cs → Builds t heads few kinds s.env.exec (of_run t heads s.run) s.env.frames s.run.frame s.run.this cs → piece.return_step given cs s ≡ Goes u → Claim u c todo
@@ -161,21 +152,14 @@ module _ (t : Table) (heads : ℕ → ℕ → Bool) (few : Few) (kinds : List Si
             let stands : b.control ≡ drop = ap (λ (u : State). u.run.control) same ∙ control in
             subst (λ u. Claim u c todo) same (handed nothing b cs l h stands x)
 
-    -- where a return is over, nothing is left either
-    returned_back : raising.arrives s.run.raised (length s.callers) ≡ true → suc s.run.frame ≡ length s.env.frames → NotBack s.run → ⊥
-    returned_back a q none =
-        let m = life.frames in
-        let own : length s.callers ≡ s.run.frame = omega (arith, m, q) in
-        none (arrives_is s.run.raised (length s.callers) a ∙ ap (λ n. Some (reason.ReturnTo n)) own)
-
     ended_goes : (u : State) → u.run.control ≡ drop → (l : List Todo) → s.run.control ≡ l → Ends s l → EndsTo s s.callers (Goes u) → Claim u c todo
     ended_goes u control l e en (inr q) =
         let z : piece.Unwind ∷ q.0 ≡ drop = sym q.1 ∙ control in
         absurd (cc)
-    ended_goes u control [] e en (inl q) = returned_goes (λ f ps d i w K y. subst (λ l. Now t heads ps d i w K l s.run.operands) e y.0) q.0 u control q.1
-    ended_goes u control (piece.Exit w ∷ []) e en (inl q) = returned_goes (λ f ps d i v K y. subst (λ l. Now t heads ps d i v K l s.run.operands) e y.0) q.0 u control q.1
-    ended_goes u control (piece.Finish ∷ rest) e en (inl q) = returned_goes (λ f ps d i w K y. subst (λ l. Now t heads ps d i w K l s.run.operands) e y.0) q.0 u control q.1
-    ended_goes u control (piece.Unwind ∷ []) e en (inl q) = returned_goes (λ f ps d i w K y. returned_back en f y.1) q.0 u control q.1
+    ended_goes u control [] e en (inl q) = returned_goes (λ ps d i w K y. subst (λ l. Now t heads ps d i w K l s.run.operands) e y) q.0 u control q.1
+    ended_goes u control (piece.Exit w ∷ []) e en (inl q) = returned_goes (λ ps d i v K y. subst (λ l. Now t heads ps d i v K l s.run.operands) e y) q.0 u control q.1
+    ended_goes u control (piece.Finish ∷ past) e en (inl q) = returned_goes (λ ps d i w K y. subst (λ l. Now t heads ps d i w K l s.run.operands) e y) q.0 u control q.1
+    ended_goes u control (piece.Unwind ∷ []) e en (inl q) = returned_goes (λ ps d i w K y. subst (λ l. Now t heads ps d i w K l s.run.operands) e y) q.0 u control q.1
     ended_goes u control l e en (inl q) = absurd en
 
   -- who runs has come to an end

@@ -1,7 +1,6 @@
 -- What constructors have bound stays so in a step.
-use Rattle.std.proofs.Common.{◌≡◌, ℕ, zero, suc, ◌≤◌, ◌++◌, ◌⊎◌, inl, inr, Bool, true, false, List, [], ◌∷◌, length, drop, Option, Some, None, refl, arith, ap, ◌∙◌, subst, sym}
-use Rattle.std.specs.Prelude.{nat_eq, nat_lt}
-use Rattle.std.proofs.lemmas.Bool.{eq-eqb, eqb-true}
+use Rattle.std.proofs.Common.{◌≡◌, ℕ, zero, suc, ◌≤◌, ◌++◌, ◌⊎◌, inl, inr, Bool, true, false, List, [], ◌∷◌, length, drop, Option, Some, None, refl, arith, subst, sym}
+use Rattle.std.specs.Prelude.{nat_eq, nat_lt, if◌then◌else◌}
 use Rattle.uc_tree.specs.declared.limits.TheConstants.{PENDING_EVENTS}
 use Rattle.uc_tree.specs.Source as src
 use Rattle.uc_tree.specs.Source.{Shape, Expr, ObjectExpr, Stmt, EventStmt, TaskStmt, Routine, Order, Way, CleanUp, Handlers, Clauses, Raised, Item}
@@ -25,20 +24,23 @@ use Rattle.uc_machine.specs.Pieces.{Value, Number, Object, Nothing, Todo, Sort, 
 use Rattle.uc_typing.specs.Typing.{Ty, Sig, Table}
 use Rattle.uc_state_laws.specs.RoomStacks.{Stack, StackState}
 use Rattle.uc_life_laws.proofs.Cells.{either, others_length}
-use Rattle.uc_building_laws.specs.Building.{IsLeft, IsHead, BindsField, BindsBy, AllLeft, Stays, Behind, Now}
-use Rattle.uc_building_laws.specs.BuildingStates.{NotBack, Builds, of_run, of_wait, AllBuild, IsApart, HomedBy, AllApart, BuildsBy}
+use Rattle.uc_building_laws.specs.Building.{IsHead, BindsField, BindsBy, Stays, Behind, Now}
+use Rattle.uc_building_laws.specs.Anew.{IsAnew, AllAnew}
+use Rattle.uc_building_laws.specs.BuildingStates.{Builds, of_run, of_wait, AllBuild, BuildsBy}
 use Rattle.uc_building_laws.proofs.Memory.{frame_newer, frame_older}
-use Rattle.uc_building_laws.proofs.Building as building
-use Rattle.uc_building_laws.proofs.Building.{AllKeep, all_keep, builds_kept, all_kept, builds_more, not_making}
+use Rattle.uc_building_laws.proofs.Building.{AllKeep, all_keep, builds_kept, all_kept, builds_more}
+use Rattle.uc_building_laws.proofs.Anew.{all_loosen, all_anew, older_loosen, tail_calling, any_awaited, rest_awaited}
 use Rattle.uc_building_laws.proofs.Keeping as kept
-use Rattle.uc_building_laws.proofs.Keeping.{Keeps, some_is}
+use Rattle.uc_building_laws.proofs.Keeping.{Keeps}
 use Rattle.uc_life_laws.specs.Things.{Few}
 use Rattle.uc_life_laws.specs.Kinds.{Returns, GoesPast, GoesOn}
+use Rattle.uc_place_laws.specs.OpeningLaws.{Awaited, NoneAwaited, AwaitedRest}
+use Rattle.uc_place_laws.specs.Calling.{Calling}
 
 abbrev pub StepBuilds : (t : Table) (heads : ℕ → ℕ → Bool) (few : Few) (kinds : List Sig) → Step → Type 0
 StepBuilds t heads few kinds (Goes s) = BuildsBy t heads few kinds (of_run t heads s.run) s
-StepBuilds t heads few kinds (Ticks s) = BuildsBy t heads few kinds (of_wait t heads s.run) s
-StepBuilds t heads few kinds (Asks r s) = BuildsBy t heads few kinds (of_wait t heads s.run) s
+StepBuilds t heads few kinds (Ticks s) = BuildsBy t heads few kinds of_wait s
+StepBuilds t heads few kinds (Asks r s) = BuildsBy t heads few kinds of_wait s
 
 -- frames of those that wait
 
@@ -57,9 +59,11 @@ module _ (t : Table) (heads : ℕ → ℕ → Bool) (few : Few) (kinds : List Si
 
 -- of no field
 
--- an expression that neither binds a field nor finds what one is bound to
+-- an expression that is neither done before fields are bound nor binds them
 abbrev pub IsOther : Expr → Type 0
+IsOther (src.Literal n) = ⊥
 IsOther (src.Get k) = ⊥
+IsOther (src.Assign p a) = ⊥
 IsOther (src.OfObject (src.OwnField k i)) = ⊥
 IsOther (src.OfObject (src.GetOwn k i)) = ⊥
 IsOther (src.OfObject (src.FieldOf k i a)) = ⊥
@@ -67,77 +71,106 @@ IsOther (src.OfObject (src.Bind a b)) = ⊥
 IsOther a = Unit {0}
 
 module _ (t : Table) (heads : ℕ → ℕ → Bool) (ps : List Ty) (c i : ℕ) (w : Value) (K : Ty → Value → Type 0) where
-  other : (a : Expr) (todo : List Todo) (vs : List Value) → IsOther a → Now t heads ps c i w K (piece.Eval a ∷ todo) vs → Behind t heads ps c i todo
-  other (src.Get k) todo vs o h = absurd o
-  other (src.OfObject (src.OwnField k j)) todo vs o h = absurd o
-  other (src.OfObject (src.GetOwn k j)) todo vs o h = absurd o
-  other (src.OfObject (src.FieldOf k j a)) todo vs o h = absurd o
-  other (src.OfObject (src.Bind a b)) todo vs o h = absurd o
-  other (src.OfObject x) todo vs o (inl (inl h)) = absurd h.0
-  other (src.OfObject x) todo vs o (inl (inr (inl h))) = absurd h
-  other (src.OfObject x) todo vs o (inl (inr (inr h))) = absurd h.1
-  other (src.OfObject x) todo vs o (inr h) = h
-  other a todo vs o (inl (inl h)) = absurd h.0
-  other a todo vs o (inl (inr (inl h))) = absurd h
-  other a todo vs o (inl (inr (inr h))) = absurd h.1
-  other a todo vs o (inr h) = h
+  other_object : (x : ObjectExpr) (todo : List Todo) (vs : List Value) → IsOther (src.OfObject x) → Now t heads ps c i w K (piece.Eval (src.OfObject x) ∷ todo) vs → ⊥
+  other_object (src.OwnField k j) todo vs o h = o
+  other_object (src.GetOwn k j) todo vs o h = o
+  other_object (src.FieldOf k j a) todo vs o h = o
+  other_object (src.Bind a b) todo vs o h = o
+  other_object x todo vs o (inl (inl h)) = h
+  other_object x todo vs o (inl (inr (inl h))) = h
+  other_object x todo vs o (inl (inr (inr h))) = h.1
+  other_object x todo vs o (inr (inl h)) = h.0
+  other_object x todo vs o (inr (inr (inl h))) = h
+  other_object x todo vs o (inr (inr (inr h))) = let e = h.0 in absurd (cc)
 
-  -- the parts of what binds
+  other : (a : Expr) (todo : List Todo) (vs : List Value) → IsOther a → Now t heads ps c i w K (piece.Eval a ∷ todo) vs → ⊥
+  other (src.Literal n) todo vs o h = o
+  other (src.Get k) todo vs o h = o
+  other (src.Assign p a) todo vs o h = o
+  other (src.OfObject x) todo vs o h = other_object x todo vs o h
+  other a todo vs o (inl (inl h)) = h
+  other a todo vs o (inl (inr (inl h))) = h
+  other a todo vs o (inl (inr (inr h))) = h.1
+  other a todo vs o (inr (inl h)) = h.0
+  other a todo vs o (inr (inr (inl h))) = h
+  other a todo vs o (inr (inr (inr h))) = let e = h.0 in absurd (cc)
+
+  -- the parts of what binds, and of what writes a number
   pub binds : (a b : Expr) (todo : List Todo) (vs : List Value) → Now t heads ps c i w K (piece.Eval (src.OfObject (src.Bind a b)) ∷ todo) vs → Now t heads ps c i w K (piece.Eval a ∷ (piece.Eval b ∷ (piece.BindNow ∷ todo))) vs
-  binds (src.OfObject (src.OwnField k j)) b todo vs (inl (inl h)) = inl (inr (inl (h.0.0, h.0.1, h.0.2, h.1)))
-  binds (src.OfObject x) b todo vs (inl (inl h)) = absurd h.0
-  binds a b todo vs (inl (inl h)) = absurd h.0
+  binds (src.OfObject (src.OwnField k j)) b todo vs (inl (inl h)) = inl (inr (inl h))
+  binds (src.OfObject x) b todo vs (inl (inl h)) = absurd h
+  binds a b todo vs (inl (inl h)) = absurd h
   binds a b todo vs (inl (inr (inl h))) = absurd h
   binds a b todo vs (inl (inr (inr h))) = absurd h.1
-  binds a b todo vs (inr h) = inr h
+  binds (src.OfObject (src.OwnField k j)) b todo vs (inr (inl h)) = inr (inr (inl h))
+  binds (src.OfObject x) b todo vs (inr (inl h)) = absurd h.0
+  binds a b todo vs (inr (inl h)) = absurd h.0
+  binds a b todo vs (inr (inr (inl h))) = absurd h
+  binds a b todo vs (inr (inr (inr h))) = let e = h.0 in absurd (cc)
 
-module _ (t : Table) (heads : ℕ → ℕ → Bool) (few : Few) (kinds : List Sig) (Z : ℕ → ℕ → Type 0) (s : State) (life : StackState Z s) (callers : AllBuild t heads few kinds s.env.exec s.env.frames s.callers) (apart : AllApart (s.run ∷ s.callers)) where
+  pub assigns : (a b : Expr) (todo : List Todo) (vs : List Value) → Now t heads ps c i w K (piece.Eval (src.Assign a b) ∷ todo) vs → Now t heads ps c i w K (piece.Eval a ∷ (piece.Eval b ∷ (piece.KeepNow ∷ todo))) vs
+  assigns a b todo vs (inl (inl h)) = absurd h
+  assigns a b todo vs (inl (inr (inl h))) = absurd h
+  assigns a b todo vs (inl (inr (inr h))) = absurd h.1
+  assigns (src.OfObject (src.OwnField k j)) b todo vs (inr (inl h)) = inr (inr (inl h))
+  assigns (src.OfObject x) b todo vs (inr (inl h)) = absurd h.0
+  assigns a b todo vs (inr (inl h)) = absurd h.0
+  assigns a b todo vs (inr (inr (inl h))) = absurd h
+  assigns a b todo vs (inr (inr (inr h))) = let e = h.0 in absurd (cc)
+
+module _ (t : Table) (heads : ℕ → ℕ → Bool) (few : Few) (kinds : List Sig) (Z : ℕ → ℕ → Type 0) (s : State) (life : StackState Z s) (callers : AllBuild t heads few kinds s.env.exec s.env.frames s.callers) (anew : AllAnew t heads s.env.frames s.callers) where
   abbrev pub With : (List Ty → ℕ → ℕ → Value → (Ty → Value → Type 0) → Type 0) → Type 0
-  With L = Builds t heads few kinds s.env.exec (λ ps c i w K. L ps c i w K × NotBack s.run) s.env.frames s.run.frame s.run.this s.callers
+  With L = Builds t heads few kinds s.env.exec L s.env.frames s.run.frame s.run.this s.callers
 
-  abbrev pub Holding : List Todo → Type 0
-  Holding todo = With (λ ps c i w K. Behind t heads ps c i todo)
+  -- of objects whose constructors this list has still to call nothing is bound
+  abbrev pub Anew : ℕ → ℕ → Type 0
+  Anew d k = IsAnew t heads s.env.frames s.run.frame d k
 
   abbrev pub Nothing_left : Type 0
-  Nothing_left = With (λ ps c i w K. ⊥)
+  Nothing_left = With of_wait
+
+  -- with that to do, and nothing left to be bound
+  abbrev pub Holding : List Todo → Type 0
+  Holding todo = Calling Anew todo × Nothing_left
 
   pub more : (L M : List Ty → ℕ → ℕ → Value → (Ty → Value → Type 0) → Type 0) → ((ps : List Ty) (c i : ℕ) (w : Value) (K : Ty → Value → Type 0) → L ps c i w K → M ps c i w K) → With L → With M
-  more L M m h = builds_more t heads few kinds s.env.exec (λ ps c i w K. L ps c i w K × NotBack s.run) (λ ps c i w K. M ps c i w K × NotBack s.run) (λ ps c i w K x. (m ps c i w K x.0, x.1)) s.env.frames s.run.frame s.run.this s.callers h
+  more L M m h = builds_more t heads few kinds s.env.exec L M m s.env.frames s.run.frame s.run.this s.callers h
 
   pub lost : (M : List Ty → ℕ → ℕ → Value → (Ty → Value → Type 0) → Type 0) → Nothing_left → With M
-  lost M h = more (λ ps c i w K. ⊥) M (λ ps c i w K x. absurd x) h
-
-  -- nothing is, whoever is to return
-  pub nothing : Nothing_left → Builds t heads few kinds s.env.exec (λ ps c i w K. ⊥) s.env.frames s.run.frame s.run.this s.callers
-  nothing h = builds_more t heads few kinds s.env.exec (λ ps c i w K. ⊥ × NotBack s.run) (λ ps c i w K. ⊥) (λ ps c i w K x. x.0) s.env.frames s.run.frame s.run.this s.callers h
-
-  pub later : (todo : List Todo) (vs : List Value) → Holding todo → With (λ ps c i w K. Now t heads ps c i w K todo vs)
-  later todo vs h = more (λ ps c i w K. Behind t heads ps c i todo) (λ ps c i w K. Now t heads ps c i w K todo vs) (λ ps c i w K x. building.now t heads ps c i w K todo vs x) h
+  lost M h = more of_wait M (λ ps c i w K x. absurd x) h
 
   -- with something else to do, and other operands
-  pub go_now : (todo : List Todo) (vs : List Value) → With (λ ps c i w K. Now t heads ps c i w K todo vs) → BuildsBy t heads few kinds (of_run t heads (at todo vs s).run) (at todo vs s)
-  go_now todo vs h = record { apart = apart; run = h; callers = callers }
+  pub go_now : (todo : List Todo) (vs : List Value) → Calling Anew todo → With (λ ps c i w K. Now t heads ps c i w K todo vs) → BuildsBy t heads few kinds (of_run t heads (at todo vs s).run) (at todo vs s)
+  go_now todo vs a h = record { anew = (a, anew); run = h; callers = callers }
 
   pub go : (todo : List Todo) (vs : List Value) → Holding todo → BuildsBy t heads few kinds (of_run t heads (at todo vs s).run) (at todo vs s)
-  go todo vs h = go_now todo vs (later todo vs h)
+  go todo vs h = go_now todo vs h.0 (lost (λ ps c i w K. Now t heads ps c i w K todo vs) h.1)
 
-  pub stays : (todo : List Todo) (vs : List Value) → Holding todo → BuildsBy t heads few kinds (of_wait t heads (at todo vs s).run) (at todo vs s)
-  stays todo vs h = record { apart = apart; run = h; callers = callers }
+  pub stays : (todo : List Todo) (vs : List Value) → Holding todo → BuildsBy t heads few kinds of_wait (at todo vs s)
+  stays todo vs h = record { anew = (h.0, anew); run = h.1; callers = callers }
 
   -- the same running execution, in a task that has changed
-  with_env : (L : List Ty → ℕ → ℕ → Value → (Ty → Value → Type 0) → Type 0) {e : Env} (u : State) → BuildsBy t heads few kinds L u → Keeps u.env e → BuildsBy t heads few kinds L (record u { env = e })
-  with_env L {e} u h k = record {
-    apart = h.apart;
-    run = subst (λ n. Builds t heads few kinds n L e.frames u.run.frame u.run.this u.callers) (sym k.exec) (builds_kept t heads few kinds u.env.exec L u.env.frames e.frames u.run.frame u.run.this u.callers (k.frames u.run.frame) (all_keep t heads few kinds u.env.exec u.env.frames e.frames k.frames u.callers) h.run);
-    callers = subst (λ n. AllBuild t heads few kinds n e.frames u.callers) (sym k.exec) (all_kept t heads few kinds u.env.exec u.env.frames e.frames u.callers (all_keep t heads few kinds u.env.exec u.env.frames e.frames k.frames u.callers) h.callers);
+  with_env : {e : Env} (u : State) → BuildsBy t heads few kinds of_wait u → Keeps u.env e → BuildsBy t heads few kinds of_wait (record u { env = e })
+  with_env {e} u h k = record {
+    anew = all_anew t heads u.env.frames e.frames (u.run ∷ u.callers) (all_loosen t heads u.env.frames e.frames k.looses (u.run ∷ u.callers)) h.anew;
+    run = subst (λ n. Builds t heads few kinds n of_wait e.frames u.run.frame u.run.this u.callers) (sym k.binds.exec) (builds_kept t heads few kinds u.env.exec u.env.frames e.frames u.run.frame u.run.this u.callers (k.binds.frames u.run.frame) (all_keep t heads few kinds u.env.exec u.env.frames e.frames k.binds.frames u.callers) h.run);
+    callers = subst (λ n. AllBuild t heads few kinds n e.frames u.callers) (sym k.binds.exec) (all_kept t heads few kinds u.env.exec u.env.frames e.frames u.callers (all_keep t heads few kinds u.env.exec u.env.frames e.frames k.binds.frames u.callers) h.callers);
+  }
+
+  -- who runs goes on with nothing to bind
+  pub runs : (u : State) → BuildsBy t heads few kinds of_wait u → BuildsBy t heads few kinds (of_run t heads u.run) u
+  runs u h = record {
+    anew = h.anew;
+    run = builds_more t heads few kinds u.env.exec of_wait (of_run t heads u.run) (λ ps c i w K x. absurd x) u.env.frames u.run.frame u.run.this u.callers h.run;
+    callers = h.callers;
   }
 
   -- and with another rest of the task
-  pub go_in : (todo : List Todo) (vs : List Value) (e : Env) → Keeps s.env e → Holding todo → BuildsBy t heads few kinds (of_run t heads (at todo vs (in_env e s)).run) (at todo vs (in_env e s))
-  go_in todo vs e k h = with_env (of_run t heads (at todo vs s).run) (at todo vs s) (go todo vs h) k
+  pub stays_in : (todo : List Todo) (vs : List Value) (e : Env) → Keeps s.env e → Holding todo → BuildsBy t heads few kinds of_wait (at todo vs (in_env e s))
+  stays_in todo vs e k h = with_env (at todo vs s) (stays todo vs h) k
 
-  pub stays_in : (todo : List Todo) (vs : List Value) (e : Env) → Keeps s.env e → Holding todo → BuildsBy t heads few kinds (of_wait t heads (at todo vs (in_env e s)).run) (at todo vs (in_env e s))
-  stays_in todo vs e k h = with_env (of_wait t heads (at todo vs s).run) (at todo vs s) (stays todo vs h) k
+  pub go_in : (todo : List Todo) (vs : List Value) (e : Env) → Keeps s.env e → Holding todo → BuildsBy t heads few kinds (of_run t heads (at todo vs (in_env e s)).run) (at todo vs (in_env e s))
+  go_in todo vs e k h = runs (at todo vs (in_env e s)) (stays_in todo vs e k h)
 
   -- nothing that is told of changes
   pub same : {e : Env} → e.exec ≡ s.env.exec → e.frames ≡ s.env.frames → Keeps s.env e
@@ -145,85 +178,65 @@ module _ (t : Table) (heads : ℕ → ℕ → Bool) (few : Few) (kinds : List Si
 
   -- the end of an activation
 
-  module _ (stay : BuildsBy t heads few kinds (of_wait t heads s.run) s) where
-    -- the first one that waits, with a frame less
-    module _ (c : Active) (cs : List Active) (l : length s.env.frames ≡ suc (length (c ∷ cs))) (h : Stack Z s.env.frames (c ∷ cs)) (b : AllBuild t heads few kinds s.env.exec s.env.frames (c ∷ cs)) where
-      all_less : AllKeep t heads few kinds s.env.exec s.env.frames (others s.env.frames) (c ∷ cs)
-      all_less =
-          let n : length (others s.env.frames) ≡ suc (length cs) = others_length s.env.frames (length cs) l in
-          older_all t heads few kinds Z s.env.exec s.env.frames (c ∷ cs) (omega (arith, n)) h
+  -- the first one that waits, with a frame less
+  module _ (c : Active) (cs : List Active) (l : length s.env.frames ≡ suc (length (c ∷ cs))) (h : Stack Z s.env.frames (c ∷ cs)) (b : AllBuild t heads few kinds s.env.exec s.env.frames (c ∷ cs)) (a : AllAnew t heads s.env.frames (c ∷ cs)) where
+    fits : length (c ∷ cs) ≤ length (others s.env.frames)
+    fits = let n : length (others s.env.frames) ≡ suc (length cs) = others_length s.env.frames (length cs) l in omega (arith, n)
 
-      less : (M : List Ty → ℕ → ℕ → Value → (Ty → Value → Type 0) → Type 0) → ((ps : List Ty) (d i : ℕ) (w : Value) (K : Ty → Value → Type 0) → Behind t heads ps d i c.control × NotBack c → M ps d i w K) → Builds t heads few kinds s.env.exec M (others s.env.frames) c.frame c.this cs
-      less M m = builds_more t heads few kinds s.env.exec (of_wait t heads c) M m (others s.env.frames) c.frame c.this cs (builds_kept t heads few kinds s.env.exec (of_wait t heads c) s.env.frames (others s.env.frames) c.frame c.this cs all_less.0 all_less.1 b.0)
+    all_less : AllKeep t heads few kinds s.env.exec s.env.frames (others s.env.frames) (c ∷ cs)
+    all_less = older_all t heads few kinds Z s.env.exec s.env.frames (c ∷ cs) fits h
 
-      rest_less : AllBuild t heads few kinds s.env.exec (others s.env.frames) cs
-      rest_less = all_kept t heads few kinds s.env.exec s.env.frames (others s.env.frames) cs all_less.1 b.1
+    less : Builds t heads few kinds s.env.exec of_wait (others s.env.frames) c.frame c.this cs
+    less = builds_kept t heads few kinds s.env.exec s.env.frames (others s.env.frames) c.frame c.this cs all_less.0 all_less.1 b.0
 
-    pub returned : (given : Value) (cs : List Active) → length s.env.frames ≡ suc (length cs) → Stack Z s.env.frames cs → AllBuild t heads few kinds s.env.exec s.env.frames cs → AllApart cs → StepBuilds t heads few kinds (piece.return_step given cs s)
+    rest_less : AllBuild t heads few kinds s.env.exec (others s.env.frames) cs
+    rest_less = all_kept t heads few kinds s.env.exec s.env.frames (others s.env.frames) cs all_less.1 b.1
+
+    anew_less : AllAnew t heads (others s.env.frames) (c ∷ cs)
+    anew_less = all_anew t heads s.env.frames (others s.env.frames) (c ∷ cs) (older_loosen t heads Z s.env.frames (c ∷ cs) fits h) a
+
+  module _ (stay : BuildsBy t heads few kinds of_wait s) where
+    pub returned : (given : Value) (cs : List Active) → length s.env.frames ≡ suc (length cs) → Stack Z s.env.frames cs → AllBuild t heads few kinds s.env.exec s.env.frames cs → AllAnew t heads s.env.frames cs → StepBuilds t heads few kinds (piece.return_step given cs s)
     returned given [] l h b p = stay
     returned given (a ∷ cs) l h b p = record {
-      apart = p;
-      run = less a cs l h b _ (λ ps c i w K x. (building.now t heads ps c i w K a.control (given ∷ a.operands) x.0, x.1));
-      callers = rest_less a cs l h b;
+      anew = anew_less a cs l h b p;
+      run = builds_more t heads few kinds s.env.exec of_wait _ (λ ps c i w K x. absurd x) (others s.env.frames) a.frame a.this cs (less a cs l h b p);
+      callers = rest_less a cs l h b p;
     }
 
-    -- it is left to the one that waits to unwind, which builds nothing if a return is over there
-    why_returns : (why : UnwindReason) (o : Option UnwindReason) (home : ℕ) → raising.why_by why o ≡ reason.ReturnTo home → why ≡ reason.ReturnTo home
-    why_returns why None home e = e
-    why_returns why (Some (reason.Event n x y)) home e = e
-    why_returns why (Some (reason.ReturnTo n)) home e = e
-    why_returns why (Some reason.Destroyed) home e = absurd (cc)
-
-    passed : (given : Value) (why : UnwindReason) (a : Active) (cs : List Active) → ((home : ℕ) → why ≡ reason.ReturnTo home → IsApart home (a ∷ cs)) → length s.env.frames ≡ suc (length (a ∷ cs)) → Stack Z s.env.frames (a ∷ cs) → AllBuild t heads few kinds s.env.exec s.env.frames (a ∷ cs) → AllApart (a ∷ cs) → StepBuilds t heads few kinds (Goes (left_for s.run.counts (unwound (piece.Unwind ∷ a.control) why given a) cs s.env))
-    passed given why a cs far l h b p = record {
-      apart = ((p.0.0, p.0.1, λ home e. (far home (some_is e)).1), p.1);
-      run = by (nat_eq a.frame (length cs)) refl;
-      callers = rest_less a cs l h b;
+    passed : (given : Value) (why : UnwindReason) (a : Active) (cs : List Active) → length s.env.frames ≡ suc (length (a ∷ cs)) → Stack Z s.env.frames (a ∷ cs) → AllBuild t heads few kinds s.env.exec s.env.frames (a ∷ cs) → AllAnew t heads s.env.frames (a ∷ cs) → StepBuilds t heads few kinds (Goes (left_for s.run.counts (unwound (piece.Unwind ∷ a.control) why given a) cs s.env))
+    passed given why a cs l h b p = record {
+      anew = anew_less a cs l h b p;
+      run = builds_more t heads few kinds s.env.exec of_wait (of_run t heads (unwound (piece.Unwind ∷ a.control) why given a)) (λ ps c i w K x. absurd x) (others s.env.frames) a.frame a.this cs (less a cs l h b p);
+      callers = rest_less a cs l h b p;
     }
-      where
-        by : (own : Bool) → nat_eq a.frame (length cs) ≡ own → Builds t heads few kinds s.env.exec (of_run t heads (unwound (piece.Unwind ∷ a.control) why given a)) (others s.env.frames) a.frame a.this cs
-        by true e =
-            let q : a.frame ≡ length cs = eqb-true a.frame (length cs) e in
-            less a cs l h b (of_run t heads (unwound (piece.Unwind ∷ a.control) why given a)) (λ ps c i w K x. (building.left t heads ps c i a.control x.0, λ r. (far a.frame (some_is r)).0 refl q (building.left t heads ps c i a.control x.0)))
-        by false e = not_making t heads few kinds s.env.exec (of_wait t heads a) (of_run t heads (unwound (piece.Unwind ∷ a.control) why given a)) (others s.env.frames) a.frame a.this cs (λ q. let y : nat_eq a.frame (length cs) ≡ true = eq-eqb a.frame (length cs) q in absurd (cc)) (less a cs l h b (of_wait t heads a) (λ ps c i w K x. x))
 
-    return_is : {m n : ℕ} → reason.ReturnTo m ≡ reason.ReturnTo n → m ≡ n
-    return_is e = cc
+    past : (v : Visited) (given : Value) (cs : List Active) → length s.env.frames ≡ suc (length cs) → Stack Z s.env.frames cs → AllBuild t heads few kinds s.env.exec s.env.frames cs → AllAnew t heads s.env.frames cs → StepBuilds t heads few kinds (raising.return_past v given cs s)
+    past v given [] l h b p = stay
+    past v given (a ∷ cs) l h b p = passed given (reason.ReturnTo v.home) a cs l h b p
 
-    past : (v : Visited) (given : Value) (cs : List Active) → ((home : ℕ) → v.home ≡ home → IsApart home cs) → length s.env.frames ≡ suc (length cs) → Stack Z s.env.frames cs → AllBuild t heads few kinds s.env.exec s.env.frames cs → AllApart cs → StepBuilds t heads few kinds (raising.return_past v given cs s)
-    past v given [] far l h b p = stay
-    past v given (a ∷ cs) far l h b p = passed given (reason.ReturnTo v.home) a cs (λ home e. far home (return_is e)) l h b p
-
-    -- a handler uses the frame of its routine
-    home_apart : (o : Option Visited) (v : Visited) → o ≡ Some v → HomedBy o s.run.frame (length s.callers) → (home : ℕ) → v.home ≡ home → IsApart home s.callers
-    home_apart None v e h home q = absurd (cc)
-    home_apart (Some x) v e h home q =
-        let same : x ≡ v = some_is e in
-        let at : s.run.frame ≡ home = sym h ∙ (ap (λ (x : Visited). x.home) same ∙ q) in
-        subst (λ f. IsApart f s.callers) at apart.0.0
-
-    end_by : (v : Option Visited) (given : Value) → s.run.handles ≡ v → StepBuilds t heads few kinds (raising.end_by v given s)
-    end_by None given e = returned given s.callers life.frames life.stack.1 callers apart.1
-    end_by (Some v) given e = past v given s.callers (λ home q. home_apart s.run.handles v e apart.0.1 home q) life.frames life.stack.1 callers apart.1
+    end_by : (v : Option Visited) (given : Value) → StepBuilds t heads few kinds (raising.end_by v given s)
+    end_by None given = returned given s.callers life.frames life.stack.1 callers anew
+    end_by (Some v) given = past v given s.callers life.frames life.stack.1 callers anew
 
     pub end_step : (w : Way) → StepBuilds t heads few kinds (quiet.end_step w s)
-    end_step src.ToReturn = end_by s.run.handles _ refl
-    end_step src.ToEnd = end_by s.run.handles _ refl
-    end_step src.ToBreak = returned _ s.callers life.frames life.stack.1 callers apart.1
-    end_step src.ToContinue = returned _ s.callers life.frames life.stack.1 callers apart.1
+    end_step src.ToReturn = end_by s.run.handles _
+    end_step src.ToEnd = end_by s.run.handles _
+    end_step src.ToBreak = returned _ s.callers life.frames life.stack.1 callers anew
+    end_step src.ToContinue = returned _ s.callers life.frames life.stack.1 callers anew
 
-    pass_on : (w : Option UnwindReason) (c : Active) (cs : List Active) → ((home : ℕ) → w ≡ Some (reason.ReturnTo home) → IsApart home (c ∷ cs)) → length s.env.frames ≡ suc (length (c ∷ cs)) → Stack Z s.env.frames (c ∷ cs) → AllBuild t heads few kinds s.env.exec s.env.frames (c ∷ cs) → AllApart (c ∷ cs) → StepBuilds t heads few kinds (raising.pass_on w c cs s)
-    pass_on None c cs far l h b p = stay
-    pass_on (Some why) c cs far l h b p = passed s.run.result (raising.why_by why c.raised) c cs (λ home e. far home (ap Some (why_returns why c.raised home e))) l h b p
+    pass_on : (w : Option UnwindReason) (c : Active) (cs : List Active) → length s.env.frames ≡ suc (length (c ∷ cs)) → Stack Z s.env.frames (c ∷ cs) → AllBuild t heads few kinds s.env.exec s.env.frames (c ∷ cs) → AllAnew t heads s.env.frames (c ∷ cs) → StepBuilds t heads few kinds (raising.pass_on w c cs s)
+    pass_on None c cs l h b p = stay
+    pass_on (Some why) c cs l h b p = passed s.run.result (raising.why_by why c.raised) c cs l h b p
 
-    leave_for : (b : Bool) (c : Active) (cs : List Active) → ((home : ℕ) → s.run.raised ≡ Some (reason.ReturnTo home) → IsApart home (c ∷ cs)) → length s.env.frames ≡ suc (length (c ∷ cs)) → Stack Z s.env.frames (c ∷ cs) → AllBuild t heads few kinds s.env.exec s.env.frames (c ∷ cs) → AllApart (c ∷ cs) → StepBuilds t heads few kinds (raising.leave_for b c cs s)
-    leave_for true c cs far l h b p = stay
-    leave_for false c cs far l h b p = pass_on s.run.raised c cs far l h b p
+    leave_for : (b : Bool) (c : Active) (cs : List Active) → length s.env.frames ≡ suc (length (c ∷ cs)) → Stack Z s.env.frames (c ∷ cs) → AllBuild t heads few kinds s.env.exec s.env.frames (c ∷ cs) → AllAnew t heads s.env.frames (c ∷ cs) → StepBuilds t heads few kinds (raising.leave_for b c cs s)
+    leave_for true c cs l h b p = stay
+    leave_for false c cs l h b p = pass_on s.run.raised c cs l h b p
 
-    pub leaves : (cs : List Active) → ((home : ℕ) → s.run.raised ≡ Some (reason.ReturnTo home) → IsApart home cs) → length s.env.frames ≡ suc (length cs) → Stack Z s.env.frames cs → AllBuild t heads few kinds s.env.exec s.env.frames cs → AllApart cs → StepBuilds t heads few kinds (raising.leave_step cs s)
-    leaves [] far l h b p = stay
-    leaves (c ∷ cs) far l h b p =
-        either (StepBuilds t heads few kinds) (raising.arrives s.run.raised (length (c ∷ cs))) _ _ (returned s.run.result (c ∷ cs) l h b p) (leave_for _ c cs far l h b p)
+    pub leaves : (cs : List Active) → length s.env.frames ≡ suc (length cs) → Stack Z s.env.frames cs → AllBuild t heads few kinds s.env.exec s.env.frames cs → AllAnew t heads s.env.frames cs → StepBuilds t heads few kinds (raising.leave_step cs s)
+    leaves [] l h b p = stay
+    leaves (c ∷ cs) l h b p =
+        either (StepBuilds t heads few kinds) (raising.arrives s.run.raised (length (c ∷ cs))) _ _ (returned s.run.result (c ∷ cs) l h b p) (leave_for _ c cs l h b p)
 
   pub outcome : (x : Outcome) (todo : List Todo) (vs : List Value) → Holding todo → StepBuilds t heads few kinds (piece.outcome_step x todo vs s)
   outcome (Gives n) todo vs h = go todo _ h
@@ -233,122 +246,173 @@ module _ (t : Table) (heads : ℕ → ℕ → Bool) (few : Few) (kinds : List Si
   element n None todo v vs h = stays todo _ h
   element n (Some i) todo v vs h = go todo _ h
 
-  -- expressions
+  -- expressions, and what is to do behind them
 
-  plain : (a : Expr) (todo : List Todo) → IsOther a → With (λ ps c i w K. Now t heads ps c i w K (piece.Eval a ∷ todo) s.run.operands) → Holding todo
-  plain a todo o h = more (λ ps c i w K. Now t heads ps c i w K (piece.Eval a ∷ todo) s.run.operands) (λ ps c i w K. Behind t heads ps c i todo) (λ ps c i w K x. other t heads ps c i w K a todo s.run.operands o x) h
+  module _ (todo : List Todo) (next : Awaited Anew todo) (calls : Calling Anew todo) (behind : NoneAwaited (piece.DropNow ∷ todo)) where
+    converts : (k : Shape) (l : List Todo) → Calling Anew l → Calling Anew (quiet.converting k l)
+    converts src.Character l c = c
+    converts src.Truth l c = c
+    converts k l c = c
 
-  converts : (k : Shape) (todo : List Todo) → Holding todo → Holding (quiet.converting k todo)
-  converts src.Character todo h = h
-  converts src.Truth todo h = h
-  converts k todo h = h
+    object : (x : ObjectExpr) → IsOther (src.OfObject x) → Nothing_left → StepBuilds t heads few kinds (quiet.object_step x todo s)
+    object src.This o h = go _ _ (calls, h)
+    object src.Counted o h = go _ _ (calls, h)
+    object (src.CallOn r a args) o h = go _ _ ((tt, (next, calls)), h)
+    object (src.CallLive r a args) o h = go _ _ ((tt, (next, calls)), h)
+    object (src.CallUnwritten r a) o h = go _ _ ((tt, (next, calls)), h)
+    object (src.EnterOn m r a args) o h = go _ _ ((tt, (next, calls)), h)
+    object (src.EndOn r false a) o h = go _ _ ((tt, (next, calls)), h)
+    object (src.EndOn r true a) o h = go _ _ ((tt, (next, calls)), h)
+    object (src.MakeOn c r false a args) o h = go _ _ ((tt, (next, calls)), h)
+    object (src.MakeOn c r true a args) o h = go _ _ ((tt, (next, calls)), h)
+    object src.NewCluster o h = go _ _ (calls, h)
+    object (src.NewProcessor a) o h = go _ _ ((tt, calls), h)
+    object (src.EndCluster a) o h = go _ _ ((tt, calls), h)
+    object (src.EndProcessor a) o h = go _ _ ((tt, calls), h)
+    object (src.ConditionAt k n a) o h = go _ _ ((tt, calls), h)
+    object (src.Wait a b) o h = go _ _ ((tt, (tt, calls)), h)
+    object (src.Signal a) o h = go _ _ ((tt, calls), h)
+    object (src.SignalBlock a) o h = go _ _ ((tt, calls), h)
+    object (src.IsEmpty a) o h = go _ _ ((tt, calls), h)
+    object (src.FrontOf a) o h = go _ _ ((tt, calls), h)
+    object (src.OwnField k i) o h = absurd o
+    object (src.GetOwn k i) o h = absurd o
+    object (src.FieldOf k i a) o h = absurd o
+    object (src.Bind a b) o h = absurd o
 
-  object : (x : ObjectExpr) (todo : List Todo) → IsOther (src.OfObject x) → Holding todo → StepBuilds t heads few kinds (quiet.object_step x todo s)
-  object (src.EndOn r false a) todo o h = go _ _ h
-  object (src.EndOn r true a) todo o h = go _ _ h
-  object (src.MakeOn c r false a args) todo o h = go _ _ h
-  object (src.MakeOn c r true a args) todo o h = go _ _ h
-  object (src.OwnField k i) todo o h = absurd o
-  object (src.GetOwn k i) todo o h = absurd o
-  object (src.FieldOf k i a) todo o h = absurd o
-  object (src.Bind a b) todo o h = absurd o
-  object x todo o h = go _ _ h
+    evaluated : (a : Expr) → IsOther a → Nothing_left → StepBuilds t heads few kinds (quiet.eval_step a todo s)
+    evaluated (src.Variable k) o h = go _ _ (calls, h)
+    evaluated (src.Element n k a b) o h = go _ _ ((tt, (tt, calls)), h)
+    evaluated (src.Load a) o h = go _ _ ((tt, calls), h)
+    evaluated (src.Negated a) o h = go _ _ ((tt, calls), h)
+    evaluated (src.Not a) o h = go _ _ ((tt, calls), h)
+    evaluated (src.AsCharacter a) o h = go _ _ ((tt, calls), h)
+    evaluated (src.AsTruth a) o h = go _ _ ((tt, calls), h)
+    evaluated (src.Operate op a b) o h = go _ _ ((tt, (tt, calls)), h)
+    evaluated (src.And a b) o h = go _ _ ((tt, calls), h)
+    evaluated (src.Or a b) o h = go _ _ ((tt, calls), h)
+    evaluated (src.Update op k p a) o h = go _ _ ((tt, (tt, converts k (piece.KeepNow ∷ todo) calls)), h)
+    evaluated (src.StepBehind op k p) o h = go _ _ ((tt, (tt, converts k (piece.StoreNow ∷ (piece.DropBelowNow ∷ todo)) calls)), h)
+    evaluated src.Fail o h = stays todo _ (calls, h)
+    evaluated (src.Set k a) o h = go _ _ ((tt, calls), h)
+    evaluated (src.First a b) o h = go _ _ ((tt, (any_awaited Anew (piece.DropNow ∷ todo) behind, calls)), h)
+    evaluated (src.Call r args) o h = go _ _ (calls, h)
+    evaluated (src.OfObject x) o h = object x o h
+    evaluated (src.Literal n) o h = absurd o
+    evaluated (src.Get k) o h = absurd o
+    evaluated (src.Assign p a) o h = absurd o
 
-  -- but for what finds a field and what is bound there
-  pub eval : (a : Expr) (todo : List Todo) → IsOther a → With (λ ps c i w K. Now t heads ps c i w K (piece.Eval a ∷ todo) s.run.operands) → StepBuilds t heads few kinds (quiet.eval_step a todo s)
-  eval (src.Update op k p a) todo o h = go _ _ (converts k (piece.KeepNow ∷ todo) (plain (src.Update op k p a) todo o h))
-  eval (src.StepBehind op k p) todo o h = go _ _ (converts k (piece.StoreNow ∷ (piece.DropBelowNow ∷ todo)) (plain (src.StepBehind op k p) todo o h))
-  eval src.Fail todo o h = stays todo _ (plain src.Fail todo o h)
-  eval (src.Get k) todo o h = absurd o
-  eval (src.OfObject x) todo o h = object x todo o (plain (src.OfObject x) todo o h)
-  eval a todo o h = go _ _ (plain a todo o h)
+    -- but for what is done before fields are bound, and binds them
+    pub eval : (a : Expr) → IsOther a → With (λ ps c i w K. Now t heads ps c i w K (piece.Eval a ∷ todo) s.run.operands) → StepBuilds t heads few kinds (quiet.eval_step a todo s)
+    eval a o h = evaluated a o (more (λ ps c i w K. Now t heads ps c i w K (piece.Eval a ∷ todo) s.run.operands) of_wait (λ ps c i w K x. other t heads ps c i w K a todo s.run.operands o x) h)
 
   -- statements
 
   pub starts : (cell : ℕ) (v : Option Expr) (todo : List Todo) → Holding todo → Holding (quiet.starting cell v todo)
   starts cell None todo h = h
-  starts cell (Some e) todo h = h
-
-  -- a statement that is no head leaves nothing to be bound
+  starts cell (Some e) todo h = ((tt, (tt, h.0)), h.1)
 
   pub filled : (b : Bool) (n : ℕ) (e d : Expr) (todo : List Todo) → Holding todo → Holding (quiet.fill_todo b n e d todo)
   filled false n e d todo h = h
-  filled true n e d todo h = h
+  filled true n e d todo h = ((tt, h.0), h.1)
 
   pub swept : (n : ℕ) (e : Expr) (todo : List Todo) → Holding todo → StepBuilds t heads few kinds (quiet.sweep_step n e todo s)
   swept zero e todo h = go _ _ h
-  swept (suc m) e todo h = record { apart = apart; run = later (piece.Eval e ∷ (piece.DropNow ∷ (piece.Sweep e ∷ todo))) s.run.operands h; callers = callers }
+  swept (suc m) e todo h = record { anew = ((tt, h.0), anew); run = lost (λ ps c i w K. Now t heads ps c i w K (piece.Eval e ∷ (piece.DropNow ∷ (piece.Sweep e ∷ todo))) s.run.operands) h.1; callers = callers }
 
   pub item : (i : Item) (todo : List Todo) → Holding todo → Holding (quiet.item_todo i todo)
-  item (src.Show g e) todo h = h
+  item (src.Show g e) todo h = ((tt, h.0), h.1)
   item (src.ShowText k) todo h = h
 
-  pub item_value : (i : Item) (todo : List Todo) → Holding todo → Holding (quiet.item_value i todo)
-  item_value (src.Show g e) todo h = h
-  item_value (src.ShowText k) todo h = h
+  pub item_value : (i : Item) (is : List Item) (todo : List Todo) → Holding todo → Holding (quiet.item_value i (piece.Values is ∷ todo))
+  item_value (src.Show g e) is todo h = ((tt, h.0), h.1)
+  item_value (src.ShowText k) is todo h = h
 
   pub item_piece : (i : Item) (todo : List Todo) → Holding todo → Holding (quiet.item_piece i ∷ todo)
   item_piece (src.Show g e) todo h = h
   item_piece (src.ShowText k) todo h = h
 
-  -- nothing is left to be bound, whatever is to do
-  pub free : (todo : List Todo) → Nothing_left → Holding todo
-  free todo h = lost (λ ps c i w K. Behind t heads ps c i todo) h
+  -- the step behind the body of a loop, and its next turn
+  tests : (o : Order) (e : Expr) (step : Option Expr) (b : Stmt) (todo : List Todo) → Calling Anew todo → Calling Anew (quiet.test_todo o e step b todo)
+  tests src.TestFirst e step b todo c = (tt, c)
+  tests src.BodyFirst e step b todo c = (tt, c)
+  tests src.NoTest e step b todo c = c
 
-  gone : (todo : List Todo) (vs : List Value) → Nothing_left → BuildsBy t heads few kinds (of_run t heads (at todo vs s).run) (at todo vs s)
-  gone todo vs h = go todo vs (free todo h)
+  loops : (o : Order) (e : Expr) (step : Option Expr) (b : Stmt) (todo : List Todo) → Calling Anew todo → Calling Anew (quiet.loop_todo o e step b todo)
+  loops src.TestFirst e step b todo c = (tt, c)
+  loops src.BodyFirst e step b todo c = c
+  loops src.NoTest e step b todo c = c
 
-  event_step : (a : EventStmt) (todo : List Todo) → Nothing_left → StepBuilds t heads few kinds (quiet.event_step a todo s)
-  event_step (src.Throw line r) todo h = gone _ _ h
-  event_step (src.Raise line r) todo h = gone _ _ h
-  event_step (src.Try line body hs) todo h = gone _ _ h
-  event_step (src.RaiseAt line r a) todo h = gone _ _ h
-  event_step (src.Enable line events cell a) todo h = gone _ _ h
-  event_step (src.Disable line events cell a) todo h = gone _ _ h
+  drops : (o : Order) (e : Expr) (step : Option Expr) (b : Stmt) (todo : List Todo) → Awaited Anew (piece.DropNow ∷ quiet.test_todo o e step b todo)
+  drops src.TestFirst e step b todo = tt
+  drops src.BodyFirst e step b todo = tt
+  drops src.NoTest e step b todo = tt
+
+  pub turns : (step : Option Expr) (o : Order) (e : Expr) (b : Stmt) (todo : List Todo) → Holding todo → Holding (quiet.step_todo step (quiet.test_todo o e step b todo))
+  turns None o e b todo h = (tests o e None b todo h.0, h.1)
+  turns (Some a) o e b todo h = ((drops o e (Some a) b todo, tests o e (Some a) b todo h.0), h.1)
+
+  raised : (r : Raised) (l : List Todo) → Awaited Anew l → Calling Anew l → Calling Anew (raising.raised_todo r l)
+  raised (src.Plainly n) l a c = (tt, (tt, (a, c)))
+  raised (src.BuiltAt n k e) l a c = (tt, (tt, (tt, (a, c))))
+  raised (src.AgainFrom k) l a c = (tt, (tt, (a, c)))
+
+  event_step : (a : EventStmt) (todo : List Todo) → Holding todo → StepBuilds t heads few kinds (quiet.event_step a todo s)
+  event_step (src.Throw line r) todo h = go _ _ (raised r (piece.ThrowNow ∷ (piece.Within line ∷ todo)) tt h.0, h.1)
+  event_step (src.Raise line r) todo h = go _ _ (raised r (piece.RaiseNow ∷ (piece.Within line ∷ todo)) tt h.0, h.1)
+  event_step (src.Try line body hs) todo h = go _ _ h
+  event_step (src.RaiseAt line r a) todo h = go _ _ (raised r (piece.Eval a ∷ (piece.RaiseAtNow ∷ (piece.Within line ∷ todo))) tt (tt, h.0), h.1)
+  event_step (src.Enable line events cell a) todo h = go _ _ ((tt, h.0), h.1)
+  event_step (src.Disable line events cell a) todo h = go _ _ ((tt, h.0), h.1)
 
   -- what is left of a statement that is neither a head nor binds
-  none : (a : Stmt) (todo : List Todo) → ((ps : List Ty) (c i : ℕ) → BindsBy t ps c (λ m. Stays t heads ps c i todo m) i a → ⊥) → ((ps : List Ty) (c i : ℕ) → IsHead a (Behind t heads ps c i todo) → ⊥) → With (λ ps c i w K. Now t heads ps c i w K (piece.Do a ∷ todo) s.run.operands) → Nothing_left
-  none a todo f g h = more (λ ps c i w K. Now t heads ps c i w K (piece.Do a ∷ todo) s.run.operands) (λ ps c i w K. ⊥) (λ ps c i w K x. by ps c i x) h
+  none : (a : Stmt) (todo : List Todo) → ((ps : List Ty) (c i : ℕ) → BindsBy t ps c (λ m. Stays t heads ps c i todo m) i a → ⊥) → ((ps : List Ty) (c i : ℕ) → IsHead t c i a (Behind t heads ps c i todo) → ⊥) → With (λ ps c i w K. Now t heads ps c i w K (piece.Do a ∷ todo) s.run.operands) → Nothing_left
+  none a todo f g h = more (λ ps c i w K. Now t heads ps c i w K (piece.Do a ∷ todo) s.run.operands) of_wait (λ ps c i w K x. by ps c i x) h
     where
-      by : (ps : List Ty) (c i : ℕ) → (BindsBy t ps c (λ m. Stays t heads ps c i todo m) i a × AllLeft todo) ⊎ IsHead a (Behind t heads ps c i todo) → ⊥
-      by ps c i (inl x) = f ps c i x.0
+      by : (ps : List Ty) (c i : ℕ) → BindsBy t ps c (λ m. Stays t heads ps c i todo m) i a ⊎ IsHead t c i a (Behind t heads ps c i todo) → ⊥
+      by ps c i (inl x) = f ps c i x
       by ps c i (inr x) = g ps c i x
 
-  task_step : (a : TaskStmt) (todo : List Todo) → With (λ ps c i w K. Now t heads ps c i w K (piece.Do (src.OfTasks a) ∷ todo) s.run.operands) → StepBuilds t heads few kinds (quiet.task_step a todo s)
-  task_step (src.SetUp r) todo h = go _ _ (more (λ ps c i w K. Now t heads ps c i w K (piece.Do (src.OfTasks (src.SetUp r)) ∷ todo) s.run.operands) (λ ps c i w K. Behind t heads ps c i todo) (λ ps c i w K x. by ps c i x) h)
+  task_step : (a : TaskStmt) (todo : List Todo) → Calling Anew todo → With (λ ps c i w K. Now t heads ps c i w K (piece.Do (src.OfTasks a) ∷ todo) s.run.operands) → StepBuilds t heads few kinds (quiet.task_step a todo s)
+  task_step (src.SetUp r) todo c h = go_now _ _ c (more (λ ps c i w K. Now t heads ps c i w K (piece.Do (src.OfTasks (src.SetUp r)) ∷ todo) s.run.operands) (λ ps c i w K. Now t heads ps c i w K (piece.SetUpNow r ∷ todo) s.run.operands) (λ ps c i w K x. by ps c i x) h)
     where
-      by : (ps : List Ty) (c i : ℕ) → (⊥ × AllLeft todo) ⊎ Behind t heads ps c i todo → Behind t heads ps c i todo
-      by ps c i (inl x) = absurd x.0
+      by : (ps : List Ty) (c i : ℕ) → ⊥ ⊎ Behind t heads ps c i (piece.Do (src.OfTasks (src.SetUp r)) ∷ todo) → Behind t heads ps c i (piece.Do (src.OfTasks (src.SetUp r)) ∷ todo)
+      by ps c i (inl x) = absurd x
       by ps c i (inr x) = x
-  task_step a todo h = gone _ _ (none (src.OfTasks a) todo (λ ps c i x. x) (λ ps c i x. x) h)
+  task_step (src.Resume line) todo c h = go _ _ (c, none (src.OfTasks (src.Resume line)) todo (λ ps c i x. x) (λ ps c i x. x) h)
+  task_step (src.Suspend line) todo c h = go _ _ (c, none (src.OfTasks (src.Suspend line)) todo (λ ps c i x. x) (λ ps c i x. x) h)
+  task_step src.Enliven todo c h = go _ _ (c, none (src.OfTasks src.Enliven) todo (λ ps c i x. x) (λ ps c i x. x) h)
+  task_step src.TakeDown todo c h = go _ _ (c, none (src.OfTasks src.TakeDown) todo (λ ps c i x. x) (λ ps c i x. x) h)
+  task_step (src.Yield line) todo c h = go _ _ (c, none (src.OfTasks (src.Yield line)) todo (λ ps c i x. x) (λ ps c i x. x) h)
+  task_step (src.Migrate line a) todo c h = go _ _ ((tt, c), none (src.OfTasks (src.Migrate line a)) todo (λ ps c i x. x) (λ ps c i x. x) h)
+  task_step (src.Accept line site cs) todo c h = go _ _ (c, none (src.OfTasks (src.Accept line site cs)) todo (λ ps c i x. x) (λ ps c i x. x) h)
 
-  pub stmt : (a : Stmt) (todo : List Todo) → With (λ ps c i w K. Now t heads ps c i w K (piece.Do a ∷ todo) s.run.operands) → StepBuilds t heads few kinds (quiet.stmt_step a todo s)
-  stmt (src.Evaluate line e) todo h =
-      go_now _ _ (more (λ ps c i w K. Now t heads ps c i w K (piece.Do (src.Evaluate line e) ∷ todo) s.run.operands) (λ ps c i w K. Now t heads ps c i w K (piece.Eval e ∷ (piece.DropNow ∷ (piece.Within line ∷ todo))) s.run.operands) (λ ps c i w K x. by ps c i w K x) h)
+  pub stmt : (a : Stmt) (todo : List Todo) → AwaitedRest Anew todo → Calling Anew todo → With (λ ps c i w K. Now t heads ps c i w K (piece.Do a ∷ todo) s.run.operands) → StepBuilds t heads few kinds (quiet.stmt_step a todo s)
+  stmt (src.Evaluate line e) todo r c h =
+      go_now _ _ (rest_awaited Anew line todo r, c) (more (λ ps c i w K. Now t heads ps c i w K (piece.Do (src.Evaluate line e) ∷ todo) s.run.operands) (λ ps c i w K. Now t heads ps c i w K (piece.Eval e ∷ (piece.DropNow ∷ (piece.Within line ∷ todo))) s.run.operands) (λ ps c i w K x. by ps c i w K x) h)
     where
-      by : (ps : List Ty) (c i : ℕ) (w : Value) (K : Ty → Value → Type 0) → (BindsField t ps c (λ m. Stays t heads ps c i todo m) i e × AllLeft todo) ⊎ Behind t heads ps c i todo → Now t heads ps c i w K (piece.Eval e ∷ (piece.DropNow ∷ (piece.Within line ∷ todo))) s.run.operands
+      by : (ps : List Ty) (c i : ℕ) (w : Value) (K : Ty → Value → Type 0) → BindsField t ps c (λ m. Stays t heads ps c i todo m) i e ⊎ Behind t heads ps c i (piece.Do (src.Evaluate line e) ∷ todo) → Now t heads ps c i w K (piece.Eval e ∷ (piece.DropNow ∷ (piece.Within line ∷ todo))) s.run.operands
       by ps c i w K (inl x) = inl (inl x)
-      by ps c i w K (inr x) = inr x
-  stmt (src.Fill line m e d) todo h = go _ _ (more (λ ps c i w K. Now t heads ps c i w K (piece.Do (src.Fill line m e d) ∷ todo) s.run.operands) (λ ps c i w K. Behind t heads ps c i todo) (λ ps c i w K x. by ps c i x) h)
-    where
-      by : (ps : List Ty) (c i : ℕ) → (⊥ × AllLeft todo) ⊎ Behind t heads ps c i todo → Behind t heads ps c i todo
-      by ps c i (inl x) = absurd x.0
-      by ps c i (inr x) = x
-  stmt (src.Loop line order c e b) todo h = gone _ _ (none (src.Loop line order c e b) todo (λ ps c i x. x) (λ ps c i x. x) h)
-  stmt (src.Return line None) todo h = gone _ _ (none (src.Return line None) todo (λ ps c i x. x) (λ ps c i x. x) h)
-  stmt (src.Return line (Some e)) todo h = gone _ _ (none (src.Return line (Some e)) todo (λ ps c i x. x) (λ ps c i x. x) h)
-  stmt (src.OfEvents a) todo h = event_step a todo (none (src.OfEvents a) todo (λ ps c i x. x) (λ ps c i x. x) h)
-  stmt (src.OfTasks a) todo h = task_step a todo h
-  stmt a todo h = gone _ _ (none a todo (λ ps c i x. x) (λ ps c i x. x) h)
+      by ps c i w K (inr x) = inr (inl x)
+  stmt (src.Skip line) todo r c h = go _ _ (c, none (src.Skip line) todo (λ ps c i x. x) (λ ps c i x. x) h)
+  stmt (src.Block line body) todo r c h = go _ _ (c, none (src.Block line body) todo (λ ps c i x. x) (λ ps c i x. x) h)
+  stmt (src.Whole line body) todo r c h = go _ _ (c, none (src.Whole line body) todo (λ ps c i x. x) (λ ps c i x. x) h)
+  stmt (src.Declare line ds) todo r c h = go _ _ (c, none (src.Declare line ds) todo (λ ps c i x. x) (λ ps c i x. x) h)
+  stmt (src.Print line is) todo r c h = go _ _ (c, none (src.Print line is) todo (λ ps c i x. x) (λ ps c i x. x) h)
+  stmt (src.PrintTogether line is) todo r c h = go _ _ (c, none (src.PrintTogether line is) todo (λ ps c i x. x) (λ ps c i x. x) h)
+  stmt (src.Read line ts) todo r c h = go _ _ (c, none (src.Read line ts) todo (λ ps c i x. x) (λ ps c i x. x) h)
+  stmt (src.If line e a b) todo r c h = go _ _ ((tt, c), none (src.If line e a b) todo (λ ps c i x. x) (λ ps c i x. x) h)
+  stmt (src.Loop line order a e b) todo r c h = go _ _ (loops order a e b (piece.Within line ∷ todo) c, none (src.Loop line order a e b) todo (λ ps c i x. x) (λ ps c i x. x) h)
+  stmt (src.Break line) todo r c h = go _ _ (c, none (src.Break line) todo (λ ps c i x. x) (λ ps c i x. x) h)
+  stmt (src.Continue line) todo r c h = go _ _ (c, none (src.Continue line) todo (λ ps c i x. x) (λ ps c i x. x) h)
+  stmt (src.Return line None) todo r c h = go _ _ (c, none (src.Return line None) todo (λ ps c i x. x) (λ ps c i x. x) h)
+  stmt (src.Return line (Some e)) todo r c h = go _ _ ((tt, c), none (src.Return line (Some e)) todo (λ ps c i x. x) (λ ps c i x. x) h)
+  stmt (src.Owes line) todo r c h = go _ _ (c, none (src.Owes line) todo (λ ps c i x. x) (λ ps c i x. x) h)
+  stmt (src.Fill line n b d) todo r c h = go _ _ (c, none (src.Fill line n b d) todo (λ ps c i x. x) (λ ps c i x. x) h)
+  stmt (src.OfEvents a) todo r c h = event_step a todo (c, none (src.OfEvents a) todo (λ ps c i x. x) (λ ps c i x. x) h)
+  stmt (src.OfTasks a) todo r c h = task_step a todo c h
 
   -- coroutines
-
-  pub set_up : (r : Option Routine) (todo : List Todo) → Holding todo → StepBuilds t heads few kinds (quiet.set_up_step r todo s)
-  set_up None todo h = go _ _ h
-  set_up (Some r) todo h =
-      let q = quiet.home_at s.run.this s.env in
-      let x = quiet.fresh r s.run.this in
-      go_in _ _ _ (kept.keeps_both (kept.born_keeps q x s.env) (kept.written_keeps s.run.this _ (sw.born q x s.env))) h
 
   pub live : (r : Option Routine) (todo : List Todo) → Holding todo → StepBuilds t heads few kinds (quiet.live_step r todo s)
   live None todo h = stays _ _ h
@@ -356,7 +420,7 @@ module _ (t : Table) (heads : ℕ → ℕ → Bool) (few : Few) (kinds : List Si
 
   pub land : (w : Option UnwindReason) (todo : List Todo) → Holding todo → StepBuilds t heads few kinds (quiet.land_step w todo s)
   land None todo h = go _ _ h
-  land (Some why) todo h = go (piece.Unwind ∷ todo) [] (more (λ ps c i w K. Behind t heads ps c i todo) (λ ps c i w K. AllLeft todo) (λ ps c i w K x. building.left t heads ps c i todo x) h)
+  land (Some why) todo h = go (piece.Unwind ∷ todo) [] h
 
   -- mutex objects
 
@@ -380,16 +444,12 @@ module _ (t : Table) (heads : ℕ → ℕ → Bool) (few : Few) (kinds : List Si
   pub leave : (b : Bool) (q : ℕ) (todo : List Todo) → Holding todo → StepBuilds t heads few kinds (monitors.leave_at b q todo s)
   leave false q todo h = go_in _ _ _ (same refl refl) h
   leave true q todo h =
-      unless q _ todo h (record { apart = apart; run = polled s.run.raised todo h; callers = callers })
+      unless q _ todo h (record { anew = ((polled s.run.raised todo h).0, anew); run = (polled s.run.raised todo h).1; callers = callers })
 
   pub make : (c n : ℕ) (r : Option Routine) (todo : List Todo) → Holding todo → StepBuilds t heads few kinds (monitors.make_step c n r todo s)
   make c n None todo h = stays _ _ h
   make c n (Some r) todo h =
       either (StepBuilds t heads few kinds) (monitors.may_call r.written s) _ _ (stays_in _ _ _ (same refl refl) h) (stays todo _ h)
-
-  pub bind : (r : Option Routine) (todo : List Todo) → Holding todo → StepBuilds t heads few kinds (monitors.bind_step r todo s)
-  bind None todo h = stays _ _ h
-  bind (Some r) todo h = go_in _ _ _ (kept.written_keeps _ _ s.env) h
 
   pub condition : (n : ℕ) (i : Option ℕ) (todo : List Todo) → Holding todo → StepBuilds t heads few kinds (monitors.condition_step n i todo s)
   condition n None todo h = stays todo _ h
@@ -419,7 +479,7 @@ module _ (t : Table) (heads : ℕ → ℕ → Bool) (few : Few) (kinds : List Si
 
   pub enables : (events cell : ℕ) (todo : List Todo) → Holding todo → StepBuilds t heads few kinds (polls.enable_step events cell todo s)
   enables events cell todo h =
-      let k : Keeps s.env (written (piece.variable_at cell s) (Number (signed_64 s.env.links.enabled)) s.env) = kept.written_keeps (piece.variable_at cell s) (Number (signed_64 s.env.links.enabled)) s.env in
+      let k : Keeps s.env (written (piece.variable_at cell s) (Number (signed_64 s.env.links.enabled)) s.env) = kept.number_keeps (piece.variable_at cell s) (signed_64 s.env.links.enabled) s.env in
       go_in _ _ _ (kept.keeps_both k (kept.keeps_like refl refl)) h
 
   quiet_poll : (x : Option Pending) (todo : List Todo) → Holding todo → StepBuilds t heads few kinds (polls.quiet_poll x todo s)
@@ -437,84 +497,117 @@ module _ (t : Table) (heads : ℕ → ℕ → Bool) (few : Few) (kinds : List Si
   deliver Nothing todo h = go _ _ h
   deliver v todo h = go _ _ h
 
-  -- the running activation is told anew, and no return unwinds it
-  told : (b : Active) → b.frame ≡ s.run.frame → b.this ≡ s.run.this → b.handles ≡ s.run.handles → With (λ ps c i w K. Now t heads ps c i w K b.control b.operands) → ((home : ℕ) → b.raised ≡ Some (reason.ReturnTo home) → ⊥) → BuildsBy t heads few kinds (of_run t heads b) (record s { run = b })
-  told b e q v h none = record {
-    apart = ((subst (λ f. IsApart f s.callers) (sym e) apart.0.0, subst (λ o. HomedBy o b.frame (length s.callers)) (sym v) (subst (λ f. HomedBy s.run.handles f (length s.callers)) (sym e) apart.0.1), λ home r. absurd (none home r)), apart.1);
-    run = subst (λ v. Builds t heads few kinds s.env.exec (of_run t heads b) s.env.frames b.frame v s.callers) (sym q) (subst (λ f. Builds t heads few kinds s.env.exec (of_run t heads b) s.env.frames f s.run.this s.callers) (sym e) (builds_more t heads few kinds s.env.exec (λ ps c i w K. Now t heads ps c i w K b.control b.operands × NotBack s.run) (of_run t heads b) (λ ps c i w K x. (x.0, λ r. none b.frame r)) s.env.frames s.run.frame s.run.this s.callers h));
+  -- the running activation is told anew
+  told : (b : Active) → b.frame ≡ s.run.frame → b.this ≡ s.run.this → Holding b.control → BuildsBy t heads few kinds (of_run t heads b) (record s { run = b })
+  told b e q h = record {
+    anew = (subst (λ f. Calling (IsAnew t heads s.env.frames f) b.control) (sym e) h.0, anew);
+    run = subst (λ v. Builds t heads few kinds s.env.exec (of_run t heads b) s.env.frames b.frame v s.callers) (sym q) (subst (λ f. Builds t heads few kinds s.env.exec (of_run t heads b) s.env.frames f s.run.this s.callers) (sym e) (lost (of_run t heads b) h.1));
     callers = callers;
   }
 
-  unwinding : (todo : List Todo) → Holding todo → Holding (piece.Unwind ∷ todo)
-  unwinding todo h = more (λ ps c i w K. Behind t heads ps c i todo) (λ ps c i w K. AllLeft todo) (λ ps c i w K x. building.left t heads ps c i todo x) h
-
   pub throws : (e : Event) (todo : List Todo) → Holding todo → StepBuilds t heads few kinds (raising.throw_step e todo s)
-  throws e todo h = told _ refl refl refl (unwinding todo h) (λ home r. absurd (cc))
+  throws e todo h = told _ refl refl h
 
   -- unwinding
 
-  catches : (x : Option Handler) (e : Event) (todo : List Todo) → Nothing_left → StepBuilds t heads few kinds (raising.catch_step x e todo s)
-  catches None e todo h = gone _ _ h
-  catches (Some x) e todo h = told _ refl refl refl (lost _ h) (λ home r. absurd (cc))
+  catches : (x : Option Handler) (e : Event) (todo : List Todo) → Holding todo → StepBuilds t heads few kinds (raising.catch_step x e todo s)
+  catches None e todo h = go _ _ h
+  catches (Some x) e todo h = told _ refl refl h
 
-  guarded : (hs : Handlers) (w : Option UnwindReason) (todo : List Todo) → Nothing_left → StepBuilds t heads few kinds (raising.guard_left hs w todo s)
+  guarded : (hs : Handlers) (w : Option UnwindReason) (todo : List Todo) → Holding todo → StepBuilds t heads few kinds (raising.guard_left hs w todo s)
   guarded hs (Some (reason.Event n y z)) todo h = catches (raising.handler_for false (record { number = n; x = y; y = z }) hs) (record { number = n; x = y; y = z }) todo h
-  guarded hs w todo h = gone _ _ h
+  guarded hs w todo h = go _ _ h
 
-  whole : (b : Bool) (todo : List Todo) → Nothing_left → StepBuilds t heads few kinds (raising.whole_left b todo s)
-  whole true todo h = told _ refl refl refl (lost _ h) (λ home r. absurd (cc))
-  whole false todo h = gone _ _ h
+  whole : (b : Bool) (todo : List Todo) → Holding todo → StepBuilds t heads few kinds (raising.whole_left b todo s)
+  whole true todo h = told _ refl refl h
+  whole false todo h = go _ _ h
 
-  main_left : (w : Option UnwindReason) (todo : List Todo) → Nothing_left → StepBuilds t heads few kinds (raising.main_left w todo s)
-  main_left (Some (reason.ReturnTo n)) todo h = told _ refl refl refl (lost _ h) (λ home r. absurd (cc))
-  main_left w todo h = stays todo [] (free todo h)
+  main_left : (w : Option UnwindReason) (todo : List Todo) → Holding todo → StepBuilds t heads few kinds (raising.main_left w todo s)
+  main_left (Some (reason.ReturnTo n)) todo h = told _ refl refl h
+  main_left w todo h = stays todo [] h
 
-  coroutine_left : (w : Option UnwindReason) (todo : List Todo) → Returns w → Nothing_left → StepBuilds t heads few kinds (raising.coroutine_left w todo s)
-  coroutine_left (Some (reason.ReturnTo n)) todo calm h = told _ refl refl refl (lost _ h) (λ home r. absurd (cc))
+  coroutine_left : (w : Option UnwindReason) (todo : List Todo) → Returns w → Holding todo → StepBuilds t heads few kinds (raising.coroutine_left w todo s)
+  coroutine_left (Some (reason.ReturnTo n)) todo calm h = told _ refl refl h
   coroutine_left (Some reason.Destroyed) todo calm h = absurd calm
   coroutine_left (Some (reason.Event n x y)) todo calm h = absurd calm
   coroutine_left None todo calm h = absurd calm
 
-  -- what cleans up, before an unwinding
-  cleans : (c : CleanUp) (todo : List Todo) → Holding todo → Holding (piece.clean_todo c todo)
-  cleans (src.Destroys e) todo h = h
-  cleans (src.DestroysAll k e) todo h = h
-  cleans src.Unwinds todo h = h
-  cleans src.Forgets todo h = h
-  cleans src.Leaves todo h = h
-  cleans src.Ends todo h = h
-  cleans (src.Frees None) todo h = h
-  cleans (src.Frees (Some r)) todo h = h
-  cleans (src.Restores k) todo h = h
+  -- what cleans up
+  pub cleans : (c : CleanUp) (todo : List Todo) → Awaited Anew (piece.DropNow ∷ todo) → Holding todo → Holding (piece.clean_todo c todo)
+  cleans (src.Destroys e) todo a h = ((a, h.0), h.1)
+  cleans (src.DestroysAll k e) todo a h = h
+  cleans src.Unwinds todo a h = h
+  cleans src.Forgets todo a h = h
+  cleans src.Leaves todo a h = h
+  cleans src.Ends todo a h = h
+  cleans (src.Frees None) todo a h = h
+  cleans (src.Frees (Some r)) todo a h = h
+  cleans (src.Restores k) todo a h = h
 
-  left_cleans : (c : CleanUp) (todo : List Todo) → Holding todo → Holding (raising.left_todo c todo)
+  -- before an unwinding
+  left_cleans : (c : CleanUp) (todo : List Todo) → Holding todo → Holding (raising.left_todo c (piece.Unwind ∷ todo))
   left_cleans (src.Frees r) todo h = h
-  left_cleans c todo h = cleans c todo h
+  left_cleans c todo h = cleans c (piece.Unwind ∷ todo) tt h
 
-  scope : (c : CleanUp) (b : Bool) (todo : List Todo) → With (λ ps d i w K. IsLeft (piece.IsClean c) (AllLeft todo)) → StepBuilds t heads few kinds (raising.scope_left c b todo s)
-  scope src.Leaves true todo h = told _ refl refl refl (lost _ h) (λ home r. absurd (cc))
-  scope src.Leaves false todo h = gone _ _ h
-  scope c b todo h = go (raising.left_todo c (piece.Unwind ∷ todo)) [] (left_cleans c (piece.Unwind ∷ todo) h)
+  scope : (c : CleanUp) (b : Bool) (todo : List Todo) → Holding todo → StepBuilds t heads few kinds (raising.scope_left c b todo s)
+  scope src.Leaves true todo h = told _ refl refl h
+  scope src.Leaves false todo h = go _ _ h
+  scope c b todo h = go (raising.left_todo c (piece.Unwind ∷ todo)) [] (left_cleans c todo h)
 
-  unwind_past : (k : Sort) (todo : List Todo) → GoesPast k s.run.raised → With (λ ps c i w K. IsLeft k (AllLeft todo)) → StepBuilds t heads few kinds (raising.unwind_past k todo s)
+  unwind_past : (k : Sort) (todo : List Todo) → GoesPast k s.run.raised → Holding todo → StepBuilds t heads few kinds (raising.unwind_past k todo s)
   unwind_past piece.Simple todo calm h = go _ _ h
   unwind_past (piece.IsLoop order c e b) todo calm h = go _ _ h
   unwind_past piece.IsWhole todo calm h = whole _ todo h
   unwind_past (piece.IsClean x) todo calm h = scope x _ todo h
   unwind_past (piece.IsFill m b d) todo calm h = go _ _ h
   unwind_past (piece.IsSweep e) todo calm h = go _ _ h
-  unwind_past (piece.IsPart x) todo calm h = go _ _ (cleans x (piece.Unwind ∷ todo) h)
+  unwind_past (piece.IsPart x) todo calm h = go _ _ (cleans x (piece.Unwind ∷ todo) tt h)
   unwind_past (piece.IsGuard hs) todo calm h = guarded hs s.run.raised todo h
   unwind_past piece.IsFinish todo calm h = main_left s.run.raised todo h
   unwind_past piece.IsFinishCoroutine todo calm h = coroutine_left s.run.raised todo calm h
 
-  pub unwinds : BuildsBy t heads few kinds (of_wait t heads s.run) s → (todo : List Todo) → GoesOn (piece.Unwind ∷ todo) s.run.raised → With (λ ps c i w K. AllLeft todo) → StepBuilds t heads few kinds (raising.unwind_step todo s)
-  unwinds stay [] calm h = leaves stay s.callers apart.0.2 life.frames life.stack.1 callers apart.1
-  unwinds stay (p ∷ ps) calm h = unwind_past (piece.sort p) ps calm h
+  tail : (p : Todo) (todo : List Todo) → Holding (p ∷ todo) → Holding todo
+  tail p todo h = (tail_calling Anew p todo h.0, h.1)
 
-  pub exits : BuildsBy t heads few kinds (of_wait t heads s.run) s → (w : Way) (todo : List Todo) → Nothing_left → StepBuilds t heads few kinds (quiet.exit_step w todo s)
+  pub unwinds : BuildsBy t heads few kinds of_wait s → (todo : List Todo) → GoesOn (piece.Unwind ∷ todo) s.run.raised → Holding todo → StepBuilds t heads few kinds (raising.unwind_step todo s)
+  unwinds stay [] calm h = leaves stay s.callers life.frames life.stack.1 callers anew
+  unwinds stay (p ∷ ps) calm h = unwind_past (piece.sort p) ps calm (tail p ps h)
+
+  -- exits
+
+  left_loop : (w : Way) (order : Order) (a : Expr) (e : Option Expr) (b : Stmt) (todo : List Todo) → Holding todo → Holding (quiet.loop_left w order a e b todo)
+  left_loop src.ToBreak order a e b todo h = h
+  left_loop src.ToContinue order a e b todo h = h
+  left_loop src.ToReturn order a e b todo h = h
+  left_loop src.ToEnd order a e b todo h = h
+
+  left_behind : (w : Way) (k : Sort) (todo : List Todo) → Holding todo → Holding (quiet.left_behind w k todo)
+  left_behind w piece.Simple todo h = h
+  left_behind w (piece.IsLoop order a e b) todo h = left_loop w order a e b todo h
+  left_behind w piece.IsWhole todo h = h
+  left_behind w (piece.IsClean c) todo h = h
+  left_behind w (piece.IsFill n b d) todo h = h
+  left_behind w (piece.IsSweep e) todo h = h
+  left_behind w (piece.IsPart c) todo h = h
+  left_behind w (piece.IsGuard hs) todo h = h
+  left_behind w piece.IsFinish todo h = h
+  left_behind w piece.IsFinishCoroutine todo h = h
+
+  pub exits : BuildsBy t heads few kinds of_wait s → (w : Way) (todo : List Todo) → Holding todo → StepBuilds t heads few kinds (quiet.exit_step w todo s)
   exits stay w [] h = end_step stay w
-  exits stay w (p ∷ ps) h = gone _ _ h
+  exits stay w (p ∷ ps) h = go _ _ (left_behind w (piece.sort p) ps (tail p ps h))
+
+  -- the branch of a clause
+  pub branch : (k : ℕ) (cs : Clauses) (todo : List Todo) → AwaitedRest Anew todo → Calling Anew todo → Calling Anew (monitors.branch_todo k cs todo)
+  branch k src.NoClauses todo a c = c
+  branch k (src.Otherwise b) todo a c = by (nat_eq k 0)
+    where
+      by : (x : Bool) → Calling Anew (if x then piece.Do b ∷ todo else todo)
+      by true = (a, c)
+      by false = c
+  branch zero (src.MoreClauses guard b cs) todo a c = branch zero cs todo a c
+  branch (suc zero) (src.MoreClauses guard b cs) todo a c = (a, c)
+  branch (suc (suc k)) (src.MoreClauses guard b cs) todo a c = branch (suc k) cs todo a c
 
   -- printing
 

@@ -11,7 +11,7 @@ use Rattle.uc_life_laws.specs.Things.{Few, Known}
 use Rattle.uc_life_laws.specs.Lives.{MakingAt, MakingIn}
 use Rattle.uc_life_laws.proofs.Knowns.{known_more}
 use Rattle.uc_life_laws.proofs.LivesLemmas.{Below, at_newer, in_newer, at_older, in_older}
-use Rattle.uc_building_laws.specs.Building.{Starts, Onwards, Now}
+use Rattle.uc_building_laws.specs.Building.{Starts, StartsAside, Onwards, Lands, Now}
 use Rattle.uc_building_laws.specs.BuildingStates.{variable, AtScope, Nears, IsBuilt, IsMaking, Builds, of_wait, AllBuild, BuildsBy, Stands}
 use Rattle.uc_building_laws.proofs.Building.{awaits_more}
 
@@ -27,14 +27,29 @@ module _ (t : Table) (heads : ℕ → ℕ → Bool) (ps : List Ty) (c i : ℕ) (
   starts_more (src.OfObject (src.OwnField s m)) (piece.Eval e ∷ (piece.BindNow ∷ todo)) h = h
   starts_more e todo h = absurd h
 
+  lands_more : (todo : List Todo) (vs : List Value) → Lands t heads ps c i w K todo vs → Lands t heads ps c i w L todo vs
+  lands_more (piece.FieldNow s m ∷ todo) vs h = lands_more todo vs h
+  lands_more (piece.BindNow ∷ todo) vs h = h
+  lands_more (piece.KeepNow ∷ todo) vs h = h
+  lands_more todo vs h = absurd h
+
+  starts_aside_more : (e : Expr) (todo : List Todo) → StartsAside t heads ps c i w K e todo → StartsAside t heads ps c i w L e todo
+  starts_aside_more (src.OfObject (src.OwnField s m)) (piece.Eval e ∷ (piece.BindNow ∷ todo)) h = h
+  starts_aside_more (src.OfObject (src.OwnField s m)) (piece.Eval e ∷ (piece.KeepNow ∷ todo)) h = h
+  starts_aside_more e todo h = absurd h
+
   pub now_more : (todo : List Todo) (vs : List Value) → Now t heads ps c i w K todo vs → Now t heads ps c i w L todo vs
   now_more (piece.Do a ∷ todo) vs h = h
+  now_more (piece.KeepNow ∷ todo) vs h = h
+  now_more (piece.SetUpNow r ∷ todo) vs h = h
   now_more (piece.Eval e ∷ todo) vs (inl (inl h)) = inl (inl h)
   now_more (piece.Eval e ∷ todo) vs (inl (inr (inl h))) = inl (inr (inl (starts_more e todo h)))
   now_more (piece.Eval e ∷ todo) vs (inl (inr (inr h))) = inl (inr (inr (h.0, h.1, onwards_more h.0 todo vs h.2)))
-  now_more (piece.Eval e ∷ todo) vs (inr h) = inr h
+  now_more (piece.Eval e ∷ todo) vs (inr (inl h)) = inr (inl h)
+  now_more (piece.Eval e ∷ todo) vs (inr (inr (inl h))) = inr (inr (inl (starts_aside_more e todo h)))
+  now_more (piece.Eval e ∷ todo) vs (inr (inr (inr h))) = inr (inr (inr (h.0, lands_more todo vs h.1)))
   now_more (piece.FieldNow s m ∷ todo) vs (inl h) = inl (h.0, onwards_more h.0 (piece.FieldNow s m ∷ todo) (piece.below vs) h.1, more h.0 (piece.top vs) h.2)
-  now_more (piece.FieldNow s m ∷ todo) vs (inr h) = inr h
+  now_more (piece.FieldNow s m ∷ todo) vs (inr h) = inr (lands_more todo (piece.below vs) h)
   now_more (piece.BindNow ∷ todo) vs (inl h) = inl (h.0, onwards_more h.0 (piece.BindNow ∷ todo) (piece.below vs) h.1, more h.0 (piece.top vs) h.2)
   now_more (piece.BindNow ∷ todo) vs (inr h) = inr h
   now_more todo vs h = h
@@ -76,7 +91,7 @@ module _ (t : Table) (heads : ℕ → ℕ → Bool) (few : Few) (gs hs : List Si
           known_object = known_more t few n K L more (Obj c) w h.known_object;
           params = h.params;
           known = λ k b i. known_more t few n K L more b _ (h.known k b i);
-          fields = λ i x told. ⊎_elim (λ y. inl (λ p b z u. known_more t few n K L more b _ (y p b z u))) (λ y. inr (left h.params c i w y)) (h.fields i x told);
+          fields = λ i x told. ⊎_elim (λ y. inl (λ p b z u. known_more t few n K L more b _ (y p b z u))) (λ y. inr (left h.params c i w y.0, y.1)) (h.fields i x told);
         }
 
     module _ (P Q : List Ty → ℕ → ℕ → Value → (Ty → Value → Type 0) → Type 0) (left : (K L : Value → Ty → Type 0) → ((w : Value) (a : Ty) → K w a → L w a) → (ps : List Ty) (c i : ℕ) (w : Value) → P ps c i w (Known t few n K) → Q ps c i w (Known t few n L)) where
@@ -87,14 +102,14 @@ module _ (t : Table) (heads : ℕ → ℕ → Bool) (few : Few) (gs hs : List Si
 
     pub all_by : (fs : List (List Value)) (cs : List Active) → AllMade gs hs cs → AllBuild t heads few gs n fs cs → AllBuild t heads few hs n fs cs
     all_by fs [] m h = tt
-    all_by fs (a ∷ older) m h = (builds_by (of_wait t heads a) (of_wait t heads a) (λ K L more ps c i w y. y) fs a.frame a.this older m.1 h.0, all_by fs older m.1 h.1)
+    all_by fs (a ∷ older) m h = (builds_by of_wait of_wait (λ K L more ps c i w y. y) fs a.frame a.this older m.1 h.0, all_by fs older m.1 h.1)
 
   pub stands_by : (u : State) → AllMade gs hs (u.run ∷ u.callers) → Stands t heads few gs u → Stands t heads few hs u
   stands_by u m h = nears_more _ _ (λ c todo x k i d. built_more u.env.exec (AtScope t few gs u.env.exec u.run.frame u.run.this u.callers c todo) (AtScope t few hs u.env.exec u.run.frame u.run.this u.callers c todo) (at_more u.env.exec u.run.frame u.run.this u.callers m.0 c todo) u.env.frames u.run.frame (variable u.env.exec u.run.frame k) i (x k i d)) u.run.control h
 
   pub by_kinds : (P Q : List Ty → ℕ → ℕ → Value → (Ty → Value → Type 0) → Type 0) (u : State) → ((K L : Value → Ty → Type 0) → ((w : Value) (a : Ty) → K w a → L w a) → (ps : List Ty) (c i : ℕ) (w : Value) → P ps c i w (Known t few u.env.exec K) → Q ps c i w (Known t few u.env.exec L)) → AllMade gs hs (u.run ∷ u.callers) → BuildsBy t heads few gs P u → BuildsBy t heads few hs Q u
   by_kinds P Q u left m h = record {
-    apart = h.apart;
+    anew = h.anew;
     run = builds_by u.env.exec P Q left u.env.frames u.run.frame u.run.this u.callers m.1 h.run;
     callers = all_by u.env.exec u.env.frames u.callers m.1 h.callers;
   }

@@ -45,9 +45,12 @@ use Rattle.uc_sound.specs.Sounds.{of_program}
 use Rattle.uc_sound.specs.Tables.{table_of}
 use Rattle.uc_sound.proofs.MainLemmas.{law_mains}
 use Rattle.uc_sound.proofs.SoundLemmas.{law_sound}
-use Rattle.uc_place_laws.specs.Opened.{OpensNone, OpenedRoutine}
+use Rattle.uc_place_laws.specs.Opened.{OpensNone, BuildsNone, OpenedRoutine}
 use Rattle.uc_place_laws.proofs.Openings.{law_opened}
 use Rattle.uc_place_laws.proofs.OpeningRuns.{law_runs as called}
+use Rattle.uc_place_laws.proofs.SparingRuns.{law_sparing as sparing}
+use Rattle.uc_place_laws.proofs.Addresses.{law_addresses as addresses}
+use Rattle.uc_state_laws.specs.Limits.{IsWithinLimits}
 use Rattle.uc_life_laws.specs.Things.{Few, IsField, Known, Holds}
 use Rattle.uc_life_laws.specs.LifeStates.{MembersBy, frame_at, Outwards, OpensAtBy, OpensBy}
 use Rattle.uc_life_laws.specs.LifeRuns.{IsLaidOut}
@@ -72,11 +75,11 @@ use Rattle.uc_life_laws.proofs.Parked.{Ex}
 use Rattle.uc_life_laws.proofs.WorldsBy as by
 use Rattle.uc_life_laws.proofs.WorldsBy.{KeepsBy}
 use Rattle.uc_building_laws.specs.Building.{heads_of}
-use Rattle.uc_building_laws.specs.BuildingStates.{variable, of_wait, BuildsBy, Stands, Left, Built, BuiltState}
+use Rattle.uc_building_laws.specs.BuildingStates.{variable, of_wait, BuildsBy, Stands, Starts, BuildsRest, Left, Built, BuiltState}
 use Rattle.uc_building_laws.specs.BuiltLasting.{FindsBuilt}
 use Rattle.uc_building_laws.specs.BuildingRuns.{OthersHold, MeetsBuilding, LawBuilt}
 use Rattle.uc_building_laws.proofs.Building.{whole_built, where_bound}
-use Rattle.uc_building_laws.proofs.Constructors.{fair}
+use Rattle.uc_building_laws.proofs.Constructors.{fair, law_heads}
 use Rattle.uc_building_laws.proofs.Kept.{rest_left, built_kept, fresh_built, law_kept}
 use Rattle.uc_building_laws.proofs.Walk.{law_steps}
 
@@ -109,10 +112,14 @@ module _ (source : Source) (opts : Options) (P Q : State → Type 0) where
     run_to (more {j} {w} r on (acts q n k s asked d)) f h =
         (run_to r f.0 h.0, ride_to j w n d.given q d.runs d.told (λ v c m x. turn j w r f.0 on h.0 n v c m x) runs.stays tt d.rides h.1)
 
--- no routine begins with the scope of an object that is a variable
+-- no routine begins with the scope of an object that is a variable, nor with what builds one
 begins_open : (p : Program) (r : Option Routine) → OpenedRoutine p r → OpensNone (routine_or_none r).body
 begins_open p None h = tt
 begins_open p (Some r) h = h.0
+
+begins_built : (p : Program) (r : Option Routine) → OpenedRoutine p r → BuildsNone (routine_or_none r).body
+begins_built p None h = tt
+begins_built p (Some r) h = h.2
 
 module _ (p : Program) (formed : IsFormed p) (accepted : breaks_of p ≡ []) where
   abbrev source : Source
@@ -150,39 +157,40 @@ module _ (p : Program) (formed : IsFormed p) (accepted : breaks_of p ≡ []) whe
 
     -- of the running execution
     abbrev Runs_by : List Sig → List Ty → State → Type 0
-    Runs_by gs given s = Lives t few s.env.exec gs (stopped s) × BuildsBy t (heads_of p) few gs (Left t (heads_of p) given s.run) s × Stands t (heads_of p) few gs s
+    Runs_by gs given s = Lives t few s.env.exec gs (stopped s) × BuildsBy t (heads_of p) few gs (Left t (heads_of p) given s.run) s × Stands t (heads_of p) few gs s × Starts t (heads_of p) few gs s
 
     operand : (a : Ty) (given : List Ty) (v : Value) (s : State) → S (a ∷ given) s → ((gs : List Sig) → Known t few s.env.exec (AtHand t few s.env.exec gs (s.run ∷ s.callers)) a v) → S given (with_operand v s)
     operand a given v s x i =
         let y = answers.brought_claims t few J a given v s x.0 i in
-        let b : BuildsBy t (heads_of p) few x.0.sigs (of_wait t (heads_of p) (with_operand v s).run) (with_operand v s) = record { apart = x.1.1.apart; run = x.1.1.run; callers = x.1.1.callers } in
-        (y.0, subst (λ gs. Runs_by gs given (with_operand v s)) (sym y.1) (record { frames = x.1.0.frames; stack = (x.1.0.stack.0, x.1.0.stack.1, x.1.0.stack.2) }, rest_left t (heads_of p) few x.0.sigs given (with_operand v s) b, x.1.2))
+        let b : BuildsBy t (heads_of p) few x.0.sigs of_wait (with_operand v s) = record { anew = x.1.1.anew; run = x.1.1.run; callers = x.1.1.callers } in
+        (y.0, subst (λ gs. Runs_by gs given (with_operand v s)) (sym y.1) (record { frames = x.1.0.frames; stack = (x.1.0.stack.0, x.1.0.stack.1, x.1.0.stack.2) }, rest_left t (heads_of p) few x.0.sigs given (with_operand v s) b, x.1.2, x.1.3))
 
     member : (given : List Ty) (m : Option Members) (o : ℕ) (s : State) → MembersBy P (home.Object o) m → S given s → S given (entered m o s)
     member given None o s k x = x
     member given (Some m) o s k x =
         let y = answers.entered_claims t few J given (Some m) o s k x.0 in
-        (y.0, subst (λ gs. Runs_by gs given (entered (Some m) o s)) (sym y.1) (x.1.0, record { apart = x.1.1.apart; run = x.1.1.run; callers = x.1.1.callers }, x.1.2))
+        (y.0, subst (λ gs. Runs_by gs given (entered (Some m) o s)) (sym y.1) (x.1.0, record { anew = x.1.1.anew; run = x.1.1.run; callers = x.1.1.callers }, x.1.2, x.1.3))
 
     fresh_main : (r : ℕ) (x : Routine) (n : ℕ) → slice_get source.routines r ≡ Some x → IsTask t r → J (main_of n) (t.routine r ∷ []) (fresh x (Object n))
     fresh_main r x n e h = ((life_kept t few (OutwardsOrMade (t.routine r ∷ []))).begins (main_of n) x (Object n), fresh_built t (heads_of p) few (main_of n) (t.routine r ∷ []) x (Object n))
 
     first : (r n : ℕ) → Claimed J t few [] (first_state (routine_of source r) n) → S [] (first_state (routine_of source r) n)
     first r n y =
-        (y.0, (y.1.0, record { apart = y.1.1.apart; run = y.1.1.run; callers = y.1.1.callers }, (law_steps.begins t (heads_of p) few y.0.sigs source r n (begins_open p (slice_get source.routines r) (law_opened p r))).stands))
+        let b : BuildsRest t (heads_of p) few y.0.sigs (first_state (routine_of source r) n) = law_steps.begins t (heads_of p) few y.0.sigs source r n (begins_open p (slice_get source.routines r) (law_opened p r)) (begins_built p (slice_get source.routines r) (law_opened p r)) in
+        (y.0, (y.1.0, record { anew = y.1.1.anew; run = y.1.1.run; callers = y.1.1.callers }, b.stands, b.starts))
 
     -- a step finds what it is to find, in a state in which that is known
     abbrev pub Follows : State → Type 0
-    Follows s = StackState Z s × FindsBuilt t (heads_of p) few source s
+    Follows s = StackState Z s × FindsBuilt p few s
 
     pub keeps : KeepsBy t few source (λ s. Unit {0}) S P Follows
     keeps = record {
       hand = λ given s x. x.0.env.hand;
-      handed = λ given hand s x h. (record { sigs = x.0.sigs; frames = x.0.frames; run = x.0.run; callers = x.0.callers; env = record { house = x.0.env.house; hand = h } }, (x.1.0, record { apart = x.1.1.apart; run = x.1.1.run; callers = x.1.1.callers }, x.1.2));
+      handed = λ given hand s x h. (record { sigs = x.0.sigs; frames = x.0.frames; run = x.0.run; callers = x.0.callers; env = record { house = x.0.env.house; hand = h } }, (x.1.0, record { anew = x.1.1.anew; run = x.1.1.run; callers = x.1.1.callers }, x.1.2, x.1.3));
       told = λ q a s x h i. answers.told t few S P operand member source q a s x h i;
       spawned = λ o n s x i. first (child_main source s.run.control) n (answers.begins t few J (built_kept t (heads_of p) few) source sound fresh_main (child_main source s.run.control) n x.0 i);
       begins = λ i. first source.main 0 (answers.begins t few J (built_kept t (heads_of p) few) source sound fresh_main source.main 0 main i);
-      steps = λ s clear m l x. let y = m.1 x in law_kept.steps t (heads_of p) few source p sound laid s m.0 y.0 y.1 y.2 y.3;
+      steps = λ s clear m l x. let y = m.1 x in law_kept.steps t (heads_of p) few source p sound laid (law_heads.spans p formed accepted) s m.0 y.0 y.1 y.2 y.3;
     }
 
     module _ (input : List ℕ) (opts : Options) (range : InRange opts) (j : Journal) (w : World) (r : Runs source input opts j w) (fits : RunFits source input opts j w r) (on : is_over j ≡ false) (world : by.KnownWorld t few source Z laid known (λ s. Unit {0}) (λ w. Unit {0}) S P Follows (nothing_beside t source S Follows) keeps j w) where
@@ -230,7 +238,7 @@ module _ (p : Program) (formed : IsFormed p) (accepted : breaks_of p ≡ []) whe
   abbrev M : State → Type 0
   M s = MeetsBuilding t (heads_of p) source s
 
-  module _ (input : List ℕ) (opts : Options) (range : InRange opts) where
+  module _ (within : IsWithinLimits p) (input : List ℕ) (opts : Options) (range : InRange opts) where
     follows : (j : Journal) (w : World) (r : Runs source input opts j w) → RunFits source input opts j w r → is_over j ≡ false → RunMeets M source input opts j w r → (n : ℕ) (s : State) (c : Comes source j w n s) → LeadsMeet M source (answered source c.given (drawn j w n)) s c.leads → M s → Follows any s
     follows j w r f on m n s c l h =
         let st : StackState Z s = (stacked.law_frame_runs p accepted input opts j w r).comes n s c in
@@ -238,7 +246,7 @@ module _ (p : Program) (formed : IsFormed p) (accepted : breaks_of p ≡ []) whe
           st,
           λ z.
               let y = h.finds z in
-              (y.0, y.1.0, opens s y.0 st h.opens good y.1.1, fair p formed accepted any s (knows s y.0) h.anew (called.comes p formed accepted input opts range j w r f on n s c)),
+              (y.0, y.1.0, opens s y.0 st h.opens good y.1.1, fair p formed accepted any s (knows s y.0) (addresses.comes p within input opts j w r n s c) (sparing.comes p formed accepted input opts range j w r f on n s c) (called.comes p formed accepted input opts range j w r f on n s c)),
         )
 
     module _ (j : Journal) (w : World) (r : Runs source input opts j w) (f : RunFits source input opts j w r) (on : is_over j ≡ false) (m : RunMeets M source input opts j w r) where
@@ -262,8 +270,8 @@ module _ (p : Program) (formed : IsFormed p) (accepted : breaks_of p ≡ []) whe
 
 pub law_built : LawBuilt
 law_built = record {
-  comes = λ p formed accepted input opts range j w r f on m n s c l. here p formed accepted input opts range j w r f on m n s c l;
-  runs = λ p formed accepted input opts range j w r f m. ran p formed accepted input opts range r f m;
-  leads = λ p formed accepted input opts range j w r f on m n s c l. led p formed accepted input opts range j w r f on m n s c l;
-  here = λ p formed accepted input opts range j w r f on m n s c l h. met p formed accepted input opts range j w r f on m n s c l h;
+  comes = λ p formed accepted within input opts range j w r f on m n s c l. here p formed accepted within input opts range j w r f on m n s c l;
+  runs = λ p formed accepted within input opts range j w r f m. ran p formed accepted within input opts range r f m;
+  leads = λ p formed accepted within input opts range j w r f on m n s c l. led p formed accepted within input opts range j w r f on m n s c l;
+  here = λ p formed accepted within input opts range j w r f on m n s c l h. met p formed accepted within input opts range j w r f on m n s c l h;
 }

@@ -1,11 +1,11 @@
 -- What builds an object in which references are bound: the statements of its constructor, and to-do lists in which some of them are left.
-use Rattle.std.specs.Prelude.{◌≡◌, ℕ, ◌≤◌, ◌⊎◌, ◌&&◌, ◌||◌, Bool, true, false, List, [], ◌∷◌, nat_eq, if◌then◌else◌}
+use Rattle.std.specs.Prelude.{◌≡◌, ℕ, ◌≤◌, ◌⊎◌, ◌&&◌, ◌||◌, Bool, true, false, List, ◌∷◌, nat_eq, nat_lt, if◌then◌else◌}
 use Rattle.uc_tree.specs.declared.kinds.Role.TheVariants as role
 use Rattle.uc_tree.specs.Objects.{written_at}
 use Rattle.uc_tree.specs.Programs.{Program}
-use Rattle.uc_tree.specs.Source.{Expr, ObjectExpr, Get, OfObject, OwnField, GetOwn, FieldOf, Bind, Leaves, Stmt, Stmts, Evaluate, Fill, OfTasks, SetUp, Nil, Then, Scoped, Built, routine_of}
+use Rattle.uc_tree.specs.Source.{field_cells, Expr, ObjectExpr, Literal, Get, Assign, OfObject, OwnField, GetOwn, FieldOf, Bind, Stmt, Stmts, Evaluate, Fill, OfTasks, SetUp, Nil, Then, Scoped, Built, routine_of}
 use Rattle.uc_machine.specs.Pieces as piece
-use Rattle.uc_machine.specs.Pieces.{FieldAt, Value, Todo, Sort, sort, LAST_ADDRESS, top, below, further}
+use Rattle.uc_machine.specs.Pieces.{FieldAt, Value, Todo, LAST_ADDRESS, top, below, further}
 use Rattle.uc_resolve.specs.Resolve.{source_of}
 use Rattle.uc_typing.specs.Typing.{Ty, Cell, Obj, Table, IsParam, IsPlaced}
 use Rattle.uc_life_laws.specs.Things.{IsField, IsBinding}
@@ -13,12 +13,26 @@ use Rattle.uc_place_laws.specs.Opened.{role_number}
 
 -- statements
 
--- a statement among those that build fields, in which no other statement stands
-abbrev pub IsHead : Stmt → Type 0 → Type 0
-IsHead (Evaluate line e) rest = rest
-IsHead (Fill line n b d) rest = rest
-IsHead (OfTasks (SetUp r)) rest = rest
-IsHead a rest = ⊥
+-- found without a call, without a fault, and without anything that is bound: literals, parameters, fields of the object at hand and what they hold, and
+-- fields of these
+abbrev mutual
+  pub is_calm : Expr → Bool
+  is_calm (Literal n) = true
+  is_calm (Get k) = true
+  is_calm (OfObject o) = is_calm_object o
+  is_calm e = false
+
+  pub is_calm_object : ObjectExpr → Bool
+  is_calm_object (OwnField s m) = true
+  is_calm_object (GetOwn s m) = true
+  is_calm_object (FieldOf s m e) = is_calm e
+  is_calm_object o = false
+
+-- another field of the object at hand than this is bound to what is found so, or a number that is is written to one
+abbrev pub is_aside : ℕ → Expr → Bool
+is_aside i (OfObject (Bind (OfObject (OwnField s m)) e)) = (if nat_eq m i then false else true) && is_calm e
+is_aside i (Assign (OfObject (OwnField s m)) e) = is_calm e
+is_aside i e = false
 
 -- an expression binds another field of the object at hand than this, or none
 abbrev pub is_other : ℕ → Expr → Bool
@@ -34,6 +48,19 @@ is_settled i (Then (OfTasks (SetUp r)) rest) = is_settled i rest
 is_settled i (Then a rest) = true
 is_settled i (Scoped x rest) = true
 is_settled i (Built x rest) = is_settled i rest
+
+-- a cell stands before the field i where the first statements bind it
+abbrev pub is_late : ℕ → Expr → Bool
+is_late i (OfObject (Bind (OfObject (OwnField s m)) e)) = if nat_eq m i then nat_lt 0 (field_cells s m) else true
+is_late i e = true
+
+abbrev pub is_behind : ℕ → Stmts → Bool
+is_behind i Nil = true
+is_behind i (Then (Evaluate line e) rest) = is_late i e && is_behind i rest
+is_behind i (Then (OfTasks (SetUp r)) rest) = is_behind i rest
+is_behind i (Then a rest) = true
+is_behind i (Scoped x rest) = true
+is_behind i (Built x rest) = is_behind i rest
 
 -- `told`: the fields that have been bound so, and stay so
 module _ (told : ℕ → Bool) where
@@ -56,19 +83,32 @@ module _ (told : ℕ → Bool) where
   is_bound_by i (OfObject (Bind (OfObject (OwnField s m)) e)) = nat_eq m i && is_path e
   is_bound_by i e = false
 
-  -- those that are so behind an expression, before these statements
-  abbrev pub told_behind : Expr → Stmts → ℕ → Bool
-  told_behind e rest m = told m || (is_bound_by m e && is_settled m rest)
+-- `clean`: the fields before which nothing is done but that: numbers are written to fields, other fields are bound, and where a cell stands before it an
+-- execution is set up, which that names
+module _ (clean : ℕ → Bool) where
+  abbrev pub clean_behind : Expr → ℕ → Bool
+  clean_behind e m = clean m && is_aside m e
 
--- by one of the first statements, before all that builds no fields
-abbrev pub is_bound_in : (ℕ → Bool) → ℕ → Stmts → Bool
-is_bound_in told i Nil = false
-is_bound_in told i (Then (Evaluate line e) rest) = is_bound_by told i e || is_bound_in (told_behind told e rest) i rest
-is_bound_in told i (Then (Fill line n b d) rest) = is_bound_in told i rest
-is_bound_in told i (Then (OfTasks (SetUp r)) rest) = is_bound_in told i rest
-is_bound_in told i (Then a rest) = false
-is_bound_in told i (Scoped x rest) = false
-is_bound_in told i (Built x rest) = is_bound_in told i rest
+  abbrev pub clean_up : Stmts → ℕ → Bool
+  clean_up rest m = clean m && is_behind m rest
+
+  -- those that have been bound so behind an expression, before these statements
+  abbrev pub told_behind : (ℕ → Bool) → Expr → Stmts → ℕ → Bool
+  told_behind told e rest m = told m || (clean m && (is_bound_by told m e && is_settled m rest))
+
+-- by one of the first statements, before which nothing else is done
+abbrev pub is_bound_in : (clean told : ℕ → Bool) → ℕ → Stmts → Bool
+is_bound_in clean told i Nil = false
+is_bound_in clean told i (Then (Evaluate line e) rest) =
+    (clean i && is_bound_by told i e) || is_bound_in (clean_behind clean e) (told_behind clean told e rest) i rest
+is_bound_in clean told i (Then (OfTasks (SetUp r)) rest) = is_bound_in (clean_up clean rest) told i rest
+is_bound_in clean told i (Then a rest) = false
+is_bound_in clean told i (Scoped x rest) = false
+is_bound_in clean told i (Built x rest) = is_bound_in clean told i rest
+
+-- all are clean before the first statement
+abbrev pub all_clean : ℕ → Bool
+all_clean m = true
 
 -- none is told before the first statement
 abbrev pub none_told : ℕ → Bool
@@ -76,7 +116,7 @@ none_told m = false
 
 -- the fields that the constructors of a program bind so, by the number of the class and their own
 abbrev pub heads_of : Program → ℕ → ℕ → Bool
-heads_of p c i = is_bound_in none_told i (routine_of (source_of p) (role_number p c role.Constructor (written_at p c role.Constructor))).body
+heads_of p c i = is_bound_in all_clean none_told i (routine_of (source_of p) (role_number p c role.Constructor (written_at p c role.Constructor))).body
 
 -- `ps`: the types of the parameters of a constructor of the class c; `F m`: its field m has been bound so, and stays so
 module _ (t : Table) (ps : List Ty) (c : ℕ) (F : ℕ → Type 0) where
@@ -111,46 +151,36 @@ module _ (t : Table) (ps : List Ty) (c : ℕ) (F : ℕ → Type 0) where
 abbrev pub StaysBy : (ℕ → ℕ → Bool) → ℕ → ℕ → ℕ → Type 0 → Type 0
 StaysBy heads c i m settled = (heads c m ≡ true) × (m ≡ i → ⊥) × settled
 
+-- what is done before the field i of an object of the class c is bound
+module _ (t : Table) (c i : ℕ) where
+  -- another field, to which something may be bound
+  abbrev pub IsBeside : ℕ → Type 0
+  IsBeside m = (m ≡ i → ⊥) × IsField t c m × ((a : Ty) × (t.fields c m ≡ Cell a))
+
+  -- another field is bound to what is found so, or a number that is is written
+  abbrev pub Asides : Expr → Type 0
+  Asides (OfObject (Bind (OfObject (OwnField s m)) e)) = (s ≡ t.shape c) × (is_calm e ≡ true) × IsBeside m
+  Asides (Assign (OfObject (OwnField s m)) e) = is_calm e ≡ true
+  Asides e = ⊥
+
+  -- a cell stands before it, in which an execution is named that is set up
+  abbrev pub IsLed : Type 0
+  IsLed = 1 ≤ field_cells (t.shape c) i
+
+  abbrev pub IsHead : Stmt → Type 0 → Type 0
+  IsHead (Evaluate line e) rest = Asides e × rest
+  IsHead (OfTasks (SetUp r)) rest = IsLed × rest
+  IsHead a rest = ⊥
+
 module _ (t : Table) (heads : ℕ → ℕ → Bool) (ps : List Ty) (c i : ℕ) where
   -- the field i is bound so by one of the first statements
   abbrev pub InHead : Stmts → Type 0
   InHead Nil = ⊥
-  InHead (Then a rest) = BindsBy t ps c (λ m. StaysBy heads c i m (is_settled m rest ≡ true)) i a ⊎ IsHead a (InHead rest)
+  InHead (Then a rest) = BindsBy t ps c (λ m. StaysBy heads c i m (is_settled m rest ≡ true)) i a ⊎ IsHead t c i a (InHead rest)
   InHead (Scoped x rest) = ⊥
   InHead (Built x rest) = InHead rest
 
 -- to-do lists
-
--- who leaves such a list by an unwinding leaves all of it: no handler stands in it, nothing that is left as a whole and no end of a main
-abbrev pub IsLeft : Sort → Type 0 → Type 0
-IsLeft piece.IsWhole rest = ⊥
-IsLeft (piece.IsGuard hs) rest = ⊥
-IsLeft piece.IsFinish rest = ⊥
-IsLeft piece.IsFinishCoroutine rest = ⊥
-IsLeft (piece.IsClean Leaves) rest = ⊥
-IsLeft k rest = rest
-
-abbrev pub AllLeft : List Todo → Type 0
-AllLeft [] = Unit {0}
-AllLeft (p ∷ todo) = IsLeft (sort p) (AllLeft todo)
-
--- a piece of an expression that is evaluated, or of elements that are built, with what stands behind it
-abbrev pub Passing : Todo → Type 0 → Type 0
-Passing (piece.ClearNow k n) rest = ⊥
-Passing (piece.Variables ds) rest = ⊥
-Passing (piece.Branch a b) rest = ⊥
-Passing (piece.TurnNow o e step b) rest = ⊥
-Passing (piece.Again o e step b) rest = ⊥
-Passing (piece.Exit w) rest = ⊥
-Passing (piece.ChooseNow cs) rest = ⊥
-Passing (piece.InLoop o e step b) rest = ⊥
-Passing piece.InWhole rest = ⊥
-Passing (piece.Clean x) rest = ⊥
-Passing (piece.Part x) rest = ⊥
-Passing (piece.Guard hs) rest = ⊥
-Passing piece.Finish rest = ⊥
-Passing piece.FinishCoroutine rest = ⊥
-Passing p rest = rest
 
 -- none of the statements that are left binds the field m, behind what is evaluated now
 abbrev pub Settled : ℕ → List Todo → Type 0
@@ -166,13 +196,13 @@ module _ (t : Table) (heads : ℕ → ℕ → Bool) (ps : List Ty) (c i : ℕ) w
   abbrev pub Stays : List Todo → ℕ → Type 0
   Stays todo m = StaysBy heads c i m (Settled m todo)
 
-  -- the field is bound by the statements that are left, behind what is evaluated now; or all is left
+  -- the field is bound by the statements that are left, before anything is called
   abbrev pub Behind : List Todo → Type 0
-  Behind [] = ⊥
-  Behind (piece.Rest ss ∷ todo) = InHead t heads ps c i ss × AllLeft todo
-  Behind (piece.Do a ∷ todo) = IsHead a (Behind todo)
-  Behind (piece.Unwind ∷ todo) = AllLeft todo
-  Behind (p ∷ todo) = Passing p (Behind todo)
+  Behind (piece.Rest ss ∷ todo) = InHead t heads ps c i ss
+  Behind (piece.Do a ∷ todo) = IsHead t c i a (Behind todo)
+  Behind (piece.DropNow ∷ todo) = Behind todo
+  Behind (piece.Within line ∷ todo) = Behind todo
+  Behind todo = ⊥
 
   -- `w`: the place of the object; `K`: what the values of parameters are known to
   module _ (w : Value) (K : Ty → Value → Type 0) where
@@ -184,12 +214,12 @@ module _ (t : Table) (heads : ℕ → ℕ → Bool) (ps : List Ty) (c i : ℕ) w
     abbrev pub Onwards : Ty → List Todo → List Value → Type 0
     Onwards a (piece.FieldNow s m ∷ todo) vs = (d : ℕ) × (a ≡ Obj d) × (s ≡ t.shape d) × IsField t d m × IsPlaced t (t.fields d m) ×
         Onwards (t.fields d m) todo vs
-    Onwards a (piece.BindNow ∷ todo) vs = (t.fields c i ≡ Cell a) × (top vs ≡ place) × AllLeft todo
+    Onwards a (piece.BindNow ∷ todo) vs = (t.fields c i ≡ Cell a) × (top vs ≡ place)
     Onwards a todo vs = ⊥
 
     -- the place of the field is found, and then what it is bound to
     abbrev pub Starts : Expr → List Todo → Type 0
-    Starts (OfObject (OwnField s m)) (piece.Eval e ∷ (piece.BindNow ∷ todo)) = (m ≡ i) × (s ≡ t.shape c) × Gives t ps c (λ m. Stays todo m) i e × AllLeft todo
+    Starts (OfObject (OwnField s m)) (piece.Eval e ∷ (piece.BindNow ∷ todo)) = (m ≡ i) × (s ≡ t.shape c) × Gives t ps c (λ m. Stays todo m) i e
     Starts e todo = ⊥
 
     -- that is found, or what leads to it
@@ -199,10 +229,28 @@ module _ (t : Table) (heads : ℕ → ℕ → Bool) (ps : List Ty) (c i : ℕ) w
     abbrev pub Found : List Todo → List Value → Type 0
     Found todo vs = (a : Ty) × Onwards a todo (below vs) × K a (top vs)
 
+    -- what is found now is what another field is bound to, the place of which is the first of these operands, or a number that is written
+    abbrev pub Lands : List Todo → List Value → Type 0
+    Lands (piece.FieldNow s m ∷ todo) vs = Lands todo vs
+    Lands (piece.BindNow ∷ todo) vs = ((m : ℕ) × (top vs ≡ further (FieldAt (t.shape c) m) w) × IsBeside t c i m) × Behind todo
+    Lands (piece.KeepNow ∷ todo) vs = Behind todo
+    Lands todo vs = ⊥
+
+    -- the place of that is found, and then what it is bound to
+    abbrev pub StartsAside : Expr → List Todo → Type 0
+    StartsAside (OfObject (OwnField s m)) (piece.Eval e ∷ (piece.BindNow ∷ todo)) = Asides t c i (OfObject (Bind (OfObject (OwnField s m)) e)) × Behind todo
+    StartsAside (OfObject (OwnField s m)) (piece.Eval e ∷ (piece.KeepNow ∷ todo)) = (is_calm e ≡ true) × Behind todo
+    StartsAside e todo = ⊥
+
+    abbrev pub Passes : Expr → List Todo → List Value → Type 0
+    Passes e todo vs = (Asides t c i e × Behind todo) ⊎ (StartsAside e todo ⊎ ((is_calm e ≡ true) × Lands todo vs))
+
     -- the field is still to be bound, by an activation that has this to do, with these operands
     abbrev pub Now : List Todo → List Value → Type 0
-    Now (piece.Do a ∷ todo) vs = (BindsBy t ps c (λ m. Stays todo m) i a × AllLeft todo) ⊎ Behind (piece.Do a ∷ todo)
-    Now (piece.Eval e ∷ todo) vs = ((BindsField t ps c (λ m. Stays todo m) i e × AllLeft todo) ⊎ (Starts e todo ⊎ Finds e todo vs)) ⊎ Behind todo
-    Now (piece.FieldNow s m ∷ todo) vs = Found (piece.FieldNow s m ∷ todo) vs ⊎ Behind todo
-    Now (piece.BindNow ∷ todo) vs = Found (piece.BindNow ∷ todo) vs ⊎ Behind todo
+    Now (piece.Do a ∷ todo) vs = BindsBy t ps c (λ m. Stays todo m) i a ⊎ Behind (piece.Do a ∷ todo)
+    Now (piece.Eval e ∷ todo) vs = (BindsField t ps c (λ m. Stays todo m) i e ⊎ (Starts e todo ⊎ Finds e todo vs)) ⊎ Passes e todo vs
+    Now (piece.FieldNow s m ∷ todo) vs = Found (piece.FieldNow s m ∷ todo) vs ⊎ Lands (piece.FieldNow s m ∷ todo) (below vs)
+    Now (piece.BindNow ∷ todo) vs = Found (piece.BindNow ∷ todo) vs ⊎ Lands (piece.BindNow ∷ todo) (below vs)
+    Now (piece.KeepNow ∷ todo) vs = Behind todo
+    Now (piece.SetUpNow r ∷ todo) vs = IsLed t c i × Behind todo
     Now todo vs = Behind todo

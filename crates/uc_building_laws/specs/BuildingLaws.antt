@@ -1,12 +1,12 @@
 -- What a constructor leaves.
-use Rattle.std.specs.Prelude.{◌≡◌, ℕ, ◌⊎◌, Bool, true, false, List, [], ◌∷◌, drop, slice_get, slice_index_or, Some}
+use Rattle.std.specs.Prelude.{◌≡◌, ℕ, ◌≤◌, ◌⊎◌, Bool, true, false, List, [], ◌∷◌, drop, length, slice_get, slice_index_or, Some}
 use Rattle.uc_tree.specs.Programs.{Program}
-use Rattle.uc_tree.specs.Source.{CleanUp, Variable, Builder, Routine, Source, Stmts, Scoped, routine_of}
+use Rattle.uc_tree.specs.Source.{shape_cells, CleanUp, Variable, Routine, Source, Stmts, Scoped, routine_of}
 use Rattle.uc_entry.specs.declared.request.Answer.{Answer}
 use Rattle.uc_machine.specs.declared.exec.Exec.{Exec}
 use Rattle.uc_machine.specs.declared.exec.Owner.TheVariants.{Frame}
 use Rattle.uc_machine.specs.Pieces as piece
-use Rattle.uc_machine.specs.Pieces.{FieldAt, Value, Todo, Active, top, below, further, loaded, nought}
+use Rattle.uc_machine.specs.Pieces.{FieldAt, Value, Todo, Active, LAST_ADDRESS, top, further, nought}
 use Rattle.uc_machine.specs.Quiet.{State, quiet, first_state, call_frame}
 use Rattle.uc_machine.specs.Answering.{answered}
 use Rattle.uc_state_laws.specs.Layout.{Sized}
@@ -19,20 +19,25 @@ use Rattle.uc_life_laws.specs.Kinds.{GoesOn}
 use Rattle.uc_life_laws.specs.Knowing.{ClaimsEnv, StepBy, Finds}
 use Rattle.uc_life_laws.specs.Lives.{OutwardsOrMade}
 use Rattle.uc_life_laws.specs.LifeRuns.{IsLaidOut}
-use Rattle.uc_place_laws.specs.Opened.{OpensNone}
-use Rattle.uc_place_laws.specs.CalledStates.{StepJoins}
+use Rattle.uc_place_laws.specs.Opened.{OpensNone, BuildsNone, Spans}
+use Rattle.uc_place_laws.specs.CalledStates.{StepJoins, StepFollows}
+use Rattle.uc_place_laws.specs.OpeningLaws.{TailAt}
+use Rattle.uc_place_laws.specs.Sparing.{SparesAt}
 use Rattle.uc_building_laws.specs.Building.{InHead}
-use Rattle.uc_building_laws.specs.BuildingStates.{IsFree, Awaits, variable, AtScope, BuildsState, BuildsRest, BuildsStep, Built, BuiltState}
+use Rattle.uc_building_laws.specs.BuildingStates.{Awaits, variable, AtScope, BuildsState, BuildsRest, BuildsStep, Built, BuiltState}
 
 -- an object that is a variable is cleaned up
 abbrev pub IsPlain : Table → CleanUp → Type 0
 IsPlain t c = (k i : ℕ) × CleansAt t (Obj i) (Variable k) c
 
+-- all cells of frames have addresses
+abbrev pub AreAddressed : State → Type 0
+AreAddressed s = (d : ℕ) → length (frame_at d s.env.frames) ≤ LAST_ADDRESS
+
 module _ (t : Table) (heads : ℕ → ℕ → Bool) (few : Few) (kinds : List Sig) (source : Source) (s : State) where
   -- the routine r is a constructor of the class i, which is called at the variable k, and binds the fields of which it is told to its parameters and
   -- to fields, each of which holds what is at hand outwards of the scope that is to open
   pub record IsConstructed (r k i : ℕ) (c : CleanUp) (rest : List Todo) : Type 0 where
-    pub purpose : (q : Routine) → slice_get source.routines r ≡ Some q → q.purpose ≡ Builder
     pub plain : t.mutex i ≡ false
     pub makes : (q : Routine) → slice_get source.routines r ≡ Some q → (m : ℕ) → IsField t i m →
         heads i m ≡ true → InHead t heads (t.routine r).params i m q.body ⊎ IsUnbound t (t.fields i m)
@@ -51,22 +56,27 @@ module _ (t : Table) (heads : ℕ → ℕ → Bool) (few : Few) (kinds : List Si
   abbrev pub NoScope : List Todo → Type 0
   NoScope todo = Awaits (λ c rest. IsPlain t c → ⊥) todo
 
-  -- what a step is to find: a constructor is called at the variable whose scope opens next; nothing is bound yet at a field of which it is told, of an
-  -- object at hand that is a variable, where that is to be bound
+  -- what a step is to find: a constructor is called at the variable whose scope opens next
   abbrev pub BuildsAt : List Todo → Type 0
   BuildsAt (piece.CallNow r ∷ todo) = NoScope todo
   BuildsAt (piece.CallOnNow r ∷ todo) = Constructs r todo
   BuildsAt (piece.CallUnwrittenNow r ∷ todo) = Constructs r todo
   BuildsAt (piece.RaiseNow ∷ todo) = NoScope (piece.DropNow ∷ todo)
-  BuildsAt (piece.BindNow ∷ todo) = (c i g k : ℕ) → heads c i ≡ true → s.run.this ≡ variable s.env.exec g k →
-      top (below s.run.operands) ≡ further (FieldAt (t.shape c) i) s.run.this →
-      IsFree (loaded (top (below s.run.operands)) s.env)
   BuildsAt todo = Unit {0}
 
-  -- and scopes of objects open behind what has built these
-  pub record Fair : Type 0 where
+  -- and scopes of objects open behind what has built these, which stands behind their declarations; what is bound leaves those alone that are still to
+  -- be built; and all cells of frames have addresses
+  pub record Fair (p : Program) : Type 0 where
     pub at : BuildsAt s.run.control
     pub joins : StepJoins s (quiet source s)
+    pub follows : StepFollows p s (quiet source s)
+    pub tails : TailAt p s.run.control
+    pub spares : SparesAt (Sized p) source s.run.control s
+    pub addresses : AreAddressed s
+
+-- so many cells are declared for an object as it has
+abbrev pub IsSpanned : Program → Table → Type 0
+IsSpanned p t = (d n i : ℕ) → Spans p d n → (t.routine d).this ≡ Some i → shape_cells (t.shape i) ≤ n
 
 -- where one of these waits, in the frame of a depth, for the scope of an object, that lies before a cell
 abbrev pub AwaitedBefore : Table → Exec → ℕ → ℕ → List Active → Type 0
@@ -83,16 +93,16 @@ ClearsAt t todo s = Unit {0}
 abbrev pub Clears : Table → State → Type 0
 Clears t s = ClearsAt t s.run.control s
 
--- of each source, by any kinds: a task begins so whose routine begins with no scope of an object that is a variable; each step keeps it behind which the
+-- of each source, by any kinds: a task begins so whose routine begins neither with a scope of an object that is a variable nor with a statement that builds one; each step keeps it behind which the
 -- same execution goes on, and that finds what it is to find, where things lie within their cells and activations that use one frame stay behind one
 -- another; and so does each answer
 pub record LawSteps : Type 0 where
   pub begins : (t : Table) (heads : ℕ → ℕ → Bool) (few : Few) (kinds : List Sig) (source : Source) (r o : ℕ) →
-      OpensNone (routine_of source r).body →
+      OpensNone (routine_of source r).body → BuildsNone (routine_of source r).body →
       BuildsRest t heads few kinds (first_state (routine_of source r) o)
   pub steps : (t : Table) (heads : ℕ → ℕ → Bool) (few : Few) (kinds : List Sig) (source : Source) (p : Program) → IsLaidOut (Sized p) t →
-      (s : State) → StackState (Sized p) s → BuildsState t heads few kinds s → GoesOn s.run.control s.run.raised →
-      Clears t s → Fair t heads few kinds source s → BuildsStep t heads few kinds (quiet source s)
+      IsSpanned p t → (s : State) → StackState (Sized p) s → BuildsState t heads few kinds s → GoesOn s.run.control s.run.raised →
+      Clears t s → Fair t heads few kinds source s p → BuildsStep t heads few kinds (quiet source s)
   pub told : (t : Table) (heads : ℕ → ℕ → Bool) (few : Few) (kinds : List Sig) (source : Source) (given : Answer) (s : State) →
       BuildsRest t heads few kinds s → BuildsRest t heads few kinds (answered source given s)
   pub goes_on : (t : Table) (heads : ℕ → ℕ → Bool) (few : Few) (kinds : List Sig) (s : State) → BuildsRest t heads few kinds s → BuildsState t heads few kinds s
@@ -101,9 +111,9 @@ pub record LawSteps : Type 0 where
 -- these fields of an object that is a variable hold what is known
 pub record LawKept : Type 0 where
   pub steps : (t : Table) (heads : ℕ → ℕ → Bool) (few : Few) (source : Source) (p : Program) → Sound t source → IsLaidOut (Sized p) t →
-      (s : State) → StackState (Sized p) s → (x : BuiltState t heads few [] s) →
+      IsSpanned p t → (s : State) → StackState (Sized p) s → (x : BuiltState t heads few [] s) →
       Finds t few x.0.sigs x.0.run.sig x.0.run.scope s s.run.control x.0.run.own →
-      OpensBy t few (OutwardsOrMade x.0.sigs) s → Fair t heads few x.0.sigs source s →
+      OpensBy t few (OutwardsOrMade x.0.sigs) s → Fair t heads few x.0.sigs source s p →
       StepBy t few (BuiltState t heads few) (ClaimsEnv t few (Built t heads few)) source (quiet source s)
   pub opens : (t : Table) (heads : ℕ → ℕ → Bool) (few : Few) (s : State) (x : BuiltState t heads few [] s) →
       (c : CleanUp) (rest : Stmts) (todo : List Todo) → s.run.control ≡ piece.Rest (Scoped c rest) ∷ todo →

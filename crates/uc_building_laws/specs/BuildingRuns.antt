@@ -7,13 +7,14 @@ use Rattle.uc_acts.specs.Journal.{Journal, is_over}
 use Rattle.uc_acts.specs.KernelRuns.{InRange}
 use Rattle.uc_machine.specs.declared.exec.Owner.{Owner}
 use Rattle.uc_machine.specs.declared.exec.Owner.TheVariants.{Frame}
-use Rattle.uc_machine.specs.Pieces.{Link, FieldAt, Todo, Value, Place, DropNow, Within, Rest, CallOnNow, CallUnwrittenNow, BindNow, top, below, further, loaded, address, nought}
+use Rattle.uc_machine.specs.Pieces.{Link, FieldAt, Todo, Value, Place, DropNow, Within, Rest, CallOnNow, CallUnwrittenNow, further, address, nought}
 use Rattle.uc_machine.specs.Quiet.{State, call_frame}
 use Rattle.uc_machine.specs.Answering.{answered}
 use Rattle.uc_meaning.specs.Runs.{World, Runs, drawn}
 use Rattle.uc_state_laws.specs.Fitting.{RunFits}
 use Rattle.uc_resolve.specs.Resolve.{source_of}
 use Rattle.uc_rules.specs.Breaks.{breaks_of}
+use Rattle.uc_state_laws.specs.Limits.{IsWithinLimits}
 use Rattle.uc_state_laws.specs.RoomRuns.{Comes}
 use Rattle.uc_state_laws.specs.Opens as there
 use Rattle.uc_state_laws.specs.Opens.{RunMeets, LeadsMeet}
@@ -29,14 +30,8 @@ use Rattle.uc_life_laws.specs.Opened.{any}
 use Rattle.uc_life_laws.specs.OpenedRuns.{MeetsObjects}
 use Rattle.uc_place_laws.specs.Opened.{ArePaired}
 use Rattle.uc_building_laws.specs.Building.{heads_of, InHead}
-use Rattle.uc_building_laws.specs.BuildingStates.{IsFree, variable, AtScope, BuiltState}
-
--- nothing is bound yet at a field of which `heads` tells, of an object at hand that is a variable, where that is to be bound
-abbrev pub BindsAnew : Table → (ℕ → ℕ → Bool) → State → List Todo → Type 0
-BindsAnew t heads s (BindNow ∷ todo) = (c i g k : ℕ) → heads c i ≡ true → s.run.this ≡ variable s.env.exec g k →
-    top (below s.run.operands) ≡ further (FieldAt (t.shape c) i) s.run.this →
-    IsFree (loaded (top (below s.run.operands)) s.env)
-BindsAnew t heads s todo = Unit {0}
+use Rattle.uc_building_laws.specs.BuildingStates.{variable, AtScope, BuiltState}
+use Rattle.uc_building_laws.specs.BuildingLaws.{IsSpanned}
 
 -- where the scope of an object opens, the fields of which `heads` does not tell hold what is known by these kinds; where that of an array of objects
 -- opens, they do. Nothing is asked of fields and of arrays in which nothing is bound
@@ -49,11 +44,10 @@ pub record OthersHold (t : Table) (heads : ℕ → ℕ → Bool) (few : Few) (ki
       (k m i : ℕ) → CleansAt t (Row m (Obj i)) (Variable k) c → (IsUnbound t (Row m (Obj i)) → ⊥) →
       Holds t few s.env.exec (OutwardsOrMade kinds (Outwards t few s.env.exec s.run.frame s.run.this s.callers c todo) s.env.exec s.run.frame s.run.this s.callers) (Frame s.env.exec s.run.frame) (frame_at s.run.frame s.env.frames) (variable s.env.exec s.run.frame k) (Row m (Obj i))
 
--- a step finds what it is to find: what it binds is there behind it; nothing is bound yet where such a field is to be bound; and by some kinds by which objects
+-- a step finds what it is to find: what it binds is there behind it; and by some kinds by which objects
 -- that are built hold what is known, it finds what it reads, and other fields and arrays hold what is known where scopes open
 pub record MeetsBuilding (t : Table) (heads : ℕ → ℕ → Bool) (source : Source) (s : State) : Type 0 where
   pub opens : there.Opens source s
-  pub anew : BindsAnew t heads s s.run.control
   pub finds : BuiltState t heads any [] s → (x : BuiltState t heads any [] s) ×
       (Finds t any x.0.sigs x.0.run.sig x.0.run.scope s s.run.control x.0.run.own × OthersHold t heads any x.0.sigs s)
 
@@ -68,7 +62,7 @@ IsByNumber t Clu = Unit {0}
 IsByNumber t Pro = Unit {0}
 
 -- the constructor of a class of which variables are declared, and which is no mutex class, binds each field that `heads_of` tells in one of its first
--- statements, to what is of the type that stands there, or nothing is bound there at all; so it is in each program that breaks no rule. What it is given
+-- statements, to what is of the type that stands there, or nothing is bound there at all, and its declaration has all its cells; so it is in each program that breaks no rule. What it is given
 -- is known to what is at hand outwards of the scope that opens behind its call, whatever is being built or destroyed then, and in destructors too. Of a
 -- cell for a mutex object, a cluster or a processor, or for a reference to one, it is enough that it holds an object
 pub record LawHeads : Type 0 where
@@ -76,6 +70,7 @@ pub record LawHeads : Type 0 where
       (q : Routine) → slice_get (source_of p).routines r ≡ Some q → (i : ℕ) →
       heads_of p x.class i ≡ true →
       InHead (table_of p) (heads_of p) ((table_of p).routine r).params x.class i q.body ⊎ IsUnbound (table_of p) ((table_of p).fields x.class i)
+  pub spans : (p : Program) → IsFormed p → breaks_of p ≡ [] → IsSpanned p (table_of p)
   pub given : (t : Table) (few : Few) (source : Source) → Sound t source → (s : State) (x : KnowsState t few [] s) →
       (r line : ℕ) (c : CleanUp) (rest : Stmts) (todo : List Todo) →
       (s.run.control ≡ CallOnNow r ∷ (DropNow ∷ (Within line ∷ (Rest (Scoped c rest) ∷ todo)))) ⊎
@@ -87,9 +82,9 @@ pub record LawHeads : Type 0 where
       Holds t any s.env.exec (Outwards t any s.env.exec s.run.frame s.run.this s.callers c todo) o vs (Place o p) (Cell b)
 
 -- then all is known by kinds by which objects that are built hold what is known, and they do where their scopes open, in each run of a program that breaks no rule, as long as all that was asked before
--- fits: at each step so far, at each on the way to a state to which whoever runs comes before it asks, and there
+-- fits and it is within its limits: at each step so far, at each on the way to a state to which whoever runs comes before it asks, and there
 pub record LawBuilt : Type 0 where
-  pub comes : (p : Program) → IsFormed p → breaks_of p ≡ [] →
+  pub comes : (p : Program) → IsFormed p → breaks_of p ≡ [] → IsWithinLimits p →
       (input : List ℕ) (opts : Options) → InRange opts → (j : Journal) (w : World) →
       (r : Runs (source_of p) input opts j w) → RunFits (source_of p) input opts j w r →
       is_over j ≡ false →
@@ -97,12 +92,12 @@ pub record LawBuilt : Type 0 where
       (n : ℕ) (s : State) (c : Comes (source_of p) j w n s) →
       LeadsMeet (MeetsBuilding (table_of p) (heads_of p) (source_of p)) (source_of p) (answered (source_of p) c.given (drawn j w n)) s c.leads →
       BuiltState (table_of p) (heads_of p) any [] s
-  pub runs : (p : Program) → IsFormed p → breaks_of p ≡ [] →
+  pub runs : (p : Program) → IsFormed p → breaks_of p ≡ [] → IsWithinLimits p →
       (input : List ℕ) (opts : Options) → InRange opts → (j : Journal) (w : World) →
       (r : Runs (source_of p) input opts j w) → RunFits (source_of p) input opts j w r →
       RunMeets (MeetsBuilding (table_of p) (heads_of p) (source_of p)) (source_of p) input opts j w r →
       RunMeets (MeetsObjects (table_of p) (source_of p)) (source_of p) input opts j w r
-  pub leads : (p : Program) → IsFormed p → breaks_of p ≡ [] →
+  pub leads : (p : Program) → IsFormed p → breaks_of p ≡ [] → IsWithinLimits p →
       (input : List ℕ) (opts : Options) → InRange opts → (j : Journal) (w : World) →
       (r : Runs (source_of p) input opts j w) → RunFits (source_of p) input opts j w r →
       is_over j ≡ false →
@@ -110,7 +105,7 @@ pub record LawBuilt : Type 0 where
       (n : ℕ) (s : State) (c : Comes (source_of p) j w n s) →
       LeadsMeet (MeetsBuilding (table_of p) (heads_of p) (source_of p)) (source_of p) (answered (source_of p) c.given (drawn j w n)) s c.leads →
       LeadsMeet (MeetsObjects (table_of p) (source_of p)) (source_of p) (answered (source_of p) c.given (drawn j w n)) s c.leads
-  pub here : (p : Program) → IsFormed p → breaks_of p ≡ [] →
+  pub here : (p : Program) → IsFormed p → breaks_of p ≡ [] → IsWithinLimits p →
       (input : List ℕ) (opts : Options) → InRange opts → (j : Journal) (w : World) →
       (r : Runs (source_of p) input opts j w) → RunFits (source_of p) input opts j w r →
       is_over j ≡ false →

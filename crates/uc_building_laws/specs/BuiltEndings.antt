@@ -11,6 +11,7 @@ use Rattle.uc_meaning.specs.Runs.{World, Runs, drawn}
 use Rattle.uc_resolve.specs.Resolve.{source_of}
 use Rattle.uc_rules.specs.Breaks.{breaks_of}
 use Rattle.uc_state_laws.specs.Fitting.{RunFits}
+use Rattle.uc_state_laws.specs.Limits.{IsWithinLimits}
 use Rattle.uc_state_laws.specs.RoomRuns.{Comes}
 use Rattle.uc_state_laws.specs.Endings.{RunHolds, LeadsHold}
 use Rattle.uc_state_laws.specs.Opens.{RunMeets, LeadsMeet}
@@ -19,6 +20,7 @@ use Rattle.uc_sound.specs.SoundFormed.{IsFormed}
 use Rattle.uc_sound.specs.Tables.{table_of}
 use Rattle.uc_building_laws.specs.Building.{heads_of}
 use Rattle.uc_building_laws.specs.BuildingRuns.{MeetsBuilding}
+use Rattle.uc_building_laws.specs.BuildingLaws.{AreAddressed}
 use Rattle.uc_building_laws.specs.BuiltLasting.{FindsBuilt}
 use Rattle.uc_place_laws.specs.OpeningLaws.{IsCalled}
 use Rattle.uc_life_laws.specs.Things.{Few}
@@ -38,7 +40,7 @@ pub record BuildingIsMet (t : Table) (heads : ℕ → ℕ → Bool) (source : So
 -- so it is in each run of a program that breaks no rule, as long as all that was asked before fits
 abbrev pub LawBuiltEndings : Type 0
 LawBuiltEndings =
-    (p : Program) → IsFormed p → breaks_of p ≡ [] →
+    (p : Program) → IsFormed p → breaks_of p ≡ [] → IsWithinLimits p →
     (input : List ℕ) (opts : Options) → InRange opts →
     (j : Journal) (w : World) (r : Runs (source_of p) input opts j w) →
     RunFits (source_of p) input opts j w r → is_over j ≡ false →
@@ -46,7 +48,7 @@ LawBuiltEndings =
     BuildingIsMet (table_of p) (heads_of p) (source_of p) input opts j w r
 
 -- where other numbers are told: there a step finds what LawKept asks, and in those states what is called where the scope of an object opens next is its
--- constructor
+-- constructor, and all cells of frames have addresses
 abbrev pub BuiltOutside : Program → Few → ℕ → State → Type 0
-BuiltOutside p few zero s = FindsBuilt (table_of p) (heads_of p) few (source_of p) s
-BuiltOutside p few (suc n) s = IsCalled p (source_of p) s
+BuiltOutside p few zero s = FindsBuilt p few s
+BuiltOutside p few (suc n) s = IsCalled p (source_of p) s × AreAddressed s

@@ -1,4 +1,5 @@
 pub mod Building
+pub mod Anew
 pub mod BuildingStates
 pub mod BuildingLaws
 pub mod BuildingRuns
@@ -6,4 +7,5 @@ pub mod BuiltRuns
 pub mod BuiltEndings
 pub mod BuiltLasting
 pub mod BuiltReads
+pub mod ScopedReads
 pub mod Awaiting

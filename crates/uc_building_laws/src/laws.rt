@@ -7,11 +7,13 @@ ghost use Rattle.uc_building_laws.specs.BuiltEndings.{LawBuiltEndings};
 ghost use Rattle.uc_building_laws.specs.BuiltLasting.{LawBuiltLasting};
 ghost use Rattle.uc_building_laws.specs.BuiltReads.{LawBuiltReads};
 ghost use Rattle.uc_building_laws.specs.BuiltRuns.{LawBuiltRuns};
+ghost use Rattle.uc_building_laws.specs.ScopedReads.{LawScopedReads};
 
-/// Of an object whose scope opens behind its constructor, each field in which something is bound holds
-/// what is known once the statement that binds it is done; so the object does once the constructor has
-/// come to its end. By any kinds of frames: a task begins so, each step keeps it that finds what it is to
-/// find and behind which the same execution goes on, and so does each answer.
+/// Of an object whose scope opens behind its constructor, each field that is told holds what is known once
+/// the statement that binds it is done, and nothing is bound there before, from where the cells of the
+/// variable start anew on; so the object holds what is known once the constructor has come to its end. By
+/// any kinds of frames: a task begins so, each step keeps it that finds what it is to find and behind which
+/// the same execution goes on, and so does each answer.
 pub fn law_steps()
     ensures { LawSteps }
 {}
@@ -30,9 +32,10 @@ pub fn law_clears()
 {}
 
 /// The constructor of a class of which variables are declared binds each field that it is told of in its
-/// first statements to what is of the type that stands there. What it is given is at hand outwards of the
-/// scope that opens behind its call, whatever is being built or destroyed. A field
-/// that is known by its number holds what is known as soon as its cell holds an object.
+/// first statements to what is of the type that stands there, before it calls anything; and a variable has
+/// all cells of its object. What it is given is at hand outwards of the scope that opens behind its call,
+/// whatever is being built or destroyed. A field that is known by its number holds what is known as soon as
+/// its cell holds an object.
 pub fn law_heads()
     ensures { LawHeads }
 {}
@@ -43,7 +46,8 @@ pub fn law_awaited()
 {}
 
 /// So objects hold what is known where their scopes open, in each run of a program of the grammar that
-/// breaks no rule, as long as all that was asked before fits and each step found what it is to find.
+/// breaks no rule and is within its limits, as long as all that was asked before fits and each step found
+/// what it is to find: of what constructors bind that is nothing.
 pub fn law_built()
     ensures { LawBuilt }
 {}
@@ -71,4 +75,11 @@ pub fn law_built_runs()
 /// where it is read, once no statement is left that may bind it: so such a step finds what it is to find.
 pub fn law_built_reads()
     ensures { LawBuiltReads }
+{}
+
+/// What is read of an object in scope that is a variable, or of an array of such, is known where that is one
+/// of the running execution; and where it is one of another that does not run in its task, what is read is
+/// of its type, and a number passes.
+pub fn law_scoped_reads()
+    ensures { LawScopedReads }
 {}

@@ -49,10 +49,12 @@ impl Pieces {
         Ok(())
     }
 
-    /// Writes the request to print these items where one is lent, if there are any. The answer is whether there are.
+    /// Writes the request to print these items where one is lent, if there are any; else that stays as it is. The answer is whether there
+    /// are.
     pub fn put_request(&self, request: &mut Request) -> bool
         ensures some { result ≡ true → request_of self.now ≡ Some request.new }
         ensures none { result ≡ false → request_of self.now ≡ None }
+        ensures stays { result ≡ false → request.new ≡ request.old }
     {
         if self.items.is_empty() {
             return false;

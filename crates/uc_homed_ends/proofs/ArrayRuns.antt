@@ -276,7 +276,7 @@ record Found (p : Program) (s : State) : Type 0 where
   good : GoodBy few s
   fair : there.Fair (source_of p) s
   puts : Puts (source_of p) s
-  aside : AsideState (makes_of p) (source_of p) s
+  aside : AsideState (Sized p) (makes_of p) (source_of p) s
   placed : PlacedState (Sized p) (source_of p) s
   stack : StackState (Sized p) s
   addressed : Addressed s
@@ -308,7 +308,7 @@ module _ (p : Program) (formed : IsFormed p) (accepted : breaks_of p ≡ []) (wi
         by (piece.SetUpNow r ∷ todo) e f a b = λ w. spares_at (source_of p) k.few few s k.good Each w todo s.run.this a (λ o q x. set_up (source_of p) k.few few s k.good todo r e _)
         by (piece.Rest (src.Then a ss) ∷ todo) e f q b =
             let n = subst (Ok (Sized p) (source_of p) k.placed.run.marks) e k.placed.run.ok in
-            let m = subst (OkNow (makes_of p) (source_of p) (IsNear s.run.frame s.callers) k.aside.run.made k.aside.run.marks) e k.aside.run.ok in
+            let m = subst (OkNow (makes_of p) (source_of p) (IsNear (Sized p) s.run.frame s.callers) k.aside.run.made k.aside.run.marks) e k.aside.run.ok in
             declared k.few few s k.good a ss todo e f.0.0 n.0.1.1.1 (made_for (makes_of p) (OpensAt ss) (OpensAlone ss) k.aside.run.made a m.0.0.1.0)
         by l e f a b = tt
 

@@ -1,5 +1,5 @@
 -- What holds of variables that are mutex objects, and are still to be bound or are bound, where cells are written and start anew.
-use Rattle.std.proofs.Common.{◌≡◌, ℕ, ℤ, zero, suc, ◌≤◌, ◌<◌, inl, inr, Bool, true, false, List, [], ◌∷◌, ◌++◌, length, take, Some, refl, ap, subst, arith}
+use Rattle.std.proofs.Common.{◌≡◌, ℕ, ℤ, zero, suc, ◌≤◌, ◌<◌, inl, inr, Bool, true, false, List, [], ◌∷◌, ◌++◌, length, take, Some, ◌⊎◌, refl, sym, ap, ◌∙◌, subst, arith}
 use Rattle.std.specs.Prelude.{slice_index_or, nat_eq, if◌then◌else◌}
 use Rattle.std.proofs.lemmas.Bool.{eqb-true}
 use Rattle.uc_tree.specs.Source as src
@@ -17,7 +17,7 @@ use Rattle.uc_life_laws.specs.Things.{Few}
 use Rattle.uc_life_laws.specs.LifeStates.{frame_at}
 use Rattle.uc_state_laws.proofs.Cells.{cell_stored, set_at, tested}
 use Rattle.uc_putting_laws.specs.Putting.{IsHome}
-use Rattle.uc_homed_ends.specs.BoundHomes.{OfMutex, OpensMutex, NoVariable, DropMutex, CallMutex, PieceBegins, LeftBy, AllUnbound, AtRest, AtDrop, AtCall, AllLeft, AtBound, Held, IsUnset, IsSet, HeldIn, BoundStack}
+use Rattle.uc_homed_ends.specs.BoundHomes.{OfMutex, OpensMutex, NoVariable, DropMutex, CallMutex, PieceBegins, LeftBy, AllUnbound, AtRest, AtDrop, AtCall, AllLeft, AtNow, IsUnset, IsThat, WaitsFor, BoundStack}
 
 -- cells
 
@@ -80,6 +80,10 @@ count_cleared (x ∷ vs) (suc j) (suc k) n h = count_cleared vs j k n h
 
 pub home_stored : (few : Few) (v x q : Value) → IsHome few x q → IsHome few (stored v x) q
 home_stored few v x q h = record { number = h.number; object = ap (λ (y : Value). stored v y) h.object; home = h.home }
+
+-- one that is there stays
+same_stored : (few : Few) (v x q : Value) → IsHome few x q → stored v x ≡ x
+same_stored few v x q h = ap (λ (y : Value). stored v y) h.object ∙ sym h.object
 
 home_nought : (few : Few) (q : Value) → IsHome few nought q → ⊥
 home_nought few q h = let e : nought ≡ Object h.number = h.object in absurd (cc)
@@ -197,9 +201,9 @@ module _ (Q : ℕ → Type 0) where
     all_left (piece.Do a ∷ todo) (inl h) = all_left todo h
     all_left (piece.Do a ∷ todo) (inr h) = rest_left todo h.1
     all_left (piece.MakeNow c r ∷ todo) (inl h) = all_left todo h
-    all_left (piece.MakeNow c r ∷ todo) (inr h) = call_left todo h
+    all_left (piece.MakeNow c r ∷ todo) (inr h) = call_left r todo h
     all_left (piece.BindMadeNow c r ∷ todo) (inl h) = all_left todo h
-    all_left (piece.BindMadeNow c r ∷ todo) (inr h) = call_left todo h
+    all_left (piece.BindMadeNow c r ∷ todo) (inr h) = call_left r todo h
     all_left (piece.Exit w ∷ todo) h = h
     all_left (piece.Unwind ∷ todo) h = h
     all_left (p ∷ todo) h = left_piece p (AllLeft Q todo) (AllUnbound Q todo) (all_left todo) h.0 h.1
@@ -212,20 +216,16 @@ module _ (Q : ℕ → Type 0) where
     drop_left (piece.DropNow ∷ (piece.Within line ∷ todo)) h = rest_left todo h
     drop_left todo h = absurd h
 
-    call_left : (todo : List Todo) → AtCall Q Q todo → AllLeft Q todo
-    call_left (piece.CallOnNow r ∷ todo) h = drop_left todo h
-    call_left (piece.CallUnwrittenNow r ∷ todo) h = drop_left todo h
-    call_left todo h = absurd h
+    call_left : (q : ℕ) (todo : List Todo) → AtCall Q q Q todo → AllLeft Q todo
+    call_left q (piece.CallOnNow r ∷ todo) h = drop_left todo h.1
+    call_left q (piece.CallUnwrittenNow r ∷ todo) h = drop_left todo h.1
+    call_left q todo h = absurd h
 
-  bound_left : (P : ℕ → Type 0) (todo : List Todo) → AtBound Q P todo → AllLeft Q todo
-  bound_left P (piece.Rest ss ∷ todo) h = all_left todo h.1
-  bound_left P (piece.Within line ∷ (piece.Rest ss ∷ todo)) h = all_left todo h.1
+  bound_left : (P : ℕ → Type 0) (todo : List Todo) → AtDrop Q P todo → AllLeft Q todo
   bound_left P (piece.DropNow ∷ (piece.Within line ∷ (piece.Rest ss ∷ todo))) h = all_left todo h.1
-  bound_left P (piece.CallOnNow r ∷ (piece.DropNow ∷ (piece.Within line ∷ (piece.Rest ss ∷ todo)))) h = all_left todo h.1
-  bound_left P (piece.CallUnwrittenNow r ∷ (piece.DropNow ∷ (piece.Within line ∷ (piece.Rest ss ∷ todo)))) h = all_left todo h.1
   bound_left P todo h = absurd h
 
-  pub held_left : (P : ℕ → Type 0) (todo : List Todo) → Held Q P todo → AllLeft Q todo
+  pub held_left : (P : ℕ → Type 0) (todo : List Todo) → AllUnbound Q todo ⊎ AtDrop Q P todo → AllLeft Q todo
   held_left P todo (inl h) = all_left todo h
   held_left P todo (inr h) = bound_left P todo h
 
@@ -256,9 +256,9 @@ module _ (Q R : ℕ → Type 0) (P : List Link → Type 0) (f : (k : ℕ) → Q 
     all_changed (piece.Do a ∷ todo) q (inr h) = inr (h.0, rest_changed todo q.0 q.1 h.1)
     all_changed (piece.BindNow ∷ todo) q h = (tt, all_changed todo q.1 h.1)
     all_changed (piece.MakeNow c r ∷ todo) q (inl h) = inl (all_changed todo q.1 h)
-    all_changed (piece.MakeNow c r ∷ todo) q (inr h) = inr (call_changed todo q.0 q.1 h)
+    all_changed (piece.MakeNow c r ∷ todo) q (inr h) = inr (call_changed r todo q.0 q.1 h)
     all_changed (piece.BindMadeNow c r ∷ todo) q (inl h) = inl (all_changed todo q.1 h)
-    all_changed (piece.BindMadeNow c r ∷ todo) q (inr h) = inr (call_changed todo q.0 q.1 h)
+    all_changed (piece.BindMadeNow c r ∷ todo) q (inr h) = inr (call_changed r todo q.0 q.1 h)
     all_changed (piece.Exit w ∷ todo) q h = left_changed todo q h
     all_changed (piece.Unwind ∷ todo) q h = left_changed todo q h
     all_changed (p ∷ todo) q h = (h.0, all_changed todo (pends_tail P p todo q) h.1)
@@ -271,10 +271,10 @@ module _ (Q R : ℕ → Type 0) (P : List Link → Type 0) (f : (k : ℕ) → Q 
     drop_changed (piece.DropNow ∷ (piece.Within line ∷ (piece.Rest ss ∷ todo))) o q h = (opens_changed Q R P f ss h.0 o, all_changed todo q h.1)
     drop_changed todo o q h = absurd h
 
-    call_changed : (todo : List Todo) → NextCall P todo → Pends P todo → AtCall Q Q todo → AtCall R R todo
-    call_changed (piece.CallOnNow r ∷ todo) o q h = drop_changed todo o q h
-    call_changed (piece.CallUnwrittenNow r ∷ todo) o q h = drop_changed todo o q h
-    call_changed todo o q h = absurd h
+    call_changed : (x : ℕ) (todo : List Todo) → NextCall P todo → Pends P todo → AtCall Q x Q todo → AtCall R x R todo
+    call_changed x (piece.CallOnNow r ∷ todo) o q h = (h.0, drop_changed todo o q h.1)
+    call_changed x (piece.CallUnwrittenNow r ∷ todo) o q h = (h.0, drop_changed todo o q h.1)
+    call_changed x todo o q h = absurd h
 
     left_changed : (todo : List Todo) → Pends P todo → AllLeft Q todo → AllLeft R todo
     left_changed [] q h = tt
@@ -291,17 +291,10 @@ module _ (Q R : ℕ → Type 0) (P : List Link → Type 0) (f : (k : ℕ) → Q 
     bound_drop (piece.DropNow ∷ (piece.Within line ∷ (piece.Rest ss ∷ todo))) o q h = (opens_changed S T U g ss h.0 o, all_changed todo q h.1)
     bound_drop todo o q h = absurd h
 
-    bound_changed : (todo : List Todo) → NextBound U todo → Pends P todo → AtBound Q S todo → AtBound R T todo
-    bound_changed (piece.Rest ss ∷ todo) o q h = (opens_changed S T U g ss h.0 o, all_changed todo q h.1)
-    bound_changed (piece.Within line ∷ (piece.Rest ss ∷ todo)) o q h = (opens_changed S T U g ss h.0 o, all_changed todo q h.1)
-    bound_changed (piece.DropNow ∷ (piece.Within line ∷ (piece.Rest ss ∷ todo))) o q h = (opens_changed S T U g ss h.0 o, all_changed todo q h.1)
-    bound_changed (piece.CallOnNow r ∷ (piece.DropNow ∷ (piece.Within line ∷ (piece.Rest ss ∷ todo)))) o q h = (opens_changed S T U g ss h.0 o, all_changed todo q h.1)
-    bound_changed (piece.CallUnwrittenNow r ∷ (piece.DropNow ∷ (piece.Within line ∷ (piece.Rest ss ∷ todo)))) o q h = (opens_changed S T U g ss h.0 o, all_changed todo q h.1)
-    bound_changed todo o q h = absurd h
-
-    held_changed : (todo : List Todo) → NextBound U todo → Pends P todo → Held Q S todo → Held R T todo
-    held_changed todo o q (inl h) = inl (all_changed todo q h)
-    held_changed todo o q (inr h) = inr (bound_changed todo o q h)
+    waits_changed : (todo : List Todo) → NextBound U todo → Pends P todo → AllUnbound Q todo ⊎ AtDrop Q S todo → AllUnbound R todo ⊎ AtDrop R T todo
+    waits_changed todo o q (inl h) = inl (all_changed todo q h)
+    waits_changed (piece.DropNow ∷ (piece.Within line ∷ (piece.Rest ss ∷ todo))) o q (inr h) = inr (opens_changed S T U g ss h.0 o, all_changed todo q h.1)
+    waits_changed todo o q (inr h) = absurd h
 
 -- what is known of the scope that opens behind the call of a constructor, once its variable is bound
 module _ (Q S G T : ℕ → Type 0) (g : (k : ℕ) → S k → G k → T k) where
@@ -309,15 +302,20 @@ module _ (Q S G T : ℕ → Type 0) (g : (k : ℕ) → S k → G k → T k) wher
   told_drop (piece.DropNow ∷ (piece.Within line ∷ (piece.Rest ss ∷ todo))) o h = (opens_both S G T g ss h.0 o, h.1)
   told_drop todo o h = absurd h
 
-  pub told_call : (todo : List Todo) → CallMutex G todo → AtCall Q S todo → AtCall Q T todo
-  told_call (piece.CallOnNow r ∷ todo) o h = told_drop todo o h
-  told_call (piece.CallUnwrittenNow r ∷ todo) o h = told_drop todo o h
-  told_call todo o h = absurd h
+  pub told_call : (x : ℕ) (todo : List Todo) → CallMutex G todo → AtCall Q x S todo → AtCall Q x T todo
+  told_call x (piece.CallOnNow r ∷ todo) o h = (h.0, told_drop todo o h.1)
+  told_call x (piece.CallUnwrittenNow r ∷ todo) o h = (h.0, told_drop todo o h.1)
+  told_call x todo o h = absurd h
 
-pub call_bound : (Q P : ℕ → Type 0) (todo : List Todo) → AtCall Q P todo → AtBound Q P todo
-call_bound Q P (piece.CallOnNow r ∷ todo) h = h
-call_bound Q P (piece.CallUnwrittenNow r ∷ todo) h = h
-call_bound Q P todo h = absurd h
+-- the constructor is called next; and behind the call of one
+pub call_now : (Q P : ℕ → Type 0) (C : ℕ → ℕ → Type 0) (x : ℕ) (todo : List Todo) → AtCall Q x (C x) todo → AtNow Q P C todo
+call_now Q P C x (piece.CallOnNow r ∷ todo) h = subst (λ r. AtDrop Q (C r) todo) (sym h.0) h.1
+call_now Q P C x (piece.CallUnwrittenNow r ∷ todo) h = subst (λ r. AtDrop Q (C r) todo) (sym h.0) h.1
+call_now Q P C x todo h = absurd h
+
+pub drop_now : (Q S P : ℕ → Type 0) (C : ℕ → ℕ → Type 0) (f : (k : ℕ) → S k → P k) (todo : List Todo) → AtDrop Q S todo → AtNow Q P C todo
+drop_now Q S P C f (piece.DropNow ∷ (piece.Within line ∷ (piece.Rest ss ∷ todo))) h = (opens_both S S P (λ k x y. f k x) ss h.0 h.0, h.1)
+drop_now Q S P C f todo h = absurd h
 
 abbrev Anywhere : List Link → Type 0
 Anywhere p = Unit {0}
@@ -334,72 +332,81 @@ module _ (few : Few) (n : Exec) where
   unset_aside : (cell : ℕ) (v : Value) (vs : List Value) (k : ℕ) → IsUnset vs k → (k < LAST_ADDRESS → Apart cell (Slot k ∷ [])) → IsUnset (value_changed cell (stored v) nought vs) k
   unset_aside cell v vs k h u = λ l. cell_other IsCount (stored v) vs (address (Slot k ∷ [])) cell (u l) (h l)
 
-  set_stored : (f cell : ℕ) (v : Value) (vs : List Value) (k : ℕ) → IsSet few n vs f k → (k < LAST_ADDRESS → Anywhere (Slot k ∷ [])) → IsSet few n (value_changed cell (stored v) nought vs) f k
-  set_stored f cell v vs k h u = λ l. cell_stored (λ x. IsHome few x (Place (Frame n f) (Slot k ∷ []))) v (λ x y. home_stored few v x (Place (Frame n f) (Slot k ∷ [])) y) vs (address (Slot k ∷ [])) cell (h l)
+  that_stored : (u : Value) (f cell : ℕ) (v : Value) (vs : List Value) (k : ℕ) → IsThat few n u vs f k → (k < LAST_ADDRESS → Anywhere (Slot k ∷ [])) → IsThat few n u (value_changed cell (stored v) nought vs) f k
+  that_stored u f cell v vs k h w = λ l. cell_stored (λ x. IsHome few x (Place (Frame n f) (Slot k ∷ [])) × (x ≡ u)) v (λ x y. (home_stored few v x (Place (Frame n f) (Slot k ∷ [])) y.0, same_stored few v x (Place (Frame n f) (Slot k ∷ [])) y.0 ∙ y.1)) vs (address (Slot k ∷ [])) cell (h l)
 
-  held_number : (f cell : ℕ) (z : ℤ) (todo : List Todo) (vs : List Value) → HeldIn few n vs f todo → HeldIn few n (value_changed cell (stored (Number z)) nought vs) f todo
-  held_number f cell z todo vs h =
-      held_changed (IsUnset vs) (IsUnset (value_changed cell (stored (Number z)) nought vs)) Anywhere (unset_number cell z vs) (IsSet few n vs f) (IsSet few n (value_changed cell (stored (Number z)) nought vs) f) Anywhere (set_stored f cell (Number z) vs) todo (any_next Anywhere (λ p. tt) todo) (any_pends Anywhere (λ p. tt) todo) h
+  module _ (u : Value) where
+    waits_number : (f cell : ℕ) (z : ℤ) (todo : List Todo) (vs : List Value) → WaitsFor few n u vs f todo → WaitsFor few n u (value_changed cell (stored (Number z)) nought vs) f todo
+    waits_number f cell z todo vs h =
+        waits_changed (IsUnset vs) (IsUnset (value_changed cell (stored (Number z)) nought vs)) Anywhere (unset_number cell z vs) (IsThat few n u vs f) (IsThat few n u (value_changed cell (stored (Number z)) nought vs) f) Anywhere (that_stored u f cell (Number z) vs) todo (any_next Anywhere (λ p. tt) todo) (any_pends Anywhere (λ p. tt) todo) h
 
-  held_aside : (f cell : ℕ) (v : Value) (todo : List Todo) (vs : List Value) → Pends (Apart cell) todo → HeldIn few n vs f todo → HeldIn few n (value_changed cell (stored v) nought vs) f todo
-  held_aside f cell v todo vs q h =
-      held_changed (IsUnset vs) (IsUnset (value_changed cell (stored v) nought vs)) (Apart cell) (unset_aside cell v vs) (IsSet few n vs f) (IsSet few n (value_changed cell (stored v) nought vs) f) Anywhere (set_stored f cell v vs) todo (any_next Anywhere (λ p. tt) todo) q h
+    waits_aside : (f cell : ℕ) (v : Value) (todo : List Todo) (vs : List Value) → Pends (Apart cell) todo → WaitsFor few n u vs f todo → WaitsFor few n u (value_changed cell (stored v) nought vs) f todo
+    waits_aside f cell v todo vs q h =
+        waits_changed (IsUnset vs) (IsUnset (value_changed cell (stored v) nought vs)) (Apart cell) (unset_aside cell v vs) (IsThat few n u vs f) (IsThat few n u (value_changed cell (stored v) nought vs) f) Anywhere (that_stored u f cell v vs) todo (any_next Anywhere (λ p. tt) todo) q h
+
+  all_number : (cell : ℕ) (z : ℤ) (todo : List Todo) (vs : List Value) → AllUnbound (IsUnset vs) todo → AllUnbound (IsUnset (value_changed cell (stored (Number z)) nought vs)) todo
+  all_number cell z todo vs h =
+      all_changed (IsUnset vs) (IsUnset (value_changed cell (stored (Number z)) nought vs)) Anywhere (unset_number cell z vs) todo (any_pends Anywhere (λ p. tt) todo) h
 
   -- cells start anew
 
   unset_cleared : (cell m : ℕ) (vs : List Value) (k : ℕ) → IsUnset vs k → (k < LAST_ADDRESS → Anywhere (Slot k ∷ [])) → IsUnset (values_cleared cell m nought vs) k
   unset_cleared cell m vs k h u = λ l. count_cleared vs (address (Slot k ∷ [])) cell m (h l)
 
-  set_cleared : (f cell m : ℕ) (vs : List Value) (k : ℕ) → IsSet few n vs f k → (k < LAST_ADDRESS → IsBefore cell (Slot k ∷ [])) → IsSet few n (values_cleared cell m nought vs) f k
-  set_cleared f cell m vs k h u = λ l. cell_taken (λ x. IsHome few x (Place (Frame n f) (Slot k ∷ []))) (λ y. home_nought few (Place (Frame n f) (Slot k ∷ [])) y) vs _ (address (Slot k ∷ [])) cell (u l) (h l)
+  that_cleared : (v : Value) (f cell m : ℕ) (vs : List Value) (k : ℕ) → IsThat few n v vs f k → (k < LAST_ADDRESS → IsBefore cell (Slot k ∷ [])) → IsThat few n v (values_cleared cell m nought vs) f k
+  that_cleared v f cell m vs k h u = λ l. cell_taken (λ x. IsHome few x (Place (Frame n f) (Slot k ∷ [])) × (x ≡ v)) (λ y. home_nought few (Place (Frame n f) (Slot k ∷ [])) y.0) vs _ (address (Slot k ∷ [])) cell (u l) (h l)
 
   all_cleared : (cell m : ℕ) (todo : List Todo) (vs : List Value) → AllUnbound (IsUnset vs) todo → AllUnbound (IsUnset (values_cleared cell m nought vs)) todo
   all_cleared cell m todo vs h = all_changed (IsUnset vs) (IsUnset (values_cleared cell m nought vs)) Anywhere (unset_cleared cell m vs) todo (any_pends Anywhere (λ p. tt) todo) h
 
-  held_cleared : (f cell m : ℕ) (todo : List Todo) (vs : List Value) → NextBound (IsBefore cell) todo → HeldIn few n vs f todo → HeldIn few n (values_cleared cell m nought vs) f todo
-  held_cleared f cell m todo vs b h =
-      held_changed (IsUnset vs) (IsUnset (values_cleared cell m nought vs)) Anywhere (unset_cleared cell m vs) (IsSet few n vs f) (IsSet few n (values_cleared cell m nought vs) f) (IsBefore cell) (set_cleared f cell m vs) todo b (any_pends Anywhere (λ p. tt) todo) h
+  waits_cleared : (v : Value) (f cell m : ℕ) (todo : List Todo) (vs : List Value) → NextBound (IsBefore cell) todo → WaitsFor few n v vs f todo → WaitsFor few n v (values_cleared cell m nought vs) f todo
+  waits_cleared v f cell m todo vs b h =
+      waits_changed (IsUnset vs) (IsUnset (values_cleared cell m nought vs)) Anywhere (unset_cleared cell m vs) (IsThat few n v vs f) (IsThat few n v (values_cleared cell m nought vs) f) (IsBefore cell) (that_cleared v f cell m vs) todo b (any_pends Anywhere (λ p. tt) todo) h
 
   -- in frames of an execution, of which one is changed
 
-  pub stack_number : (d cell : ℕ) (z : ℤ) (fs : List (List Value)) (cs : List Active) → BoundStack few n fs cs → BoundStack few n (frame_changed d (value_changed cell (stored (Number z)) nought) fs) cs
-  stack_number d cell z fs [] h = tt
-  stack_number d cell z fs (a ∷ older) h =
-      (h.0, set_at (λ vs. HeldIn few n vs a.frame a.control) fs d a.frame _ (λ e. held_number a.frame cell z a.control (frame_at d fs) (subst (λ f. HeldIn few n (frame_at f fs) a.frame a.control) e h.1)) h.1, stack_number d cell z fs older h.2)
+  pub stack_number : (d cell : ℕ) (z : ℤ) (fs : List (List Value)) (v : Value) (cs : List Active) → BoundStack few n fs v cs → BoundStack few n (frame_changed d (value_changed cell (stored (Number z)) nought) fs) v cs
+  stack_number d cell z fs v [] h = tt
+  stack_number d cell z fs v (a ∷ older) h =
+      (h.0, set_at (λ vs. WaitsFor few n v vs a.frame a.control) fs d a.frame _ (λ e. waits_number v a.frame cell z a.control (frame_at d fs) (subst (λ f. WaitsFor few n v (frame_at f fs) a.frame a.control) e h.1)) h.1, stack_number d cell z fs a.this older h.2)
 
-  pub stack_aside : (d cell : ℕ) (v : Value) (fs : List (List Value)) (cs : List Active) → StackAside cell d cs → BoundStack few n fs cs → BoundStack few n (frame_changed d (value_changed cell (stored v) nought) fs) cs
-  stack_aside d cell v fs [] q h = tt
-  stack_aside d cell v fs (a ∷ older) q h =
-      (h.0, set_at (λ vs. HeldIn few n vs a.frame a.control) fs d a.frame _ (λ e. held_aside a.frame cell v a.control (frame_at d fs) (q.0 e).0 (subst (λ f. HeldIn few n (frame_at f fs) a.frame a.control) e h.1)) h.1, stack_aside d cell v fs older q.1 h.2)
+  pub list_number : (d cell : ℕ) (z : ℤ) (fs : List (List Value)) (f : ℕ) (todo : List Todo) → AllUnbound (IsUnset (frame_at f fs)) todo → AllUnbound (IsUnset (frame_at f (frame_changed d (value_changed cell (stored (Number z)) nought) fs))) todo
+  list_number d cell z fs f todo h =
+      set_at (λ vs. AllUnbound (IsUnset vs) todo) fs d f _ (λ e. all_number cell z todo (frame_at d fs) (subst (λ g. AllUnbound (IsUnset (frame_at g fs)) todo) e h)) h
 
-  pub stack_cleared : (d cell m : ℕ) (fs : List (List Value)) (cs : List Active) → FrameBefore cell d cs → BoundStack few n fs cs → BoundStack few n (frame_changed d (values_cleared cell m nought) fs) cs
-  stack_cleared d cell m fs [] b h = tt
-  stack_cleared d cell m fs (a ∷ older) b h =
-      (h.0, set_at (λ vs. HeldIn few n vs a.frame a.control) fs d a.frame _ (λ e. held_cleared a.frame cell m a.control (frame_at d fs) (b.0 e).1 (subst (λ f. HeldIn few n (frame_at f fs) a.frame a.control) e h.1)) h.1, stack_cleared d cell m fs older b.1 h.2)
+  pub stack_aside : (d cell : ℕ) (v : Value) (fs : List (List Value)) (u : Value) (cs : List Active) → StackAside cell d cs → BoundStack few n fs u cs → BoundStack few n (frame_changed d (value_changed cell (stored v) nought) fs) u cs
+  stack_aside d cell v fs u [] q h = tt
+  stack_aside d cell v fs u (a ∷ older) q h =
+      (h.0, set_at (λ vs. WaitsFor few n u vs a.frame a.control) fs d a.frame _ (λ e. waits_aside u a.frame cell v a.control (frame_at d fs) (q.0 e).0 (subst (λ f. WaitsFor few n u (frame_at f fs) a.frame a.control) e h.1)) h.1, stack_aside d cell v fs a.this older q.1 h.2)
+
+  pub stack_cleared : (d cell m : ℕ) (fs : List (List Value)) (v : Value) (cs : List Active) → FrameBefore cell d cs → BoundStack few n fs v cs → BoundStack few n (frame_changed d (values_cleared cell m nought) fs) v cs
+  stack_cleared d cell m fs v [] b h = tt
+  stack_cleared d cell m fs v (a ∷ older) b h =
+      (h.0, set_at (λ vs. WaitsFor few n v vs a.frame a.control) fs d a.frame _ (λ e. waits_cleared v a.frame cell m a.control (frame_at d fs) (b.0 e).1 (subst (λ f. WaitsFor few n v (frame_at f fs) a.frame a.control) e h.1)) h.1, stack_cleared d cell m fs a.this older b.1 h.2)
 
   pub list_aside : (d cell : ℕ) (v : Value) (fs : List (List Value)) (f : ℕ) (todo : List Todo) → (f ≡ d → Pends (Apart cell) todo) → AllUnbound (IsUnset (frame_at f fs)) todo → AllUnbound (IsUnset (frame_at f (frame_changed d (value_changed cell (stored v) nought) fs))) todo
   list_aside d cell v fs f todo q h =
       set_at (λ vs. AllUnbound (IsUnset vs) todo) fs d f _ (λ e. all_changed (IsUnset (frame_at d fs)) (IsUnset (value_changed cell (stored v) nought (frame_at d fs))) (Apart cell) (unset_aside cell v (frame_at d fs)) todo (q e) (subst (λ g. AllUnbound (IsUnset (frame_at g fs)) todo) e h)) h
 
-  pub call_list_aside : (Q : ℕ → Type 0) (d cell : ℕ) (v : Value) (fs : List (List Value)) (f : ℕ) (todo : List Todo) → (f ≡ d → Pends (Apart cell) todo) → AtCall (IsUnset (frame_at f fs)) Q todo → AtCall (IsUnset (frame_at f (frame_changed d (value_changed cell (stored v) nought) fs))) Q todo
-  call_list_aside Q d cell v fs f (piece.CallOnNow r ∷ todo) q h =
-      set_at (λ vs. AtDrop (IsUnset vs) Q todo) fs d f _ (λ e. bound_drop (IsUnset (frame_at d fs)) (IsUnset (value_changed cell (stored v) nought (frame_at d fs))) (Apart cell) (unset_aside cell v (frame_at d fs)) Q Q Anywhere (λ k x u. x) todo (any_drop Anywhere (λ p. tt) todo) (q e) (subst (λ g. AtDrop (IsUnset (frame_at g fs)) Q todo) e h)) h
-  call_list_aside Q d cell v fs f (piece.CallUnwrittenNow r ∷ todo) q h =
-      set_at (λ vs. AtDrop (IsUnset vs) Q todo) fs d f _ (λ e. bound_drop (IsUnset (frame_at d fs)) (IsUnset (value_changed cell (stored v) nought (frame_at d fs))) (Apart cell) (unset_aside cell v (frame_at d fs)) Q Q Anywhere (λ k x u. x) todo (any_drop Anywhere (λ p. tt) todo) (q e) (subst (λ g. AtDrop (IsUnset (frame_at g fs)) Q todo) e h)) h
-  call_list_aside Q d cell v fs f todo q h = absurd h
+  pub call_list_aside : (Q : ℕ → Type 0) (x d cell : ℕ) (v : Value) (fs : List (List Value)) (f : ℕ) (todo : List Todo) → (f ≡ d → Pends (Apart cell) todo) → AtCall (IsUnset (frame_at f fs)) x Q todo → AtCall (IsUnset (frame_at f (frame_changed d (value_changed cell (stored v) nought) fs))) x Q todo
+  call_list_aside Q x d cell v fs f (piece.CallOnNow r ∷ todo) q h =
+      (h.0, set_at (λ vs. AtDrop (IsUnset vs) Q todo) fs d f _ (λ e. bound_drop (IsUnset (frame_at d fs)) (IsUnset (value_changed cell (stored v) nought (frame_at d fs))) (Apart cell) (unset_aside cell v (frame_at d fs)) Q Q Anywhere (λ k x u. x) todo (any_drop Anywhere (λ p. tt) todo) (q e) (subst (λ g. AtDrop (IsUnset (frame_at g fs)) Q todo) e h.1)) h.1)
+  call_list_aside Q x d cell v fs f (piece.CallUnwrittenNow r ∷ todo) q h =
+      (h.0, set_at (λ vs. AtDrop (IsUnset vs) Q todo) fs d f _ (λ e. bound_drop (IsUnset (frame_at d fs)) (IsUnset (value_changed cell (stored v) nought (frame_at d fs))) (Apart cell) (unset_aside cell v (frame_at d fs)) Q Q Anywhere (λ k x u. x) todo (any_drop Anywhere (λ p. tt) todo) (q e) (subst (λ g. AtDrop (IsUnset (frame_at g fs)) Q todo) e h.1)) h.1)
+  call_list_aside Q x d cell v fs f todo q h = absurd h
 
   pub list_cleared : (d cell m : ℕ) (fs : List (List Value)) (f : ℕ) (todo : List Todo) → AllUnbound (IsUnset (frame_at f fs)) todo → AllUnbound (IsUnset (frame_at f (frame_changed d (values_cleared cell m nought) fs))) todo
   list_cleared d cell m fs f todo h =
       set_at (λ vs. AllUnbound (IsUnset vs) todo) fs d f _ (λ e. all_cleared cell m todo (frame_at d fs) (subst (λ g. AllUnbound (IsUnset (frame_at g fs)) todo) e h)) h
 
-  pub stack_newer : (x : List Value) (fs : List (List Value)) (cs : List Active) → length cs ≤ length fs → BoundStack few n fs cs → BoundStack few n (x ∷ fs) cs
-  stack_newer x fs [] l h = tt
-  stack_newer x fs (a ∷ older) l h =
+  pub stack_newer : (x : List Value) (fs : List (List Value)) (v : Value) (cs : List Active) → length cs ≤ length fs → BoundStack few n fs v cs → BoundStack few n (x ∷ fs) v cs
+  stack_newer x fs v [] l h = tt
+  stack_newer x fs v (a ∷ older) l h =
       let le = h.0 in
-      (h.0, newer_at (λ vs. HeldIn few n vs a.frame a.control) x fs a.frame (omega (arith, le, l)) h.1, stack_newer x fs older (omega (arith, l)) h.2)
+      (h.0, newer_at (λ vs. WaitsFor few n v vs a.frame a.control) x fs a.frame (omega (arith, le, l)) h.1, stack_newer x fs a.this older (omega (arith, l)) h.2)
 
-  pub stack_older : (fs : List (List Value)) (cs : List Active) → length cs ≤ length (others fs) → BoundStack few n fs cs → BoundStack few n (others fs) cs
-  stack_older fs [] l h = tt
-  stack_older fs (a ∷ older) l h =
+  pub stack_older : (fs : List (List Value)) (v : Value) (cs : List Active) → length cs ≤ length (others fs) → BoundStack few n fs v cs → BoundStack few n (others fs) v cs
+  stack_older fs v [] l h = tt
+  stack_older fs v (a ∷ older) l h =
       let le = h.0 in
-      (h.0, older_at (λ vs. HeldIn few n vs a.frame a.control) fs a.frame (omega (arith, le, l)) h.1, stack_older fs older (omega (arith, l)) h.2)
+      (h.0, older_at (λ vs. WaitsFor few n v vs a.frame a.control) fs a.frame (omega (arith, le, l)) h.1, stack_older fs a.this older (omega (arith, l)) h.2)

@@ -1,6 +1,7 @@
 -- What holds of variables that are mutex objects goes on to hold where members, executions and who runs change.
 use Rattle.std.proofs.Common.{◌≡◌, ℕ, ℤ, ◌<◌, Bool, [], length, ap, ◌∙◌, true, false, List, ◌∷◌, Option, Some, None, refl, sym, subst}
 use Rattle.std.specs.Prelude.{slice_index_or, if◌then◌else◌}
+use Rattle.uc_tree.specs.Source.{Source}
 use Rattle.uc_entry.specs.declared.fault.RunFault.TheVariants.{ResumeInUse, SwitchInUnwind}
 use Rattle.uc_entry.specs.Keyed.{find}
 use Rattle.uc_machine.specs.declared.exec.Exec.{Exec}
@@ -26,7 +27,7 @@ use Rattle.uc_life_laws.proofs.Parked.{Ex, at_home}
 use Rattle.uc_life_laws.specs.Things.{Few}
 use Rattle.uc_putting_laws.specs.Putting.{IsHome}
 use Rattle.uc_homed_ends.specs.BoundHomes.{AllUnbound, AtCall, IsUnset, BoundStack, BoundEx, BoundEnv, BoundState}
-use Rattle.uc_homed_ends.proofs.BoundCells.{cell_either, stack_number, stack_aside, list_aside, call_list_aside}
+use Rattle.uc_homed_ends.proofs.BoundCells.{cell_either, stack_number, list_number, stack_aside, list_aside, call_list_aside}
 
 module _ (few : Few) where
   pub like : {e f : Env} → BoundEnv few e → f.hand ≡ e.hand → f.house ≡ e.house → f.own ≡ e.own → BoundEnv few f
@@ -36,20 +37,28 @@ module _ (few : Few) where
   pub record Keeps (e f : Env) : Type 0 where
     pub exec : f.exec ≡ e.exec
     pub frames : length f.frames ≡ length e.frames
-    pub stack : (cs : List Active) → BoundStack few e.exec e.frames cs → BoundStack few e.exec f.frames cs
+    pub list : (d : ℕ) (todo : List Todo) → AllUnbound (IsUnset (frame_at d e.frames)) todo → AllUnbound (IsUnset (frame_at d f.frames)) todo
+    pub stack : (v : Value) (cs : List Active) → BoundStack few e.exec e.frames v cs → BoundStack few e.exec f.frames v cs
     pub env : BoundEnv few f
 
   pub keeps_both : {e f g : Env} → Keeps e f → Keeps f g → Keeps e g
   keeps_both {e} {f} {g} h k = record {
     exec = k.exec ∙ h.exec;
     frames = k.frames ∙ h.frames;
-    stack = λ cs x. subst (λ n. BoundStack few n g.frames cs) h.exec (k.stack cs (subst (λ n. BoundStack few n f.frames cs) (sym h.exec) (h.stack cs x)));
+    list = λ d todo x. k.list d todo (h.list d todo x);
+    stack = λ v cs x. subst (λ n. BoundStack few n g.frames v cs) h.exec (k.stack v cs (subst (λ n. BoundStack few n f.frames v cs) (sym h.exec) (h.stack v cs x)));
     env = k.env;
   }
 
   -- with the same frames
   keeps_frames : {e f : Env} → f.exec ≡ e.exec → f.frames ≡ e.frames → BoundEnv few f → Keeps e f
-  keeps_frames {e} {f} x q h = record { exec = x; frames = ap length q; stack = λ cs y. subst (λ fs. BoundStack few e.exec fs cs) (sym q) y; env = h }
+  keeps_frames {e} {f} x q h = record {
+    exec = x;
+    frames = ap length q;
+    list = λ d todo y. subst (λ fs. AllUnbound (IsUnset (frame_at d fs)) todo) (sym q) y;
+    stack = λ v cs y. subst (λ fs. BoundStack few e.exec fs v cs) (sym q) y;
+    env = h;
+  }
 
   pub keeps_like : {e f : Env} → BoundEnv few e → f.exec ≡ e.exec → f.frames ≡ e.frames → f.hand ≡ e.hand → f.house ≡ e.house → f.own ≡ e.own → Keeps e f
   keeps_like s x q h g o = keeps_frames x q (like s h g o)
@@ -59,21 +68,29 @@ module _ (few : Few) where
 
   -- writes
 
+  abbrev KeepsLists : List (List Value) → List (List Value) → Type 0
+  KeepsLists fs gs = (d : ℕ) (todo : List Todo) → AllUnbound (IsUnset (frame_at d fs)) todo → AllUnbound (IsUnset (frame_at d gs)) todo
+
   abbrev KeepsFrames : (List (List Value) → List (List Value)) → Type 0
-  KeepsFrames f = (n : Exec) (fs : List (List Value)) → (length (f fs) ≡ length fs) × ((cs : List Active) → BoundStack few n fs cs → BoundStack few n (f fs) cs)
+  KeepsFrames f = (n : Exec) (fs : List (List Value)) → (length (f fs) ≡ length fs) × KeepsLists fs (f fs) × ((v : Value) (cs : List Active) → BoundStack few n fs v cs → BoundStack few n (f fs) v cs)
 
   frames_kept : (h : Home) (n : ℕ) (f : List (List Value) → List (List Value)) (o : Option Ex) (m : Members) → KeepsFrames f → SlotBy (BoundEx few) (at_home h n) o → ParkedBy (BoundEx few) h m.parked → ParkedBy (BoundEx few) h (frames_by n f o m).parked
   frames_kept h n f None m same r s = s
   frames_kept h n f (Some x) m same r s =
-      parked.update_parked (BoundEx few) h n (Some (record x { frames = f x.frames })) m.parked (record { frames = (same (at_home h n) x.frames).0 ∙ r.frames; stack = (same (at_home h n) x.frames).1 (x.run ∷ x.callers) r.stack }) s
+      parked.update_parked (BoundEx few) h n (Some (record x { frames = f x.frames })) m.parked (record {
+        frames = (same (at_home h n) x.frames).0 ∙ r.frames;
+        frame = r.frame;
+        run = (same (at_home h n) x.frames).1 x.run.frame x.run.control r.run;
+        callers = (same (at_home h n) x.frames).2 x.run.this x.callers r.callers;
+      }) s
 
   with_frames_keeps : (n : Exec) (f : List (List Value) → List (List Value)) (e : Env) → KeepsFrames f → BoundEnv few e → Keeps e (with_frames n f e)
   with_frames_keeps n f e same s =
-      either (Keeps e) (exec_eq n e.exec) (record e { frames = f e.frames }) (change n.home (frames_changed n.serial f) e) (record { exec = refl; frames = (same e.exec e.frames).0; stack = (same e.exec e.frames).1; env = like s refl refl refl }) (keeps_change n.home (frames_changed n.serial f) e (λ m h. frames_kept n.home n.serial f (joined (find n.serial m.parked)) m same (parked.found_parked (BoundEx few) n.home n.serial m.parked h) h) s)
+      either (Keeps e) (exec_eq n e.exec) (record e { frames = f e.frames }) (change n.home (frames_changed n.serial f) e) (record { exec = refl; frames = (same e.exec e.frames).0; list = (same e.exec e.frames).1; stack = (same e.exec e.frames).2; env = like s refl refl refl }) (keeps_change n.home (frames_changed n.serial f) e (λ m h. frames_kept n.home n.serial f (joined (find n.serial m.parked)) m same (parked.found_parked (BoundEx few) n.home n.serial m.parked h) h) s)
 
   number_keeps : (o : Owner) (k : ℕ) (z : ℤ) (e : Env) → BoundEnv few e → Keeps e (with_owned o (value_changed k (stored (Number z)) nought) e)
   number_keeps (Frame n d) k z e s =
-      with_frames_keeps n (frame_changed d (value_changed k (stored (Number z)) nought)) e (λ n fs. (set_length fs d (value_changed k (stored (Number z)) nought (list_in (at_depth fs d))), λ cs h. stack_number few n d k z fs cs h)) s
+      with_frames_keeps n (frame_changed d (value_changed k (stored (Number z)) nought)) e (λ n fs. (set_length fs d (value_changed k (stored (Number z)) nought (list_in (at_depth fs d))), (λ f todo h. list_number few n d k z fs f todo h), λ v cs h. stack_number few n d k z fs v cs h)) s
   number_keeps (Fields o) k z e s = keeps_change (home.Object o) _ e (λ m h. h) s
 
   -- a number is written anywhere
@@ -89,18 +106,19 @@ module _ (few : Few) where
   pub record KeepsAt (w : Value) (d : ℕ) (todo : List Todo) (cs : List Active) (e f : Env) : Type 0 where
     pub exec : f.exec ≡ e.exec
     pub frames : length f.frames ≡ length e.frames
-    pub stack : BoundStack few e.exec e.frames cs → BoundStack few e.exec f.frames cs
+    pub stack : (u : Value) → BoundStack few e.exec e.frames u cs → BoundStack few e.exec f.frames u cs
     pub list : AllUnbound (IsUnset (frame_at d e.frames)) todo → AllUnbound (IsUnset (frame_at d f.frames)) todo
-    pub call : AtCall (IsUnset (frame_at d e.frames)) (IsUnset (frame_at d e.frames)) todo → AtCall (IsUnset (frame_at d f.frames)) (IsUnset (frame_at d e.frames)) todo
-    pub told : (k : ℕ) → IsUnset (frame_at d e.frames) k → IsHome few w (Place (Frame e.exec d) (Slot k ∷ [])) → k < LAST_ADDRESS → HoldsObject (frame_at d f.frames) (Slot k ∷ []) → IsHome few (slice_index_or (frame_at d f.frames) (address (Slot k ∷ [])) nought) (Place (Frame e.exec d) (Slot k ∷ []))
+    pub call : (x : ℕ) → AtCall (IsUnset (frame_at d e.frames)) x (IsUnset (frame_at d e.frames)) todo → AtCall (IsUnset (frame_at d f.frames)) x (IsUnset (frame_at d e.frames)) todo
+    pub told : (k : ℕ) → IsUnset (frame_at d e.frames) k → IsHome few w (Place (Frame e.exec d) (Slot k ∷ [])) → k < LAST_ADDRESS → HoldsObject (frame_at d f.frames) (Slot k ∷ []) →
+        IsHome few (slice_index_or (frame_at d f.frames) (address (Slot k ∷ [])) nought) (Place (Frame e.exec d) (Slot k ∷ [])) × (slice_index_or (frame_at d f.frames) (address (Slot k ∷ [])) nought ≡ w)
     pub env : BoundEnv few f
 
   -- what held a number holds no object, and what is stored there then does
-  abbrev Told : Value → Value → Type 0
-  Told q y = IsNumbered y → IsHome few y q
+  abbrev Told : Value → Value → Value → Type 0
+  Told w q y = IsNumbered y → IsHome few y q × (y ≡ w)
 
-  told_count : (w q x : Value) → IsCount x → IsHome few w q → Told q x × Told q (stored w x)
-  told_count w q (Number z) h g = ((λ b. absurd b), (λ b. g))
+  told_count : (w q x : Value) → IsCount x → IsHome few w q → Told w q x × Told w q (stored w x)
+  told_count w q (Number z) h g = ((λ b. absurd b), (λ b. (g, refl)))
   told_count w q (Place o p) h g = absurd h
   told_count w q (Running x) h g = absurd h
   told_count w q (Object o) h g = absurd h
@@ -110,10 +128,10 @@ module _ (few : Few) where
   at_frames {e} {f} w d todo cs x q h = record {
     exec = x;
     frames = ap length q;
-    stack = λ y. subst (λ fs. BoundStack few e.exec fs cs) (sym q) y;
+    stack = λ u y. subst (λ fs. BoundStack few e.exec fs u cs) (sym q) y;
     list = λ y. subst (λ fs. AllUnbound (IsUnset (frame_at d fs)) todo) (sym q) y;
-    call = λ y. subst (λ fs. AtCall (IsUnset (frame_at d fs)) (IsUnset (frame_at d e.frames)) todo) (sym q) y;
-    told = λ k u g l o. subst (λ fs. Told (Place (Frame e.exec d) (Slot k ∷ [])) (slice_index_or (frame_at d fs) (address (Slot k ∷ [])) nought)) (sym q) (told_count w (Place (Frame e.exec d) (Slot k ∷ [])) (slice_index_or (frame_at d e.frames) (address (Slot k ∷ [])) nought) (u l) g).0 o;
+    call = λ r y. subst (λ fs. AtCall (IsUnset (frame_at d fs)) r (IsUnset (frame_at d e.frames)) todo) (sym q) y;
+    told = λ k u g l o. subst (λ fs. Told w (Place (Frame e.exec d) (Slot k ∷ [])) (slice_index_or (frame_at d fs) (address (Slot k ∷ [])) nought)) (sym q) (told_count w (Place (Frame e.exec d) (Slot k ∷ [])) (slice_index_or (frame_at d e.frames) (address (Slot k ∷ [])) nought) (u l) g).0 o;
     env = h;
   }
 
@@ -125,18 +143,19 @@ module _ (few : Few) where
       subst (λ (b : Bool). KeepsAt w d todo cs e (if b then record e { frames = frame_changed x (value_changed k (stored w) nought) e.frames } else change n.home (frames_changed n.serial (frame_changed x (value_changed k (stored w) nought))) e)) (sym own) (record {
         exec = refl;
         frames = set_length e.frames x (value_changed k (stored w) nought (list_in (at_depth e.frames x)));
-        stack = λ h. stack_aside few e.exec x k w e.frames cs a h;
+        stack = λ u h. stack_aside few e.exec x k w e.frames u cs a h;
         list = λ h. list_aside few e.exec x k w e.frames d todo q h;
-        call = λ h. call_list_aside few e.exec (IsUnset (frame_at d e.frames)) x k w e.frames d todo q h;
+        call = λ r h. call_list_aside few e.exec (IsUnset (frame_at d e.frames)) r x k w e.frames d todo q h;
         told = λ i u g l o. told i u g l o;
         env = like s refl refl refl;
       })
     where
-      told : (i : ℕ) → IsUnset (frame_at d e.frames) i → IsHome few w (Place (Frame e.exec d) (Slot i ∷ [])) → i < LAST_ADDRESS → HoldsObject (frame_at d (frame_changed x (value_changed k (stored w) nought) e.frames)) (Slot i ∷ []) → IsHome few (slice_index_or (frame_at d (frame_changed x (value_changed k (stored w) nought) e.frames)) (address (Slot i ∷ [])) nought) (Place (Frame e.exec d) (Slot i ∷ []))
+      told : (i : ℕ) → IsUnset (frame_at d e.frames) i → IsHome few w (Place (Frame e.exec d) (Slot i ∷ [])) → i < LAST_ADDRESS → HoldsObject (frame_at d (frame_changed x (value_changed k (stored w) nought) e.frames)) (Slot i ∷ []) →
+          IsHome few (slice_index_or (frame_at d (frame_changed x (value_changed k (stored w) nought) e.frames)) (address (Slot i ∷ [])) nought) (Place (Frame e.exec d) (Slot i ∷ [])) × (slice_index_or (frame_at d (frame_changed x (value_changed k (stored w) nought) e.frames)) (address (Slot i ∷ [])) nought ≡ w)
       told i u g l o =
           let place : Value = Place (Frame e.exec d) (Slot i ∷ []) in
           let both = told_count w place (slice_index_or (frame_at d e.frames) (address (Slot i ∷ [])) nought) (u l) g in
-          set_at (λ vs. Told place (slice_index_or vs (address (Slot i ∷ [])) nought)) e.frames x d _ (λ c. cell_either (Told place) w (frame_at x e.frames) (address (Slot i ∷ [])) k (subst (λ y. Told place (slice_index_or (frame_at y e.frames) (address (Slot i ∷ [])) nought)) c both.0) (subst (λ y. Told place (stored w (slice_index_or (frame_at y e.frames) (address (Slot i ∷ [])) nought))) c both.1)) both.0 o
+          set_at (λ vs. Told w place (slice_index_or vs (address (Slot i ∷ [])) nought)) e.frames x d _ (λ c. cell_either (Told w place) w (frame_at x e.frames) (address (Slot i ∷ [])) k (subst (λ y. Told w place (slice_index_or (frame_at y e.frames) (address (Slot i ∷ [])) nought)) c both.0) (subst (λ y. Told w place (stored w (slice_index_or (frame_at y e.frames) (address (Slot i ∷ [])) nought))) c both.1)) both.0 o
 
   owned_aside : (o : Owner) (k : ℕ) (w : Value) (d : ℕ) (todo : List Todo) (cs : List Active) (e : Env) → InFrame o k d todo cs e → BoundEnv few e → KeepsAt w d todo cs e (with_owned o (value_changed k (stored w) nought) e)
   owned_aside (Frame n x) k w d todo cs e a s = frame_at_aside n x k w d todo cs e a.0 a.1 a.2 s
@@ -162,7 +181,7 @@ module _ (few : Few) where
 
   links_kept : (h : Home) (g : Links → Links) (n : ℕ) (o : Option Ex) (m : Members) → SlotBy (BoundEx few) (at_home h n) o → ParkedBy (BoundEx few) h m.parked → ParkedBy (BoundEx few) h (sw.links_by g n o m).parked
   links_kept h g n None m r s = s
-  links_kept h g n (Some x) m r s = parked.update_parked (BoundEx few) h n (Some (record x { links = g x.links })) m.parked (record { frames = r.frames; stack = r.stack }) s
+  links_kept h g n (Some x) m r s = parked.update_parked (BoundEx few) h n (Some (record x { links = g x.links })) m.parked (record { frames = r.frames; frame = r.frame; run = r.run; callers = r.callers }) s
 
   pub links_keeps : (g : Links → Links) (n : Exec) (e : Env) → BoundEnv few e → Keeps e (sw.with_links g n e)
   links_keeps g n e s =
@@ -172,101 +191,106 @@ module _ (few : Few) where
   enlivened_keeps None e s = keeps_like s refl refl refl refl refl
   enlivened_keeps (Some n) e s = links_keeps (λ l. record l { live = true }) n e s
 
-  -- switches
+  module _ (source : Source) where
+    -- switches
 
-  abbrev pub LifeMoved : Moved (List Todo) Value → Type 0
-  LifeMoved (To s) = BoundState few s
-  LifeMoved (Stops f) = Unit {0}
+    abbrev pub LifeMoved : Moved (List Todo) Value → Type 0
+    LifeMoved (To s) = BoundState few source false s
+    LifeMoved (Stops f) = Unit {0}
 
-  -- who may be activated
-  abbrev LifeNext : Option (Exec × Ex) → Type 0
-  LifeNext None = Unit {0}
-  LifeNext (Some p) = BoundEx few p.0 p.1
+    -- who may be activated
+    abbrev LifeNext : Option (Exec × Ex) → Type 0
+    LifeNext None = Unit {0}
+    LifeNext (Some p) = BoundEx few p.0 p.1
 
-  switched_rests : (n : Exec) (x : Ex) (s : State) → BoundEx few n x → BoundState few s → BoundState few (sw.switched n x s)
-  switched_rests n x s r h = record {
-    frames = r.frames;
-    stack = r.stack;
-    env = like (parked.slot_rests (BoundEx few) s.env.exec (Some (sw.stopped s)) (sw.set_slot n None s.env) (record { frames = h.frames; stack = h.stack }) (parked.slot_rests (BoundEx few) n None s.env tt h.env)) refl refl refl;
-  }
+    switched_rests : (n : Exec) (x : Ex) (s : State) → BoundEx few n x → BoundState few source false s → BoundState few source false (sw.switched n x s)
+    switched_rests n x s r h = record {
+      frames = r.frames;
+      frame = r.frame;
+      run = r.run;
+      callers = r.callers;
+      env = like (parked.slot_rests (BoundEx few) s.env.exec (Some (sw.stopped s)) (sw.set_slot n None s.env) (record { frames = h.frames; frame = h.frame; run = h.run; callers = h.callers }) (parked.slot_rests (BoundEx few) n None s.env tt h.env)) refl refl refl;
+    }
 
-  able_stage : (g : Stage) (n : Exec) (x : Ex) → BoundEx few n x → LifeNext (sw.able_at g n x)
-  able_stage Fresh n x r = tt
-  able_stage Started n x r = r
-  able_stage Ended n x r = tt
+    able_stage : (g : Stage) (n : Exec) (x : Ex) → BoundEx few n x → LifeNext (sw.able_at g n x)
+    able_stage Fresh n x r = tt
+    able_stage Started n x r = r
+    able_stage Ended n x r = tt
 
-  able_slot : (n : Exec) (o : Option Ex) → SlotBy (BoundEx few) n o → LifeNext (sw.able_by n o)
-  able_slot n None r = tt
-  able_slot n (Some x) r = able_stage x.links.stage n x r
+    able_slot : (n : Exec) (o : Option Ex) → SlotBy (BoundEx few) n o → LifeNext (sw.able_by n o)
+    able_slot n None r = tt
+    able_slot n (Some x) r = able_stage x.links.stage n x r
 
-  able_rests : (o : Option Exec) (e : Env) → BoundEnv few e → LifeNext (sw.able o e)
-  able_rests None e s = tt
-  able_rests (Some n) e s = able_slot n (parked_at n e) (parked.parked_rests (BoundEx few) n e s)
+    able_rests : (o : Option Exec) (e : Env) → BoundEnv few e → LifeNext (sw.able o e)
+    able_rests None e s = tt
+    able_rests (Some n) e s = able_slot n (parked_at n e) (parked.parked_rests (BoundEx few) n e s)
 
-  or_rests : (a b : Option (Exec × Ex)) → LifeNext a → LifeNext b → LifeNext (sw.or_else a b)
-  or_rests None b h k = k
-  or_rests (Some p) b h k = h
+    or_rests : (a b : Option (Exec × Ex)) → LifeNext a → LifeNext b → LifeNext (sw.or_else a b)
+    or_rests None b h k = k
+    or_rests (Some p) b h k = h
 
-  go_on_rests : (o : Option (Exec × Ex)) (s : State) → LifeNext o → BoundState few s → LifeMoved (sw.go_on o s)
-  go_on_rests None s r h = tt
-  go_on_rests (Some p) s r h = switched_rests p.0 p.1 s r h
+    go_on_rests : (o : Option (Exec × Ex)) (s : State) → LifeNext o → BoundState few source false s → LifeMoved (sw.go_on o s)
+    go_on_rests None s r h = tt
+    go_on_rests (Some p) s r h = switched_rests p.0 p.1 s r h
 
-  wake_stage : (g : Stage) (n : Exec) (x : Ex) (s : State) → BoundEx few n x → BoundState few s → LifeMoved (sw.wake_at g n x s)
-  wake_stage Fresh n x s r h = switched_rests n _ s (record { frames = r.frames; stack = r.stack }) h
-  wake_stage Started n x s r h = switched_rests n _ s (record { frames = r.frames; stack = r.stack }) h
-  wake_stage Ended n x s r h = tt
+    wake_stage : (g : Stage) (n : Exec) (x : Ex) (s : State) → BoundEx few n x → BoundState few source false s → LifeMoved (sw.wake_at g n x s)
+    wake_stage Fresh n x s r h = switched_rests n _ s (record { frames = r.frames; frame = r.frame; run = r.run; callers = r.callers }) h
+    wake_stage Started n x s r h = switched_rests n _ s (record { frames = r.frames; frame = r.frame; run = r.run; callers = r.callers }) h
+    wake_stage Ended n x s r h = tt
 
-  wake_slot : (n : Exec) (o : Option Ex) (s : State) → SlotBy (BoundEx few) n o → BoundState few s → LifeMoved (sw.wake_by n o s)
-  wake_slot n None s r h = tt
-  wake_slot n (Some x) s r h = wake_stage x.links.stage n x s r h
+    wake_slot : (n : Exec) (o : Option Ex) (s : State) → SlotBy (BoundEx few) n o → BoundState few source false s → LifeMoved (sw.wake_by n o s)
+    wake_slot n None s r h = tt
+    wake_slot n (Some x) s r h = wake_stage x.links.stage n x s r h
 
-  wake_one_rests : (o : Option Exec) (s : State) → BoundState few s → LifeMoved (sw.wake_one o s)
-  wake_one_rests None s h = tt
-  wake_one_rests (Some n) s h = either LifeMoved (exec_eq n s.env.exec) (Stops ResumeInUse) (sw.wake_by n (parked_at n s.env) s) tt (wake_slot n (parked_at n s.env) s (parked.parked_rests (BoundEx few) n s.env h.env) h)
+    wake_one_rests : (o : Option Exec) (s : State) → BoundState few source false s → LifeMoved (sw.wake_one o s)
+    wake_one_rests None s h = tt
+    wake_one_rests (Some n) s h = either LifeMoved (exec_eq n s.env.exec) (Stops ResumeInUse) (sw.wake_by n (parked_at n s.env) s) tt (wake_slot n (parked_at n s.env) s (parked.parked_rests (BoundEx few) n s.env h.env) h)
 
-  pub wake_rests : (o : Option Exec) (s : State) → BoundState few s → LifeMoved (sw.wake o s)
-  wake_rests o s h = either LifeMoved (sw.in_destruction s.env) (Stops SwitchInUnwind) (sw.wake_one o s) tt (wake_one_rests o s h)
+    pub wake_rests : (o : Option Exec) (s : State) → BoundState few source false s → LifeMoved (sw.wake o s)
+    wake_rests o s h = either LifeMoved (sw.in_destruction s.env) (Stops SwitchInUnwind) (sw.wake_one o s) tt (wake_one_rests o s h)
 
-  pub suspend_rests : (s : State) → BoundState few s → LifeMoved (sw.suspend s)
-  suspend_rests s h = either LifeMoved (sw.in_destruction s.env) (Stops SwitchInUnwind) (sw.go_on (sw.able s.env.links.resumer s.env) s) tt (go_on_rests (sw.able s.env.links.resumer s.env) s (able_rests s.env.links.resumer s.env h.env) h)
+    pub suspend_rests : (s : State) → BoundState few source false s → LifeMoved (sw.suspend s)
+    suspend_rests s h = either LifeMoved (sw.in_destruction s.env) (Stops SwitchInUnwind) (sw.go_on (sw.able s.env.links.resumer s.env) s) tt (go_on_rests (sw.able s.env.links.resumer s.env) s (able_rests s.env.links.resumer s.env h.env) h)
 
-  ended_rests : (s : State) → BoundState few s → BoundState few (sw.ended s)
-  ended_rests s h = record { frames = h.frames; stack = h.stack; env = like h.env refl refl refl }
+    ended_rests : (s : State) → BoundState few source false s → BoundState few source false (sw.ended s)
+    ended_rests s h = record { frames = h.frames; frame = h.frame; run = h.run; callers = h.callers; env = like h.env refl refl refl }
 
-  pub finish_rests : (s : State) → BoundState few s → LifeMoved (sw.finish s)
-  finish_rests s h =
-      go_on_rests (sw.or_else (sw.able s.env.links.starter s.env) (sw.able s.env.links.resumer s.env)) (sw.ended s) (or_rests (sw.able s.env.links.starter s.env) (sw.able s.env.links.resumer s.env) (able_rests s.env.links.starter s.env h.env) (able_rests s.env.links.resumer s.env h.env)) (ended_rests s h)
+    pub finish_rests : (s : State) → BoundState few source false s → LifeMoved (sw.finish s)
+    finish_rests s h =
+        go_on_rests (sw.or_else (sw.able s.env.links.starter s.env) (sw.able s.env.links.resumer s.env)) (sw.ended s) (or_rests (sw.able s.env.links.starter s.env) (sw.able s.env.links.resumer s.env) (able_rests s.env.links.starter s.env h.env) (able_rests s.env.links.resumer s.env h.env)) (ended_rests s h)
 
-  throw_rests : (o : Option (Exec × Ex)) (s : State) → LifeNext o → BoundState few s → LifeMoved (sw.throw_at o s)
-  throw_rests None s r h = tt
-  throw_rests (Some p) s r h = switched_rests p.0 _ s (record { frames = r.frames; stack = r.stack }) h
+    throw_rests : (o : Option (Exec × Ex)) (s : State) → LifeNext o → BoundState few source false s → LifeMoved (sw.throw_at o s)
+    throw_rests None s r h = tt
+    throw_rests (Some p) s r h = switched_rests p.0 _ s (record { frames = r.frames; frame = r.frame; run = r.run; callers = r.callers }) h
 
-  pub escape_rests : (s : State) → BoundState few s → LifeMoved (sw.escape s)
-  escape_rests s h = throw_rests (sw.able s.env.links.resumer s.env) (sw.ended s) (able_rests s.env.links.resumer s.env h.env) (ended_rests s h)
+    pub escape_rests : (s : State) → BoundState few source false s → LifeMoved (sw.escape s)
+    escape_rests s h = throw_rests (sw.able s.env.links.resumer s.env) (sw.ended s) (able_rests s.env.links.resumer s.env h.env) (ended_rests s h)
 
-  pub taken_down_rests : (s : State) → BoundState few s → LifeMoved (sw.taken_down s)
-  taken_down_rests s h = go_on_rests (sw.able s.env.links.destroyer s.env) (sw.ended s) (able_rests s.env.links.destroyer s.env h.env) (ended_rests s h)
+    pub taken_down_rests : (s : State) → BoundState few source false s → LifeMoved (sw.taken_down s)
+    taken_down_rests s h = go_on_rests (sw.able s.env.links.destroyer s.env) (sw.ended s) (able_rests s.env.links.destroyer s.env h.env) (ended_rests s h)
 
-  -- the same running execution, in a task that has changed
-  pub with_env : {e : Env} (s : State) → BoundState few s → Keeps s.env e → BoundState few (record s { env = e })
-  with_env {e} s h k = record {
-    frames = k.frames ∙ h.frames;
-    stack = subst (λ n. BoundStack few n e.frames (s.run ∷ s.callers)) (sym k.exec) (k.stack (s.run ∷ s.callers) h.stack);
-    env = k.env;
-  }
+    -- the same running execution, in a task that has changed
+    pub with_env : {e : Env} (s : State) → BoundState few source false s → Keeps s.env e → BoundState few source false (record s { env = e })
+    with_env {e} s h k = record {
+      frames = k.frames ∙ h.frames;
+      frame = h.frame;
+      run = k.list s.run.frame s.run.control h.run;
+      callers = subst (λ n. BoundStack few n e.frames s.run.this s.callers) (sym k.exec) (k.stack s.run.this s.callers h.callers);
+      env = k.env;
+    }
 
-  over_rests : (n : Exec) (s : State) → BoundState few s → BoundState few (sw.over n s)
-  over_rests n s h = with_env s h (links_keeps (λ l. record l { live = false; stage = Ended }) n s.env h.env)
+    over_rests : (n : Exec) (s : State) → BoundState few source false s → BoundState few source false (sw.over n s)
+    over_rests n s h = with_env s h (links_keeps (λ l. record l { live = false; stage = Ended }) n s.env h.env)
 
-  take_down_stage : (g : Stage) (n : Exec) (x : Ex) (s : State) → BoundEx few n x → BoundState few s → LifeMoved (sw.take_down_at g n x s)
-  take_down_stage Fresh n x s r h = over_rests n s h
-  take_down_stage Started n x s r h = switched_rests n _ s (record { frames = r.frames; stack = r.stack }) h
-  take_down_stage Ended n x s r h = over_rests n s h
+    take_down_stage : (g : Stage) (n : Exec) (x : Ex) (s : State) → BoundEx few n x → BoundState few source false s → LifeMoved (sw.take_down_at g n x s)
+    take_down_stage Fresh n x s r h = over_rests n s h
+    take_down_stage Started n x s r h = switched_rests n _ s (record { frames = r.frames; frame = r.frame; run = r.run; callers = r.callers }) h
+    take_down_stage Ended n x s r h = over_rests n s h
 
-  take_down_slot : (n : Exec) (o : Option Ex) (s : State) → SlotBy (BoundEx few) n o → BoundState few s → LifeMoved (sw.take_down_by n o s)
-  take_down_slot n None s r h = h
-  take_down_slot n (Some x) s r h = take_down_stage x.links.stage n x s r h
+    take_down_slot : (n : Exec) (o : Option Ex) (s : State) → SlotBy (BoundEx few) n o → BoundState few source false s → LifeMoved (sw.take_down_by n o s)
+    take_down_slot n None s r h = h
+    take_down_slot n (Some x) s r h = take_down_stage x.links.stage n x s r h
 
-  pub take_down_rests : (o : Option Exec) (s : State) → BoundState few s → LifeMoved (sw.take_down o s)
-  take_down_rests None s h = h
-  take_down_rests (Some n) s h = take_down_slot n (parked_at n s.env) s (parked.parked_rests (BoundEx few) n s.env h.env) h
+    pub take_down_rests : (o : Option Exec) (s : State) → BoundState few source false s → LifeMoved (sw.take_down o s)
+    take_down_rests None s h = h
+    take_down_rests (Some n) s h = take_down_slot n (parked_at n s.env) s (parked.parked_rests (BoundEx few) n s.env h.env) h

@@ -16,7 +16,7 @@ use Rattle.uc_machine.specs.declared.exec.Exec.{Exec}
 use Rattle.uc_machine.specs.declared.exec.Owner.{Owner}
 use Rattle.uc_machine.specs.Executions.{others}
 use Rattle.uc_machine.specs.Pieces as piece
-use Rattle.uc_machine.specs.Pieces.{Link, Slot, Value, Number, Place, Running, Object, Nothing, LAST_ADDRESS, address, nought, Todo, State, top, below, this_frame, variable_at}
+use Rattle.uc_machine.specs.Pieces.{Link, Slot, Value, Number, Place, Running, Object, Nothing, LAST_ADDRESS, address, nought, Todo, Active, State, top, below, this_frame, variable_at}
 use Rattle.uc_machine.specs.Answering.{answered}
 use Rattle.uc_machine.specs.Rides as rides
 use Rattle.uc_machine.specs.Rides.{Rides}
@@ -64,8 +64,9 @@ use Rattle.uc_life_laws.specs.MadeObjects.{Binds, BindsAt as BoundAt}
 use Rattle.uc_life_laws.specs.HomedStates.{Owns, Inside, all_of_it, own_field, own_element, IsAtHome, HoldsHome, Opens, OpensAt}
 use Rattle.uc_life_laws.proofs.Homes.{law_binds}
 use Rattle.uc_putting_laws.specs.Putting.{IsHome}
-use Rattle.uc_homed_ends.specs.BoundHomes.{OfMutex, OpensMutex, DropMutex, CallMutex, MakesBy, AllUnbound, AtBound as AtSet, IsUnset, IsSet, BoundState}
-use Rattle.uc_homed_ends.specs.BoundLaws.{SetsAt, Finds, OpensSetAt, OpensSet, IsWhole, OpensWholeAt, OpensWhole, LawSet, LawOpens}
+use Rattle.uc_homed_ends.specs.BoundHomes.{OfMutex, OpensMutex, DropMutex, CallMutex, NoVariable, MakesBy, AllUnbound, AtDrop, AtNow, IsUnset, IsSet, IsThat, BoundStack, BoundState}
+use Rattle.uc_homed_ends.specs.BoundLaws.{SetsAt, Finds, OpensSetAt, OpensSet, IsWhole, OpensWholeAt, OpensWhole, AwaitsFor, Awaits, LawAwaits, LawSet, LawOpens}
+use Rattle.uc_homed_ends.proofs.BoundCells.{opens_both}
 use Rattle.uc_homed_ends.proofs.BoundWorlds.{run_bound, leads_bound}
 
 -- what holds in each state to which somebody comes holds in each state of a run
@@ -338,13 +339,19 @@ scope_low p s st ad d k w rest todo e =
     let short : HasAddresses s = subst (λ l. AddressedAt l s) e ad in
     omega (arith, high, cells, up, lies, short)
 
-module _ (p : Program) (few : Few) (s : State) (k : Known p s) (b : BoundState few s) where
+module _ (p : Program) (few : Few) (s : State) (k : Known p s) (b : BoundState few (source_of p) true s) where
+  abbrev values : List Value
+  values = frame_at s.run.frame s.env.frames
+
+  abbrev Set : List Todo → Type 0
+  Set l = AtNow (IsUnset values) (IsSet few s.env.exec values s.run.frame) (λ r. IsThat few s.env.exec (top (drop (params (source_of p) r) s.run.operands)) values s.run.frame) l
+
   set_clean : (c : CleanUp) (rest : Stmts) (todo : List Todo) → s.run.control ≡ piece.Rest (src.Scoped c rest) ∷ todo → OfMutex (λ i. IsHome few (slice_index_or (frame_at s.run.frame s.env.frames) (address (Slot i ∷ [])) nought) (variable_at i s)) c
-  set_clean (src.Destroys (src.OfObject (src.EndOn d w (src.Load (src.Variable i))))) rest todo e = by b.stack.1
+  set_clean (src.Destroys (src.OfObject (src.EndOn d w (src.Load (src.Variable i))))) rest todo e = by b.run
     where
-      by : AllUnbound (IsUnset (frame_at s.run.frame s.env.frames)) s.run.control ⊎ AtSet (IsUnset (frame_at s.run.frame s.env.frames)) (IsSet few s.env.exec (frame_at s.run.frame s.env.frames) s.run.frame) s.run.control → IsHome few (slice_index_or (frame_at s.run.frame s.env.frames) (address (Slot i ∷ [])) nought) (variable_at i s)
-      by (inl h) = let x = subst (AllUnbound (IsUnset (frame_at s.run.frame s.env.frames))) e h in absurd x.0
-      by (inr h) = let x = subst (AtSet (IsUnset (frame_at s.run.frame s.env.frames)) (IsSet few s.env.exec (frame_at s.run.frame s.env.frames) s.run.frame)) e h in x.0 (scope_low p s k.stack k.addressed d i w rest todo e)
+      by : AllUnbound (IsUnset values) s.run.control ⊎ Set s.run.control → IsHome few (slice_index_or values (address (Slot i ∷ [])) nought) (variable_at i s)
+      by (inl h) = let x = subst (AllUnbound (IsUnset values)) e h in absurd x.0
+      by (inr h) = let x = subst Set e h in x.0 (scope_low p s k.stack k.addressed d i w rest todo e)
   set_clean c rest todo e = tt
 
   opens_set : OpensSet few s
@@ -367,20 +374,68 @@ module _ (p : Program) (formed : IsFormed p) (accepted : breaks_of p ≡ []) (wi
   begins : there.SourceBegins (source_of p)
   begins = law_fair.begins p (source_of p) (law_accepted p accepted)
 
-  set_run : RunMeets (OpensSet few) (source_of p) input opts j w r
-  set_run = run_zip (Known p) (BoundState few) (OpensSet few) (opens_set p few) r known_run (run_bound few (source_of p) begins input opts range r fits finds_run).1
+  bound_run : RunMeets (BoundState few (source_of p) true) (source_of p) input opts j w r
+  bound_run = (run_bound few (source_of p) begins input opts range r fits finds_run).1
 
-  set_leads : is_over j ≡ false → (t : ℕ) (s : State) (c : Comes (source_of p) j w t s) → OpensSet few s × LeadsMeet (OpensSet few) (source_of p) (answered (source_of p) c.given (drawn j w t)) s c.leads
-  set_leads on t s c =
-      let known_leads : LeadsMeet (Known p) (source_of p) (answered (source_of p) c.given (drawn j w t)) s c.leads = leads_meet (Known p) c.leads (λ v l. known p formed accepted within input opts range j w r fits on t v (record { given = c.given; processor = c.processor; runs = c.runs; told = c.told; leads = l })) in
-      let finds_leads : LeadsMeet (Finds few (source_of p)) (source_of p) (answered (source_of p) c.given (drawn j w t)) s c.leads = leads_zip (Known p) Told (Finds few (source_of p)) (finds p formed accepted within input opts range few (home_of (source_of p) input opts j w r) (object_count j) same) c.leads known_leads (law_binds.leads (source_of p) input opts j w r range fits on t s c).0 in
-      let b = leads_bound few (source_of p) begins input opts range r fits finds_run on t s c finds_leads in
-      (opens_set p few s (known p formed accepted within input opts range j w r fits on t s c) b.0, leads_zip (Known p) (BoundState few) (OpensSet few) (opens_set p few) c.leads known_leads b.1)
+  set_run : RunMeets (OpensSet few) (source_of p) input opts j w r
+  set_run = run_zip (Known p) (BoundState few (source_of p) true) (OpensSet few) (opens_set p few) r known_run bound_run
+
+  module _ (on : is_over j ≡ false) (t : ℕ) (s : State) (c : Comes (source_of p) j w t s) where
+    known_leads : LeadsMeet (Known p) (source_of p) (answered (source_of p) c.given (drawn j w t)) s c.leads
+    known_leads = leads_meet (Known p) c.leads (λ v l. known p formed accepted within input opts range j w r fits on t v (record { given = c.given; processor = c.processor; runs = c.runs; told = c.told; leads = l }))
+
+    bound_leads : BoundState few (source_of p) true s × LeadsMeet (BoundState few (source_of p) true) (source_of p) (answered (source_of p) c.given (drawn j w t)) s c.leads
+    bound_leads =
+        let finds_leads : LeadsMeet (Finds few (source_of p)) (source_of p) (answered (source_of p) c.given (drawn j w t)) s c.leads = leads_zip (Known p) Told (Finds few (source_of p)) (finds p formed accepted within input opts range few (home_of (source_of p) input opts j w r) (object_count j) same) c.leads known_leads (law_binds.leads (source_of p) input opts j w r range fits on t s c).0 in
+        leads_bound few (source_of p) begins input opts range r fits finds_run on t s c finds_leads
+
+    set_leads : OpensSet few s × LeadsMeet (OpensSet few) (source_of p) (answered (source_of p) c.given (drawn j w t)) s c.leads
+    set_leads = (
+      opens_set p few s (known p formed accepted within input opts range j w r fits on t s c) bound_leads.0,
+      leads_zip (Known p) (BoundState few (source_of p) true) (OpensSet few) (opens_set p few) c.leads known_leads bound_leads.1,
+    )
+
+-- what an activation waits for is of the object that it bound
+
+waits_for : (Q S P : ℕ → Type 0) (f : (k : ℕ) → S k → P k) (todo : List Todo) → AllUnbound Q todo ⊎ AtDrop Q S todo → DropMutex P todo
+waits_for Q S P f (piece.DropNow ∷ (piece.Within line ∷ (piece.Rest ss ∷ todo))) (inl h) = opens_both NoVariable NoVariable P (λ k x y. absurd x) ss h.1.1.0 h.1.1.0
+waits_for Q S P f (piece.DropNow ∷ (piece.Within line ∷ (piece.Rest ss ∷ todo))) (inr h) = opens_both S S P (λ k x y. f k x) ss h.0 h.0
+waits_for Q S P f todo h = tt
+
+awaits_for : (few : Few) (n : Exec) (fs : List (List Value)) (v : Value) (cs : List Active) → BoundStack few n fs v cs → AwaitsFor fs v cs
+awaits_for few n fs v [] h = tt
+awaits_for few n fs v (a ∷ older) h =
+    (waits_for (IsUnset (frame_at a.frame fs)) (IsThat few n v (frame_at a.frame fs) a.frame) (λ k. k < LAST_ADDRESS → slice_index_or (frame_at a.frame fs) (address (Slot k ∷ [])) nought ≡ v) (λ k x l. (x l).1) a.control h.1, awaits_for few n fs a.this older h.2)
 
 pub law_set : LawSet
 law_set = record {
   runs = λ p formed accepted within few input opts range j w r fits same. set_run p formed accepted within few input opts range r fits same;
   leads = λ p formed accepted within few input opts range j w r fits same on t s c. set_leads p formed accepted within few input opts range r fits same on t s c;
+}
+
+module _ (p : Program) (formed : IsFormed p) (accepted : breaks_of p ≡ []) (within : IsWithinLimits p) (input : List ℕ) (opts : Options) (range : InRange opts) {j : Journal} {w : World} (r : Runs (source_of p) input opts j w) (fits : RunFits (source_of p) input opts j w r) where
+  -- with the homes that the run tells
+  abbrev told : Few
+  told = record { numbers = λ a o. false; home = λ o. home_of (source_of p) input opts j w r o; base = λ n v a. false }
+
+  abbrev Bound : State → Type 0
+  Bound s = BoundState told (source_of p) true s
+
+  awaits_at : (s : State) → Known p s → Bound s → Awaits s
+  awaits_at s k b = awaits_for told s.env.exec s.env.frames s.run.this s.callers b.callers
+
+  awaits_run : RunMeets Awaits (source_of p) input opts j w r
+  awaits_run = run_zip (Known p) Bound Awaits awaits_at r (known_run p formed accepted within told input opts range r fits (λ o. refl)) (bound_run p formed accepted within told input opts range r fits (λ o. refl))
+
+  awaits_leads : is_over j ≡ false → (t : ℕ) (s : State) (c : Comes (source_of p) j w t s) → Awaits s × LeadsMeet Awaits (source_of p) (answered (source_of p) c.given (drawn j w t)) s c.leads
+  awaits_leads on t s c =
+      let b = bound_leads p formed accepted within told input opts range r fits (λ o. refl) on t s c in
+      (awaits_for told s.env.exec s.env.frames s.run.this s.callers b.0.callers, leads_zip (Known p) Bound Awaits awaits_at c.leads (known_leads p formed accepted within told input opts range r fits (λ o. refl) on t s c) b.1)
+
+pub law_awaits : LawAwaits
+law_awaits = record {
+  runs = λ p formed accepted within input opts range j w r fits. awaits_run p formed accepted within input opts range r fits;
+  leads = λ p formed accepted within input opts range j w r fits on t s c. awaits_leads p formed accepted within input opts range r fits on t s c;
 }
 
 -- so each scope opens where mutex objects are at home

@@ -10,7 +10,7 @@ use Rattle.uc_life_laws.specs.Knowing.{ReadsKnown, Finds}
 use Rattle.uc_putting_laws.specs.Putting.{Setting, IsEnding}
 use Rattle.uc_homed_ends.specs.EndWays as ways
 use Rattle.uc_homed_ends.specs.EndWays.{NowState}
-use Rattle.uc_homed_ends.specs.HomedEnds.{IsElsewhere, RestAt, Rest}
+use Rattle.uc_homed_ends.specs.HomedEnds.{RestAt, Rest}
 use Rattle.uc_homed_ends.specs.HomesLeft.{KnowsReads}
 use Rattle.uc_homed_ends.proofs.EndReads.{Reading, reading_of}
 use Rattle.uc_homed_ends.proofs.EndHomes.{HomedHere}

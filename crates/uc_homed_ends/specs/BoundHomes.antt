@@ -1,14 +1,17 @@
 -- To-do lists and tasks in which a variable that is a mutex object holds a number until it is bound, and from then on, up to its scope, the object
--- that is at home there.
-use Rattle.std.specs.Prelude.{◌≡◌, ℕ, suc, ◌≤◌, ◌<◌, ◌⊎◌, List, [], ◌∷◌, length, slice_index_or, Option}
-use Rattle.uc_tree.specs.Source.{Expr, Variable, Load, OfObject, MakeOn, EndOn, CleanUp, Destroys, Stmt, Stmts, Evaluate, Scoped}
+-- that is at home there, for which its constructor is called.
+use Rattle.std.specs.Prelude.{◌≡◌, ℕ, suc, ◌≤◌, ◌<◌, ◌⊎◌, Bool, true, false, List, [], ◌∷◌, length, drop, slice_index_or, Option}
+use Rattle.uc_tree.specs.Source.{Source, Expr, Variable, Load, OfObject, MakeOn, EndOn, CleanUp, Destroys, Stmt, Stmts, Evaluate, Scoped}
+use Rattle.uc_entry.specs.declared.request.Request.{Request}
+use Rattle.uc_entry.specs.declared.request.Request.TheVariants as ask
 use Rattle.uc_machine.specs.declared.exec.Exec.{Exec}
 use Rattle.uc_machine.specs.declared.exec.Home.{Home}
 use Rattle.uc_machine.specs.declared.exec.Owner.TheVariants.{Frame}
 use Rattle.uc_machine.specs.Executions.{Execution}
 use Rattle.uc_machine.specs.Pieces as piece
-use Rattle.uc_machine.specs.Pieces.{Slot, Value, Place, LAST_ADDRESS, address, nought, Todo, Sort, sort, Active, State, Env, Members, Step, Goes, Ticks, Asks}
+use Rattle.uc_machine.specs.Pieces.{Slot, Value, Place, LAST_ADDRESS, address, nought, top, Todo, Sort, sort, Active, State, Env, Members, Step, Goes, Ticks, Asks}
 use Rattle.uc_state_laws.specs.Clusters.{HandlersBegin}
+use Rattle.uc_state_laws.specs.Counted.{params}
 use Rattle.uc_state_laws.specs.Declaring.{IsCount}
 use Rattle.uc_state_laws.specs.NewClusters.{IsLast}
 use Rattle.uc_life_laws.specs.Things.{Few}
@@ -70,8 +73,8 @@ module _ (Unbound : ℕ → Type 0) where
     AllUnbound [] = Unit {0}
     AllUnbound (piece.Eval e ∷ todo) = AllUnbound todo ⊎ (IsMaking e × AtDrop Unbound todo)
     AllUnbound (piece.Do a ∷ todo) = AllUnbound todo ⊎ (MakesBy a × AtRest Unbound todo)
-    AllUnbound (piece.MakeNow c r ∷ todo) = AllUnbound todo ⊎ AtCall Unbound todo
-    AllUnbound (piece.BindMadeNow c r ∷ todo) = AllUnbound todo ⊎ AtCall Unbound todo
+    AllUnbound (piece.MakeNow c r ∷ todo) = AllUnbound todo ⊎ AtCall r Unbound todo
+    AllUnbound (piece.BindMadeNow c r ∷ todo) = AllUnbound todo ⊎ AtCall r Unbound todo
     AllUnbound (piece.Exit w ∷ todo) = AllLeft todo
     AllUnbound (piece.Unwind ∷ todo) = AllLeft todo
     AllUnbound (p ∷ todo) = PieceBegins p × AllUnbound todo
@@ -85,26 +88,24 @@ module _ (Unbound : ℕ → Type 0) where
     AtDrop P (piece.DropNow ∷ (piece.Within line ∷ todo)) = AtRest P todo
     AtDrop P todo = ⊥
 
-    pub AtCall : (ℕ → Type 0) → List Todo → Type 0
-    AtCall P (piece.CallOnNow r ∷ todo) = AtDrop P todo
-    AtCall P (piece.CallUnwrittenNow r ∷ todo) = AtDrop P todo
-    AtCall P todo = ⊥
+    -- behind the call of this constructor
+    pub AtCall : ℕ → (ℕ → Type 0) → List Todo → Type 0
+    AtCall r P (piece.CallOnNow q ∷ todo) = (q ≡ r) × AtDrop P todo
+    AtCall r P (piece.CallUnwrittenNow q ∷ todo) = (q ≡ r) × AtDrop P todo
+    AtCall r P todo = ⊥
 
     pub AllLeft : List Todo → Type 0
     AllLeft [] = Unit {0}
     AllLeft (p ∷ todo) = LeftBy (sort p) (AllLeft todo) (AllUnbound todo)
 
-  -- what is to do behind the step that binds one, of which this holds
-  abbrev pub AtBound : (ℕ → Type 0) → List Todo → Type 0
-  AtBound P (piece.Rest ss ∷ todo) = OpensMutex P ss × AllUnbound todo
-  AtBound P (piece.Within line ∷ todo) = AtRest P todo
-  AtBound P (piece.DropNow ∷ (piece.Within line ∷ todo)) = AtRest P todo
-  AtBound P (piece.CallOnNow r ∷ todo) = AtDrop P todo
-  AtBound P (piece.CallUnwrittenNow r ∷ todo) = AtDrop P todo
-  AtBound P todo = ⊥
-
-  abbrev pub Held : (ℕ → Type 0) → List Todo → Type 0
-  Held Bound todo = AllUnbound todo ⊎ AtBound Bound todo
+  -- what is to do behind the step that binds one: `C r`: what holds of that as the constructor r is called, `P`: behind the call
+  abbrev pub AtNow : (ℕ → Type 0) → (ℕ → ℕ → Type 0) → List Todo → Type 0
+  AtNow P C (piece.Rest ss ∷ todo) = OpensMutex P ss × AllUnbound todo
+  AtNow P C (piece.Within line ∷ todo) = AtRest P todo
+  AtNow P C (piece.DropNow ∷ (piece.Within line ∷ todo)) = AtRest P todo
+  AtNow P C (piece.CallOnNow r ∷ todo) = AtDrop (C r) todo
+  AtNow P C (piece.CallUnwrittenNow r ∷ todo) = AtDrop (C r) todo
+  AtNow P C todo = ⊥
 
 -- a variable of a frame with these values, at a cell with an address of its own, holds a number
 abbrev pub IsUnset : List Value → ℕ → Type 0
@@ -116,20 +117,35 @@ module _ (few : Few) (n : Exec) where
   IsSet vs f k = k < LAST_ADDRESS →
       IsHome few (slice_index_or vs (address (Slot k ∷ [])) nought) (Place (Frame n f) (Slot k ∷ []))
 
-  abbrev pub HeldIn : List Value → ℕ → List Todo → Type 0
-  HeldIn vs f todo = Held (IsUnset vs) (IsSet vs f) todo
+  -- and that is this value
+  abbrev pub IsThat : Value → List Value → ℕ → ℕ → Type 0
+  IsThat v vs f k = k < LAST_ADDRESS →
+      IsHome few (slice_index_or vs (address (Slot k ∷ [])) nought) (Place (Frame n f) (Slot k ∷ [])) ×
+      (slice_index_or vs (address (Slot k ∷ [])) nought ≡ v)
 
-  -- activations with these frames: each uses its own frame or that of an older one
-  abbrev pub BoundStack : List (List Value) → List Active → Type 0
-  BoundStack fs [] = Unit {0}
-  BoundStack fs (a ∷ older) = (a.frame ≤ length older) ×
-      HeldIn (frame_at a.frame fs) a.frame a.control × BoundStack fs older
+  -- an activation that waits for one with this object, which is that of the variable whose scope opens next
+  abbrev pub WaitsFor : Value → List Value → ℕ → List Todo → Type 0
+  WaitsFor v vs f todo = AllUnbound (IsUnset vs) todo ⊎ AtDrop (IsUnset vs) (IsThat v vs f) todo
+
+  -- one that runs, with these operands: in a state at rest, or on its way, where it may call the constructor of that object for it
+  abbrev pub RunsWith : Bool → Source → List Value → List Value → ℕ → List Todo → Type 0
+  RunsWith false source operands vs f todo = AllUnbound (IsUnset vs) todo
+  RunsWith true source operands vs f todo = AllUnbound (IsUnset vs) todo ⊎
+      AtNow (IsUnset vs) (IsSet vs f) (λ r. IsThat (top (drop (params source r) operands)) vs f) todo
+
+  -- activations with these frames that wait for one with this object, each for the next one: each uses its own frame or that of an older one
+  abbrev pub BoundStack : List (List Value) → Value → List Active → Type 0
+  BoundStack fs v [] = Unit {0}
+  BoundStack fs v (a ∷ older) = (a.frame ≤ length older) ×
+      WaitsFor v (frame_at a.frame fs) a.frame a.control × BoundStack fs a.this older
 
 module _ (few : Few) where
   -- an execution of this name that does not run, with a frame for each activation
   pub record BoundEx (n : Exec) (x : Execution (List Todo) Value) : Type 0 where
     pub frames : length x.frames ≡ suc (length x.callers)
-    pub stack : BoundStack few n x.frames (x.run ∷ x.callers)
+    pub frame : x.run.frame ≤ length x.callers
+    pub run : AllUnbound (IsUnset (frame_at x.run.frame x.frames)) x.run.control
+    pub callers : BoundStack few n x.frames x.run.this x.callers
 
   abbrev pub BoundMembers : Home → Option Members → Type 0
   BoundMembers h m = MembersBy BoundEx h m
@@ -137,18 +153,27 @@ module _ (few : Few) where
   abbrev pub BoundEnv : Env → Type 0
   BoundEnv e = EnvBy BoundEx e
 
-  pub record BoundState (s : State) : Type 0 where
+-- behind the end of a task and a fault nothing is done
+abbrev pub is_last : Request → Bool
+is_last ask.End = true
+is_last (ask.Fault f) = true
+is_last r = false
+
+module _ (few : Few) (source : Source) where
+  -- a task on its way, or at rest
+  pub record BoundState (goes : Bool) (s : State) : Type 0 where
     pub frames : length s.env.frames ≡ suc (length s.callers)
-    pub stack : BoundStack few s.env.exec s.env.frames (s.run ∷ s.callers)
-    pub env : BoundEnv s.env
+    pub frame : s.run.frame ≤ length s.callers
+    pub run : RunsWith few s.env.exec goes source s.run.operands (frame_at s.run.frame s.env.frames) s.run.frame s.run.control
+    pub callers : BoundStack few s.env.exec s.env.frames s.run.this s.callers
+    pub env : BoundEnv few s.env
 
   abbrev pub BoundStep : Step → Type 0
-  BoundStep (Goes s) = BoundState s
-  BoundStep (Ticks s) = BoundState s
-  BoundStep (Asks r s) = BoundState s
+  BoundStep (Goes s) = BoundState true s
+  BoundStep (Ticks s) = BoundState false s
+  BoundStep (Asks r s) = BoundState (is_last r) s
 
-  -- behind the last request nothing is done
   abbrev pub GoodStep : Step → Type 0
-  GoodStep (Goes s) = BoundState s
-  GoodStep (Ticks s) = BoundState s
-  GoodStep (Asks r s) = BoundState s ⊎ (IsLast r × BoundEnv s.env)
+  GoodStep (Goes s) = BoundState true s
+  GoodStep (Ticks s) = BoundState false s
+  GoodStep (Asks r s) = BoundState (is_last r) s ⊎ (IsLast r × BoundEnv few s.env)

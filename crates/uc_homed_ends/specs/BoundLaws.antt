@@ -1,12 +1,12 @@
 -- Variables that are mutex objects hold numbers until they are bound, and from then on what is at home there: in steps and in runs.
-use Rattle.std.specs.Prelude.{◌≡◌, ℕ, false, List, [], ◌∷◌, slice_index_or}
+use Rattle.std.specs.Prelude.{◌≡◌, ℕ, ◌<◌, true, false, List, [], ◌∷◌, slice_index_or}
 use Rattle.uc_tree.specs.Programs.{Program}
 use Rattle.uc_tree.specs.Source.{Source, Variable, Then, Scoped, routine_of}
 use Rattle.uc_entry.specs.declared.entry.Options.{Options}
 use Rattle.uc_entry.specs.declared.request.Answer.{Answer}
 use Rattle.uc_acts.specs.Journal.{Journal, is_over}
 use Rattle.uc_acts.specs.KernelRuns.{InRange}
-use Rattle.uc_machine.specs.Pieces.{Slot, Todo, BindMadeNow, Rest, State, top, address, nought, this_frame, variable_at}
+use Rattle.uc_machine.specs.Pieces.{Slot, Value, LAST_ADDRESS, Todo, BindMadeNow, Rest, Active, State, top, address, nought, this_frame, variable_at}
 use Rattle.uc_machine.specs.Quiet.{quiet, first_state}
 use Rattle.uc_machine.specs.Answering.{answered}
 use Rattle.uc_meaning.specs.Runs.{World, Runs, drawn}
@@ -27,7 +27,7 @@ use Rattle.uc_life_laws.specs.Homes.{home_of}
 use Rattle.uc_life_laws.specs.HomedStates.{Owns, HoldsHome, Opens}
 use Rattle.uc_typing.specs.Typing.{Ty, Num, Cell, Obj, Raw, Row, Clu, Pro, Table, CleansAt}
 use Rattle.uc_putting_laws.specs.Putting.{IsHome}
-use Rattle.uc_homed_ends.specs.BoundHomes.{OfMutex, OpensMutex, CallMutex, MakesBy, IsUnset, BoundState, GoodStep}
+use Rattle.uc_homed_ends.specs.BoundHomes.{OfMutex, OpensMutex, DropMutex, CallMutex, MakesBy, IsUnset, BoundState, GoodStep}
 
 module _ (few : Few) (source : Source) where
   -- what is bound next is at home at the variable whose scope opens behind that; and where statements begin with one that makes the object of the scope
@@ -47,11 +47,12 @@ module _ (few : Few) (source : Source) where
 -- answer
 pub record LawBoundSteps : Type 0 where
   pub begins : (few : Few) (source : Source) → SourceBegins source → (r o : ℕ) →
-      BoundState few (first_state (routine_of source r) o)
-  pub steps : (few : Few) (source : Source) → SourceBegins source → (s : State) → BoundState few s →
-      Finds few source s → GoodStep few (quiet source s)
-  pub told : (few : Few) (source : Source) (given : Answer) (s : State) → BoundState few s →
-      BoundState few (answered source given s)
+      BoundState few source false (first_state (routine_of source r) o)
+  pub steps : (few : Few) (source : Source) → SourceBegins source → (s : State) → BoundState few source true s →
+      Finds few source s → GoodStep few source (quiet source s)
+  pub told : (few : Few) (source : Source) (given : Answer) (s : State) → BoundState few source false s →
+      BoundState few source false (answered source given s)
+  pub goes_on : (few : Few) (source : Source) (s : State) → BoundState few source false s → BoundState few source true s
 
 -- where the scope of a mutex object that is a variable opens, that is at home there
 abbrev pub OpensSetAt : Few → List Todo → State → Type 0
@@ -76,6 +77,30 @@ pub record LawSet : Type 0 where
       ((o : ℕ) → few.home o ≡ home_of (source_of p) input opts j w r o) →
       is_over j ≡ false → (t : ℕ) (s : State) (c : Comes (source_of p) j w t s) →
       OpensSet few s × LeadsMeet (OpensSet few) (source_of p) (answered (source_of p) c.given (drawn j w t)) s c.leads
+
+-- of activations with these frames that wait for one with this object: where one waits for the constructor of the object at a variable whose scope opens next,
+-- what it waits for is of the object that the variable holds
+abbrev pub AwaitsFor : List (List Value) → Value → List Active → Type 0
+AwaitsFor fs v [] = Unit {0}
+AwaitsFor fs v (a ∷ older) =
+    DropMutex (λ k. k < LAST_ADDRESS → slice_index_or (frame_at a.frame fs) (address (Slot k ∷ [])) nought ≡ v) a.control ×
+    AwaitsFor fs a.this older
+
+abbrev pub Awaits : State → Type 0
+Awaits s = AwaitsFor s.env.frames s.run.this s.callers
+
+-- so it is in each such run, as long as all that was asked fits: in each state of each ride, of whoever runs in each state to which it comes before it asks,
+-- and on the way there
+pub record LawAwaits : Type 0 where
+  pub runs : (p : Program) → IsFormed p → breaks_of p ≡ [] → IsWithinLimits p →
+      (input : List ℕ) (opts : Options) → InRange opts → (j : Journal) (w : World) →
+      (r : Runs (source_of p) input opts j w) → RunFits (source_of p) input opts j w r →
+      RunMeets Awaits (source_of p) input opts j w r
+  pub leads : (p : Program) → IsFormed p → breaks_of p ≡ [] → IsWithinLimits p →
+      (input : List ℕ) (opts : Options) → InRange opts → (j : Journal) (w : World) →
+      (r : Runs (source_of p) input opts j w) → RunFits (source_of p) input opts j w r →
+      is_over j ≡ false → (t : ℕ) (s : State) (c : Comes (source_of p) j w t s) →
+      Awaits s × LeadsMeet Awaits (source_of p) (answered (source_of p) c.given (drawn j w t)) s c.leads
 
 -- what is no binding: an object, an array
 abbrev pub IsWhole : Ty → Type 0

@@ -1,7 +1,7 @@
 // The laws: each is a function whose contract is the law.
 
 ghost use Rattle.uc_homed_ends.specs.ArrayLaws.{LawArrays, LawArraySteps};
-ghost use Rattle.uc_homed_ends.specs.BoundLaws.{LawBoundSteps, LawOpens, LawSet};
+ghost use Rattle.uc_homed_ends.specs.BoundLaws.{LawAwaits, LawBoundSteps, LawOpens, LawSet};
 ghost use Rattle.uc_homed_ends.specs.Ended.{LawEnded};
 ghost use Rattle.uc_homed_ends.specs.EndLaws.{LawCode, LawWays};
 ghost use Rattle.uc_homed_ends.specs.Found.{LawFound};
@@ -30,7 +30,7 @@ pub fn law_fair()
 {}
 
 /// A variable that is a mutex object holds a number until it is bound, and from then on, up to its scope,
-/// the object that is at home there: of a task as it begins, and each step that finds what it is to find,
+/// the object that is at home there, for which its constructor is called: of a task as it begins, and each step that finds what it is to find,
 /// and each answer, keep that.
 pub fn law_bound_steps()
     ensures { LawBoundSteps }
@@ -41,6 +41,12 @@ pub fn law_bound_steps()
 /// run tells in the end.
 pub fn law_set()
     ensures { LawSet }
+{}
+
+/// So where an activation waits, and the scope of such a variable opens next, what it waits for is of the
+/// object that the variable holds.
+pub fn law_awaits()
+    ensures { LawAwaits }
 {}
 
 /// So each scope opens where the mutex objects that it is of are at home, as long as those of objects and

@@ -36,22 +36,23 @@ use Rattle.uc_state_laws.specs.Opens.{RideMeets}
 use Rattle.uc_typing.specs.Typing.{Ty, Num, Cell, Obj, Raw, Row, Clu, Pro, Table}
 use Rattle.uc_depth_laws.specs.Entering.{is_ending}
 use Rattle.uc_depth_laws.specs.Owing.{Ex, entering, is_again}
-use Rattle.uc_life_laws.specs.Belonging.{Belongs, fields, object}
+use Rattle.uc_life_laws.specs.Belonging.{Belongs, frame, fields, object}
 use Rattle.uc_life_laws.specs.Homes.{home_of}
 use Rattle.uc_life_laws.specs.Knowing.{main_of}
 use Rattle.uc_life_laws.specs.LifeStates.{EnvBy}
-use Rattle.uc_life_laws.specs.Things.{Few, Base, Things, Within, itself, field, element, Stands, lies, inside}
+use Rattle.uc_life_laws.specs.Things.{Few, Base, Within, itself, field, element, Stands, lies, inside}
 use Rattle.uc_life_laws.specs.Rooted.{IsPlace, InSlot, InParked, InHand, InMembers, Lives}
 use Rattle.uc_life_laws.proofs.OwnNamesLemmas.{run_first}
 use Rattle.uc_life_laws.proofs.Rooted.{env_in}
 use Rattle.uc_apart_laws.specs.Before.{world_at}
 use Rattle.uc_apart_laws.specs.Clear.{IsNoHome}
-use Rattle.uc_making_laws.specs.BeforeRides.{HasNoHomeBy, HasNoHome, LiveElsewhere, ElsewhereOnWayBy, ElsewhereOnWay}
-use Rattle.uc_lasting_programs.specs.Bases.{ends_in, lies_under, in_object, is_started, slot_has, parked_has, hand_has, env_has, members_have, home_has, task_has, tasks_have, lives_in, is_none, is_no_task, stands_at, is_around, bars_by, ride_bars, run_bars, way_bars, unbarred, based, seats_of, SeatsElsewhereBy, SeatsElsewhere}
-use Rattle.uc_lasting_programs.specs.Seats.{seated}
+use Rattle.uc_making_laws.specs.BeforeRides.{HasNoHomeBy, HasNoHome, LiveElsewhere, IsLone, ElsewhereOnWayBy}
+use Rattle.uc_lasting_programs.specs.Bases.{ends_in, lies_under, in_object, is_started, slot_has, parked_has, hand_has, env_has, members_have, home_has, task_has, tasks_have, lives_in, is_none, is_no_task, stands_at, is_around, is_bare, is_scalar, of_others, bars_by, ride_bars, run_bars, way_bars, unbarred, based, seats_of, OwnSeats, LiveApart, ApartBy, HaveApart, SeatsElsewhereBy, SeatsElsewhere}
+use Rattle.uc_lasting_programs.specs.Seats.{ride_seats, run_seats, but_raw, seated, housed}
 use Rattle.uc_lasting_programs.specs.Telling.{main_class, is_main_home, on_places, few_of}
 use Rattle.uc_lasting_programs.specs.Ways.{RunHoldsOnWay}
 use Rattle.uc_lasting_programs.proofs.Seats.{left_true, right_true, both_true, path_self, owner_self}
+use Rattle.uc_lasting_programs.proofs.SeatHomes.{IsForeign, SeatOf, whole_told, ride_told, run_told, one_true, no_true, left_both, right_both}
 use Rattle.uc_lasting_programs.proofs.Telling.{law_telling}
 
 -- truth values
@@ -143,6 +144,24 @@ module _ (t : Table) (few more : Few) (same : (o : ℕ) → few.home o ≡ more.
       (λ l. inl (inside m (subst (Stands t more L (Cell (Obj c))) (same o) l) h))
       (λ r. inr (record { thing = r.thing; type = r.type; one = r.one; stands = inside m r.stands h }))
       (stands_or (Cell (Obj c)) (few.home o) s)
+
+-- no mutex object is at home in what is such
+
+abbrev IsBare : Ty → Type 0
+IsBare b = is_bare b ≡ true
+
+within_bare : (t : Table) (w : Value) (a : Ty) (v : Value) (b : Ty) → Within t w a v b → IsBare a → IsBare b
+within_bare t w a v b itself r = r
+within_bare t w a v b (field {v = u} {c = c} h i f) r =
+    let e : false ≡ true = within_bare t w a u (Obj c) h r in
+    absurd (cc)
+within_bare t w a v b (element {v = u} {m = m} h j f) r = within_bare t w a u (Row m b) h r
+
+no_bare : (t : Table) (few : Few) (z : Value) (a : Ty) → IsBare a → (c : ℕ) (v : Value) → Stands t few (λ x d. (x ≡ z) × (d ≡ a)) (Cell (Obj c)) v → ⊥
+no_bare t few z a r c v (lies {w = x} {a = d} k h) =
+    let e : false ≡ true = within_bare t x d v (Cell (Obj c)) h (ap is_bare k.1 ∙ r) in
+    absurd (cc)
+no_bare t few z a r c v (inside {o = q} {c = d} m s h) = no_bare t few z a r d (few.home q) s
 
 -- who lives
 
@@ -255,13 +274,53 @@ module _ (t : Table) (few : Few) (nobodys : (n : Exec) → Belongs few n (few.ho
     not_first b v (inside {o = q} {c} m s h) belongs =
         not_first (Cell (Obj c)) (few.home q) s (home_own q v (within_in t q (Obj c) v b h) belongs)
 
+  -- nor in what is not its own
+  own_place : (o : Owner) (p q : List Link) → Belongs few n (Place o p) → Belongs few n (Place o q)
+  own_place (Frame x d) p q (frame e) = frame e
+  own_place (Fields i) p q (fields h) = fields h
+
+  owned_in : (o : Owner) (q : List Link) (a b : Ty) (v : Value) → Stands t few (λ x d. (x ≡ Place o q) × (d ≡ a)) b v → Belongs few n v → Belongs few n (Place o q)
+  owned_in o q a b v (lies {w = x} {a = c} k h) belongs =
+      let u = within_under t o q c v b (subst (λ y. Within t y c v b) k.0 h) in
+      own_place o u.path q (subst (Belongs few n) u.is belongs)
+  owned_in o q a b v (inside {o = i} {c} m s h) belongs =
+      owned_in o q a (Cell (Obj c)) (few.home i) s (home_own i v (within_in t i (Obj c) v b h) belongs)
+
+  owned : (z : Value) (a : Ty) → IsPlace z → (b : Ty) (v : Value) → Stands t few (λ x d. (x ≡ z) × (d ≡ a)) b v → Belongs few n v → Belongs few n z
+  owned (Number y) a i b v s h = absurd i
+  owned (Place o q) a i b v s h = owned_in o q a b v s h
+  owned (Running y) a i b v s h = absurd i
+  owned (Object y) a i b v s h = absurd i
+  owned Nothing a i b v s h = absurd i
+
+none_in : (t : Table) (few : Few) (b : Ty) (v : Value) → Stands t few (λ w a. ⊥) b v → ⊥
+none_in t few b v (lies k h) = k
+none_in t few b v (inside {o = i} {c} m s h) = none_in t few (Cell (Obj c)) (few.home i) s
+
+-- what is asked of states where an object is entered again to be destroyed, which is at home in what is the own of who runs, who has nothing to clean up around it:
+-- it is not at home in what who runs has of others, if that is at home in no object that is at home in its own, and the main of none; and where who runs is at home
+-- in an older object than the own one of the task, it is not that; else what `ElsewhereOnWay` asks
+module _ (t : Table) (few : Few) (j : Journal) (w : World) (u : ℕ) (v : State) where
+  abbrev pub BareOn : Source → ℕ → Type 0
+  BareOn source r =
+      is_ending source r ≡ true → is_again source r v ≡ true → IsLone t few j w u v (entering source r v) →
+      (IsForeign few v.env.exec → IsNoHome t few (entering source r v) (Base few v.env.exec)) ×
+      ((q : ℕ) → v.env.exec.home ≡ home.Object q → q < v.env.own → v.env.own ≡ entering source r v → ⊥)
+
+  abbrev pub BareOnWayBy : Source → List Todo → Type 0
+  BareOnWayBy source (piece.EnterNow m r ∷ todo) = BareOn source r
+  BareOnWayBy source todo = ElsewhereOnWayBy t few j w u v source todo
+
+  abbrev pub BareOnWay : Source → Type 0
+  BareOnWay source = BareOnWayBy source v.run.control
+
 -- in a state: what nothing bars stands around nothing that goes while it is had
 
 -- what is told of others: by fewer, and what nothing bars
-module _ (t : Table) (few seats : Few) (same : (o : ℕ) → seats.home o ≡ few.home o) (places : (n : Exec) (z : Value) (b : Ty) → Base few n z b → IsPlace z) (Free : Exec → Value → Type 0) (split : (n : Exec) (z : Value) (b : Ty) → Base few n z b → Base seats n z b ⊎ Free n z) (made : Few) (alike : (o : ℕ) → made.home o ≡ few.home o) (splits : (n : Exec) (z : Value) (b : Ty) → Base few n z b → Base made n z b ⊎ ((z ≡ Place (Fields 0) []) ⊎ Free n z)) (nobodys : (n : Exec) → Belongs few n (few.home 0) → ⊥) where
-  -- had of others, and nothing bars it
+module _ (t : Table) (few seats : Few) (same : (o : ℕ) → seats.home o ≡ few.home o) (places : (n : Exec) (z : Value) (b : Ty) → Base few n z b → IsPlace z) (Free : Exec → Value → Type 0) (split : (n : Exec) (z : Value) (b : Ty) → Base few n z b → Base seats n z b ⊎ (Free n z ⊎ IsBare b)) (made : Few) (alike : (o : ℕ) → made.home o ≡ few.home o) (splits : (n : Exec) (z : Value) (b : Ty) → Base few n z b → Base made n z b ⊎ ((z ≡ Place (Fields 0) []) ⊎ (Free n z ⊎ IsBare b))) (nobodys : (n : Exec) → Belongs few n (few.home 0) → ⊥) (foreign : (n : Exec) (z : Value) (b : Ty) → Base made n z b → Belongs few n z → IsForeign few n → ⊥) (places_made : (n : Exec) (z : Value) (b : Ty) → Base made n z b → IsPlace z) where
+  -- had of others, and nothing bars it, or no mutex object is at home in it
   abbrev Open : Exec → Value → Ty → Type 0
-  Open n z b = Base few n z b × Free n z
+  Open n z b = Base few n z b × (Free n z ⊎ IsBare b)
 
   -- or it is the home of object 0
   abbrev Rest : Exec → Value → Ty → Type 0
@@ -278,60 +337,82 @@ module _ (t : Table) (few seats : Few) (same : (o : ℕ) → seats.home o ≡ fe
     late i le =
         ap (λ (b : Bool). if b then v else w.tasks i) (ne_eqb i u (λ e. let f : ⊥ = omega (arith, le, e) in f)) ∙ first i (omega (arith, le))
 
+    -- what is at home in a seat makes that the own of who runs, as it is
+    own_seat : (n : Exec) (o c : ℕ) → Belongs few v.env.exec (few.home o) → (r : OneOf t few (Base made n) (Cell (Obj c)) (few.home o)) → Stands t made (OwnSeats t few made j w u v n) (Cell (Obj c)) (made.home o)
+    own_seat n o c belongs r =
+        ⊎_elim
+        (λ s. subst (Stands t made (OwnSeats t few made j w u v n) (Cell (Obj c))) (sym (alike o)) s)
+        (λ q. absurd q.one)
+        (stands_or t few made (λ q. sym (alike q)) (λ x d. (x ≡ r.thing) × (d ≡ r.type)) (OwnSeats t few made j w u v n) (λ x d. ⊥) (λ x d e. inl (subst (λ y. OwnSeats t few made j w u v n y d) (sym e.0) (subst (λ a. OwnSeats t few made j w u v n r.thing a) (sym e.1) (r.one, owned t few nobodys v.env.exec r.thing r.type (places_made n r.thing r.type r.one) (Cell (Obj c)) (few.home o) r.stands belongs)))) (Cell (Obj c)) (few.home o) r.stands)
+
     -- of those that live
-    elsewhere : (o : ℕ) → Belongs few v.env.exec (few.home o) → ((n : Exec) (z : Value) → Free n z → (lives_in n j (world_at w u v) many && is_around few.home o z) ≡ false) → LiveElsewhere t made j w u v o → LiveElsewhere t few j w u v o
+    elsewhere : (o : ℕ) → Belongs few v.env.exec (few.home o) → ((n : Exec) (z : Value) → Free n z → (lives_in n j (world_at w u v) many && is_around few.home o z) ≡ false) → LiveApart t few made j w u v o → LiveElsewhere t few j w u v o
     elsewhere o belongs free h n cs i c s =
         ⊎_elim
-        (λ b. h n cs i c (subst (Stands t made (Base made n) (Cell (Obj c))) (sym (alike o)) b))
+        (λ b. none_in t few (Cell (Obj c)) (few.home o) b)
         (λ r.
         ⊎_elim
+        (λ m. h n cs i c (own_seat n o c belongs (record { thing = r.thing; type = r.type; one = m; stands = r.stands })))
+        (λ g.
+        ⊎_elim
         (λ e. not_first t few nobodys v.env.exec r.thing r.type e (Cell (Obj c)) (few.home o) r.stands belongs)
-        (λ k. no_both (lives_in n j (world_at w u v) many && is_around few.home o r.thing) (both_true (lives_in n j (world_at w u v) many) (is_around few.home o r.thing) (lives_here n cs source j (world_at w u v) many late i) (around_place t few o r.thing r.type c (places n r.thing r.type k.0) r.stands)) (free n r.thing k.1))
+        (λ k.
+        ⊎_elim
+        (λ f. no_both (lives_in n j (world_at w u v) many && is_around few.home o r.thing) (both_true (lives_in n j (world_at w u v) many) (is_around few.home o r.thing) (lives_here n cs source j (world_at w u v) many late i) (around_place t few o r.thing r.type c (places n r.thing r.type k.0) r.stands)) (free n r.thing f))
+        (λ bare. no_bare t few r.thing r.type bare c (few.home o) r.stands)
+        k.1)
+        g)
         r.one)
-        (stands_or t few made (λ q. sym (alike q)) (Base few n) (Base made n) (Rest n) (rests n) (Cell (Obj c)) (few.home o) s)
+        (stands_or t few few (λ q. refl) (Base few n) (λ w b. ⊥) (λ z b. Base made n z b ⊎ Rest n z b) (λ z b m. inr (rests n z b m)) (Cell (Obj c)) (few.home o) s)
+
+    abbrev Apart : ℕ → Exec → Ex → Type 0
+    Apart o n y = ApartBy t few made j w u v o y.links.stage n
 
     -- of those that do not run
-    none_of : (o : ℕ) (e : Env) → Belongs few v.env.exec (few.home o) → ((n : Exec) (z : Value) → Free n z → (env_has n e && is_around few.home o z) ≡ false) → EnvBy (HasNoHome t made o) e → EnvBy (HasNoHome t few o) e
-    none_of o e belongs free h = env_in (HasNoHome t made o) (HasNoHome t few o) e (λ n y i k. by y.links.stage n y refl i k) h
+    none_of : (o : ℕ) (e : Env) → Belongs few v.env.exec (few.home o) → ((n : Exec) (z : Value) → Free n z → (env_has n e && is_around few.home o z) ≡ false) → EnvBy (Apart o) e → EnvBy (HasNoHome t few o) e
+    none_of o e belongs free h = env_in (Apart o) (HasNoHome t few o) e (λ n y i k. by y.links.stage n y refl i k) h
       where
-        by : (g : Stage) (n : Exec) (y : Ex) → y.links.stage ≡ g → (y.links.stage ≡ Started → InParked n (y.run ∷ y.callers) (home.Task e.own) e.house.parked ⊎ InHand n (y.run ∷ y.callers) e.hand) → HasNoHomeBy t made o g n → HasNoHomeBy t few o g n
+        by : (g : Stage) (n : Exec) (y : Ex) → y.links.stage ≡ g → (y.links.stage ≡ Started → InParked n (y.run ∷ y.callers) (home.Task e.own) e.house.parked ⊎ InHand n (y.run ∷ y.callers) e.hand) → ApartBy t few made j w u v o g n → HasNoHomeBy t few o g n
         by Fresh n y q i k = tt
         by Started n y q i k = λ c s.
             ⊎_elim
-            (λ b. k c (subst (Stands t made (Base made n) (Cell (Obj c))) (sym (alike o)) b))
+            (λ b. none_in t few (Cell (Obj c)) (few.home o) b)
             (λ r.
             ⊎_elim
+            (λ m. k c (own_seat n o c belongs (record { thing = r.thing; type = r.type; one = m; stands = r.stands })))
+            (λ g.
+            ⊎_elim
             (λ f. not_first t few nobodys v.env.exec r.thing r.type f (Cell (Obj c)) (few.home o) r.stands belongs)
-            (λ l. no_both (env_has n e && is_around few.home o r.thing) (both_true (env_has n e) (is_around few.home o r.thing) (in_env n (y.run ∷ y.callers) e (i q)) (around_place t few o r.thing r.type c (places n r.thing r.type l.0) r.stands)) (free n r.thing l.1))
+            (λ l.
+            ⊎_elim
+            (λ f. no_both (env_has n e && is_around few.home o r.thing) (both_true (env_has n e) (is_around few.home o r.thing) (in_env n (y.run ∷ y.callers) e (i q)) (around_place t few o r.thing r.type c (places n r.thing r.type l.0) r.stands)) (free n r.thing f))
+            (λ bare. no_bare t few r.thing r.type bare c (few.home o) r.stands)
+            l.1)
+            g)
             r.one)
-            (stands_or t few made (λ q. sym (alike q)) (Base few n) (Base made n) (Rest n) (rests n) (Cell (Obj c)) (few.home o) s)
+            (stands_or t few few (λ q. refl) (Base few n) (λ w b. ⊥) (λ z b. Base made n z b ⊎ Rest n z b) (λ z b m. inr (rests n z b m)) (Cell (Obj c)) (few.home o) s)
         by Ended n y q i k = tt
 
-    -- what an execution knows, by fewer, or it has it of others and nothing bars it
-    things_split : (n : Exec) (cs : List Active) (z : Value) (b : Ty) → Things t few n cs z b → Things t seats n cs z b ⊎ Open n z b
-    things_split n [] z b h = ⊎_elim (λ k. inl k) (λ f. inr (h, f)) (split n z b h)
-    things_split n (c ∷ cs) z b (inl m) = inl (inl m)
-    things_split n (c ∷ cs) z b (inr h) = ⊎_elim (λ k. inl (inr k)) (λ f. inr f) (things_split n cs z b h)
-
-    -- of what who runs knows
-    clear_of : (o : ℕ) (again : Bool) → again ≡ true → ((n : Exec) (z : Value) → Free n z → ((exec_eq n v.env.exec && again) && is_around few.home o z) ≡ false) → IsNoHome t seats o (Things t seats v.env.exec (v.run ∷ v.callers)) → IsNoHome t few o (Things t few v.env.exec (v.run ∷ v.callers))
-    clear_of o again a free h c s =
+    -- of who runs, where what it has so is not its own
+    running : (o : ℕ) (again : Bool) → again ≡ true → Belongs few v.env.exec (few.home o) → ((n : Exec) (z : Value) → Free n z → ((exec_eq n v.env.exec && again) && is_around few.home o z) ≡ false) → IsForeign few v.env.exec → IsNoHome t few o (Base few v.env.exec)
+    running o again a belongs free f c s =
         let n = v.env.exec in
         ⊎_elim
-        (λ b. h c (subst (Stands t seats (Things t seats n (v.run ∷ v.callers)) (Cell (Obj c))) (sym (same o)) b))
-        (λ r. no_both ((exec_eq n n && again) && is_around few.home o r.thing) (both_true (exec_eq n n && again) (is_around few.home o r.thing) (both_true (exec_eq n n) again (exec_self n) a) (around_place t few o r.thing r.type c (places n r.thing r.type r.one.0) r.stands)) (free n r.thing r.one.1))
-        (stands_or t few seats (λ q. sym (same q)) (Things t few n (v.run ∷ v.callers)) (Things t seats n (v.run ∷ v.callers)) (Open n) (λ z b m. things_split n (v.run ∷ v.callers) z b m) (Cell (Obj c)) (few.home o) s)
+        (λ b. none_in t few (Cell (Obj c)) (few.home o) b)
+        (λ r. ⊎_elim (λ b. foreign n r.thing r.type b (owned t few nobodys n r.thing r.type (places_made n r.thing r.type b) (Cell (Obj c)) (few.home o) r.stands belongs) f) (λ g. ⊎_elim (λ e. not_first t few nobodys n r.thing r.type e (Cell (Obj c)) (few.home o) r.stands belongs) (λ k. ⊎_elim (λ x. no_both ((exec_eq n n && again) && is_around few.home o r.thing) (both_true (exec_eq n n && again) (is_around few.home o r.thing) (both_true (exec_eq n n) again (exec_self n) a) (around_place t few o r.thing r.type c (places n r.thing r.type k.0) r.stands)) (free n r.thing x)) (λ bare. no_bare t few r.thing r.type bare c (few.home o) r.stands) k.1) g) r.one)
+        (stands_or t few few (λ q. refl) (Base few n) (λ w b. ⊥) (λ z b. Base made n z b ⊎ Rest n z b) (λ z b m. inr (rests n z b m)) (Cell (Obj c)) (few.home o) s)
 
-    at : (l : List Todo) → ((n : Exec) (z : Value) → Free n z → bars_by few.home source j w u l v n z ≡ false) → SeatsElsewhereBy t few seats made j w u v source l → ElsewhereOnWayBy t few j w u v source l
+    at : (l : List Todo) → ((n : Exec) (z : Value) → Free n z → bars_by few.home source j w u l v n z ≡ false) → SeatsElsewhereBy t few made j w u v source l → BareOnWayBy t few j w u v source l
     at (piece.GoneNow ∷ todo) free h = λ lone. elsewhere (this_object v) lone.0 free (h lone)
     at (piece.GiveUpNow ∷ todo) free h = λ lone. elsewhere (this_object v) lone.0 free (h lone)
     at (piece.MadeNow ∷ todo) free h = λ lone. none_of (this_object v) (record v.env { hand = without (this_object v) v.env.hand }) lone.0 free (h lone)
     at (piece.SpawnNow r ∷ todo) free h = λ lone. none_of (this_object v) (record v.env { hand = without (this_object v) v.env.hand }) lone.0 free (h lone)
-    at (piece.EnterNow m r ∷ todo) free h = λ k ends again.
-        let x = h k ends again in
-        let o = entering source r v in
-        (x.0, (x.1.0, clear_of o (is_ending source r && is_again source r v) (both_true (is_ending source r) (is_again source r v) ends again) free x.1.1), x.2)
-    at l free h = h
+    at (piece.EnterNow m r ∷ todo) free h = λ ends again lone. (
+      λ f. running (entering source r v) (is_ending source r && is_again source r v) (both_true (is_ending source r) (is_again source r v) ends again) lone.0 free f,
+      h ends again lone,
+    )
+    at [] free h = λ k. tt
+    at (p ∷ todo) free h = λ k. tt
 
   -- nor around what an event is raised at, by who raises it
   module _ (source : Source) (j : Journal) (w : World) (u : ℕ) (v : State) (free : (n : Exec) (z : Value) → Free n z → bars_by few.home source j w u v.run.control v n z ≡ false) where
@@ -339,7 +420,11 @@ module _ (t : Table) (few seats : Few) (same : (o : ℕ) → seats.home o ≡ fe
     unheld todo o e operand none made there h c s =
         ⊎_elim
         (λ b. h c (subst (Stands t seats (Base seats v.env.exec) (Cell (Obj c))) (sym (same o)) b))
-        (λ r. no_both ((exec_eq v.env.exec v.env.exec && is_no_task j o) && is_around few.home o r.thing) (both_true _ (is_around few.home o r.thing) (both_true _ (is_no_task j o) (exec_self v.env.exec) no_task) (around_place t few o r.thing r.type c (places v.env.exec r.thing r.type r.one.0) r.stands)) (barred r.thing r.one.1))
+        (λ r.
+        ⊎_elim
+        (λ f. no_both ((exec_eq v.env.exec v.env.exec && is_no_task j o) && is_around few.home o r.thing) (both_true _ (is_around few.home o r.thing) (both_true _ (is_no_task j o) (exec_self v.env.exec) no_task) (around_place t few o r.thing r.type c (places v.env.exec r.thing r.type r.one.0) r.stands)) (barred r.thing f))
+        (λ bare. no_bare t few r.thing r.type bare c (few.home o) r.stands)
+        r.one.1)
         (stands_or t few seats (λ q. sym (same q)) (Base few v.env.exec) (Base seats v.env.exec) (Open v.env.exec) (λ z b m. ⊎_elim (λ l. inl l) (λ f. inr (m, f)) (split v.env.exec z b m)) (Cell (Obj c)) (few.home o) s)
       where
         no_task : is_no_task j o ≡ true
@@ -365,17 +450,17 @@ module _ (t : Table) (few seats : Few) (same : (o : ℕ) → seats.home o ≡ fe
       ride_open (asks {s} e) free = free
 
     module _ (j : Journal) (w : World) (u : ℕ) (first : (v : ℕ) → task_count j ≤ v → w.tasks v ≡ first_state (routine_of source source.main) 0) where
-      ride_all : {s x : State} {q k : ℕ} {a : Asked} (r : Rides source s q x k a) → RideMeets (λ v. (n : Exec) (z : Value) → Free n z → bars_by few.home source j w u v.run.control v n z ≡ false) source s q x k a r → RideMeets (λ v. SeatsElsewhere t few seats made j w u v source) source s q x k a r → RideMeets (λ v. ElsewhereOnWay t few j w u v source) source s q x k a r
+      ride_all : {s x : State} {q k : ℕ} {a : Asked} (r : Rides source s q x k a) → RideMeets (λ v. (n : Exec) (z : Value) → Free n z → bars_by few.home source j w u v.run.control v n z ≡ false) source s q x k a r → RideMeets (λ v. SeatsElsewhere t few made j w u v source) source s q x k a r → RideMeets (λ v. BareOnWay t few j w u v source) source s q x k a r
       ride_all slices free h = tt
       ride_all (goes_on {s} e r) free h = (at source j w u first s s.run.control free.0 h.0, ride_all r free.1 h.1)
       ride_all (ticks {s} e r) free h = (at source j w u first s s.run.control free.0 h.0, ride_all r free.1 h.1)
       ride_all (asks {s} e) free h = at source j w u first s s.run.control free h
 
-      pub ride_elsewhere : {s x : State} {q k : ℕ} {a : Asked} (r : Rides source s q x k a) → ((n : Exec) (z : Value) → Free n z → ride_bars few.home source j w u r n z ≡ false) → RideMeets (λ v. SeatsElsewhere t few seats made j w u v source) source s q x k a r → RideMeets (λ v. ElsewhereOnWay t few j w u v source) source s q x k a r
+      pub ride_elsewhere : {s x : State} {q k : ℕ} {a : Asked} (r : Rides source s q x k a) → ((n : Exec) (z : Value) → Free n z → ride_bars few.home source j w u r n z ≡ false) → RideMeets (λ v. SeatsElsewhere t few made j w u v source) source s q x k a r → RideMeets (λ v. BareOnWay t few j w u v source) source s q x k a r
       ride_elsewhere r free h = ride_all r (ride_open j w u r free) h
 
     module _ (input : List ℕ) (opts : Options) (range : InRange opts) where
-      pub run_elsewhere : {j : Journal} {w : World} (r : Runs source input opts j w) → RunFits source input opts j w r → ((m : Exec) (z : Value) → Free m z → run_bars few.home source input opts r m z ≡ false) → RunHoldsOnWay (λ j w u v. SeatsElsewhere t few seats made j w u v source) source input opts r → RunHoldsOnWay (λ j w u v. ElsewhereOnWay t few j w u v source) source input opts r
+      pub run_elsewhere : {j : Journal} {w : World} (r : Runs source input opts j w) → RunFits source input opts j w r → ((m : Exec) (z : Value) → Free m z → run_bars few.home source input opts r m z ≡ false) → RunHoldsOnWay (λ j w u v. SeatsElsewhere t few made j w u v source) source input opts r → RunHoldsOnWay (λ j w u v. BareOnWay t few j w u v source) source input opts r
       run_elsewhere begun fits free h = tt
       run_elsewhere (more r o (gives p u s le)) fits free h = (run_elsewhere r fits.0 (λ m z f. left_false (run_bars few.home source input opts r m z) false (free m z f)) h.0, tt)
       run_elsewhere (more r o (no_room p u s le)) fits free h = (run_elsewhere r fits.0 (λ m z f. left_false (run_bars few.home source input opts r m z) false (free m z f)) h.0, tt)
@@ -386,17 +471,13 @@ module _ (t : Table) (few seats : Few) (same : (o : ℕ) → seats.home o ≡ fe
 
 -- what is told of a run of a program
 
-one_true : (a b : Bool) → (a || b) ≡ true → (a ≡ true) ⊎ (b ≡ true)
-one_true true b h = inl refl
-one_true false b h = inr h
-
 not_so : (b : Bool) → not b ≡ true → b ≡ false
 not_so true h = let e : false ≡ true = h in absurd (cc)
 not_so false h = refl
 
 -- by fewer
 module _ (c : Option ℕ) (fewer more : Exec → Value → Ty → Bool) where
-  places_split : (Free : Exec → Value → Type 0) → ((n : Exec) (z : Value) (b : Ty) → more n z b ≡ true → (fewer n z b ≡ true) ⊎ Free n z) → (n : Exec) (z : Value) (b : Ty) → on_places c more n z b ≡ true → (on_places c fewer n z b ≡ true) ⊎ Free n z
+  places_split : (Free : Exec → Value → Ty → Type 0) → ((n : Exec) (z : Value) (b : Ty) → more n z b ≡ true → (fewer n z b ≡ true) ⊎ Free n z b) → (n : Exec) (z : Value) (b : Ty) → on_places c more n z b ≡ true → (on_places c fewer n z b ≡ true) ⊎ Free n z b
   places_split Free f n (Number y) b h = inl h
   places_split Free f n (Place o l) b h =
       ⊎_elim (λ e. inl (left_true _ _ e)) (λ e. ⊎_elim (λ g. inl (right_true (is_main_home c n o l b) _ g)) (λ g. inr g) (f n (Place o l) b e)) (one_true (is_main_home c n o l b) (more n (Place o l) b) h)
@@ -404,16 +485,35 @@ module _ (c : Option ℕ) (fewer more : Exec → Value → Ty → Bool) where
   places_split Free f n (Object y) b h = inl h
   places_split Free f n Nothing b h = inl h
 
-no_true : {A : Type 0} → false ≡ true → A
-no_true h = absurd (cc)
+-- by what is whole
+raw_or : (f : Exec → Value → Ty → Bool) (n : Exec) (v : Value) (b : Ty) → f n v b ≡ true → (but_raw f n v b ≡ true) ⊎ IsBare b
+raw_or f n v Num h = inl h
+raw_or f n v (Cell a) h = inl h
+raw_or f n v (Obj c) h = inl h
+raw_or f n v (Raw c) h = inr refl
+raw_or f n v (Row m a) h = inl h
+raw_or f n v Clu h = inl h
+raw_or f n v Pro h = inl h
 
-left_both : (a b : Bool) → (a && b) ≡ true → a ≡ true
-left_both true b h = refl
-left_both false b h = no_true h
+-- what is told of all that is another's, or a scalar
+scalar_bare : (b : Ty) → is_scalar b ≡ true → IsBare b
+scalar_bare Num h = refl
+scalar_bare (Cell Num) h = refl
+scalar_bare (Cell (Cell a)) h = refl
+scalar_bare (Cell (Obj c)) h = no_true h
+scalar_bare (Cell (Raw c)) h = refl
+scalar_bare (Cell (Row m a)) h = refl
+scalar_bare (Cell Clu) h = refl
+scalar_bare (Cell Pro) h = refl
+scalar_bare (Obj c) h = no_true h
+scalar_bare (Raw c) h = refl
+scalar_bare (Row m a) h = no_true h
+scalar_bare Clu h = refl
+scalar_bare Pro h = refl
 
-right_both : (a b : Bool) → (a && b) ≡ true → b ≡ true
-right_both true b h = h
-right_both false b h = no_true h
+bare_told : (m : Exec) (z : Value) (b : Ty) → ((of_others m z && is_bare b) || is_scalar b) ≡ true → IsBare b
+bare_told m z b h =
+    ⊎_elim (λ e. right_both (of_others m z) (is_bare b) e) (λ e. scalar_bare b e) (one_true (of_others m z && is_bare b) (is_scalar b) h)
 
 -- the home of the program's main object
 main_place : (c : Option ℕ) (n : Exec) (o : Owner) (l : List Link) (b : Ty) → is_main_home c n o l b ≡ true → Place o l ≡ Place (Fields 0) []
@@ -448,7 +548,7 @@ module _ (p : Program) (formed : IsFormed p) (ok : breaks_of p ≡ []) (input : 
   few = few_of p input opts j w r (based p input opts r d)
 
   abbrev seats : Few
-  seats = few_of p input opts j w r (seated p input opts r d)
+  seats = few_of p input opts j w r (housed p input opts r d)
 
   abbrev Homes : ℕ → Value
   Homes o = home_of (source_of p) input opts j w r o
@@ -459,31 +559,53 @@ module _ (p : Program) (formed : IsFormed p) (ok : breaks_of p ≡ []) (input : 
   places : (m : Exec) (z : Value) (b : Ty) → Base few m z b → IsPlace z
   places m z b h = (law_telling p formed ok input opts j w r (based p input opts r d)).places m z b h
 
-  split : (m : Exec) (z : Value) (b : Ty) → Base few m z b → Base seats m z b ⊎ Free m z
-  split m z b h =
-      places_split (main_class p) (seated p input opts r d) (based p input opts r d) Free (λ m z b e. one_true (seated p input opts r d m z b) (unbarred (λ o. home_of (source_of p) input opts j w r o) (source_of p) input opts r d m z) e) m z b h
+  -- what is told besides nothing bars, or no mutex object is at home in it
+  apart : (m : Exec) (z : Value) (b : Ty) → based p input opts r d m z b ≡ true → (housed p input opts r d m z b ≡ true) ⊎ (Free m z ⊎ IsBare b)
+  apart m z b h =
+      ⊎_elim
+      (λ k. ⊎_elim (λ l. inl l) (λ bare. inr (inr bare)) (raw_or (seated p input opts r d) m z b k))
+      (λ k. ⊎_elim (λ f. inr (inl f)) (λ e. inr (inr (bare_told m z b e))) (one_true (unbarred Homes (source_of p) input opts r d m z) ((of_others m z && is_bare b) || is_scalar b) k))
+      (one_true (seated p input opts r d m z b) (unbarred Homes (source_of p) input opts r d m z || ((of_others m z && is_bare b) || is_scalar b)) h)
 
-  splits : (m : Exec) (z : Value) (b : Ty) → Base few m z b → Base (seats_of p input opts r d) m z b ⊎ ((z ≡ Place (Fields 0) []) ⊎ Free m z)
+  split : (m : Exec) (z : Value) (b : Ty) → Base few m z b → Base seats m z b ⊎ (Free m z ⊎ IsBare b)
+  split m z b h =
+      places_split (main_class p) (housed p input opts r d) (based p input opts r d) (λ m z b. Free m z ⊎ IsBare b) apart m z b h
+
+  splits : (m : Exec) (z : Value) (b : Ty) → Base few m z b → Base (seats_of p input opts r d) m z b ⊎ ((z ≡ Place (Fields 0) []) ⊎ (Free m z ⊎ IsBare b))
   splits m z b h =
       ⊎_elim
       (λ e. inr (inl e))
-      (λ e. ⊎_elim (λ k. inl k) (λ f. inr (inr f)) (one_true (seated p input opts r d m z b) (unbarred (λ o. home_of (source_of p) input opts j w r o) (source_of p) input opts r d m z) e))
+      (λ e. ⊎_elim (λ k. inl k) (λ f. inr (inr f)) (apart m z b e))
       (places_apart (main_class p) (based p input opts r d) m z b h)
 
   nobodys : (m : Exec) → Belongs few m (few.home 0) → ⊥
   nobodys m h = (law_telling p formed ok input opts j w r (based p input opts r d)).nobodys m h
 
+  seat_of : (m : Exec) (z : Value) (b : Ty) → Base (seats_of p input opts r d) m z b → SeatOf few m z
+  seat_of m z b h =
+      let x = whole_told (seated p input opts r d) m z b h in
+      ⊎_elim
+      (λ e. run_told (table_of p) few (source_of p) input opts r m z b x.1 e)
+      (λ e. ride_told (table_of p) few d.rides m z b x.1 e)
+      (one_true (run_seats (table_of p) Homes (source_of p) input opts r m z b) (ride_seats (table_of p) Homes d.rides m z b) x.0)
+
+  foreign : (m : Exec) (z : Value) (b : Ty) → Base (seats_of p input opts r d) m z b → Belongs few m z → IsForeign few m → ⊥
+  foreign m z b h own f = let x = seat_of m z b h in f x.object x.whose (x.own own)
+
+  places_made : (m : Exec) (z : Value) (b : Ty) → Base (seats_of p input opts r d) m z b → IsPlace z
+  places_made m z b h = (seat_of m z b h).place
+
   open_way : (m : Exec) (z : Value) → Free m z → way_bars Homes (source_of p) input opts r d m z ≡ false
   open_way m z f = not_so (way_bars Homes (source_of p) input opts r d m z) f
 
   -- so what executions have of others besides is not asked of ways
-  pub ways_elsewhere : RunHoldsOnWay (λ j w u v. SeatsElsewhere (table_of p) few seats (seats_of p input opts r d) j w u v (source_of p)) (source_of p) input opts r → RunHoldsOnWay (λ j w u v. ElsewhereOnWay (table_of p) few j w u v (source_of p)) (source_of p) input opts r
+  pub ways_elsewhere : RunHoldsOnWay (λ j w u v. SeatsElsewhere (table_of p) few (seats_of p input opts r d) j w u v (source_of p)) (source_of p) input opts r → RunHoldsOnWay (λ j w u v. BareOnWay (table_of p) few j w u v (source_of p)) (source_of p) input opts r
   ways_elsewhere h =
-      run_elsewhere (table_of p) few seats (λ o. refl) places Free split (seats_of p input opts r d) (λ o. refl) splits nobodys (source_of p) input opts range r fits (λ m z f. left_false (run_bars Homes (source_of p) input opts r m z) (ride_bars Homes (source_of p) j w u d.rides m z) (open_way m z f)) h
+      run_elsewhere (table_of p) few seats (λ o. refl) places Free split (seats_of p input opts r d) (λ o. refl) splits nobodys foreign places_made (source_of p) input opts range r fits (λ m z f. left_false (run_bars Homes (source_of p) input opts r m z) (ride_bars Homes (source_of p) j w u d.rides m z) (open_way m z f)) h
 
-  pub way_elsewhere : RideMeets (λ v. SeatsElsewhere (table_of p) few seats (seats_of p input opts r d) j w u v (source_of p)) (source_of p) (answered (source_of p) d.given (drawn j w u)) (left opts j u) s n asked d.rides → RideMeets (λ v. ElsewhereOnWay (table_of p) few j w u v (source_of p)) (source_of p) (answered (source_of p) d.given (drawn j w u)) (left opts j u) s n asked d.rides
+  pub way_elsewhere : RideMeets (λ v. SeatsElsewhere (table_of p) few (seats_of p input opts r d) j w u v (source_of p)) (source_of p) (answered (source_of p) d.given (drawn j w u)) (left opts j u) s n asked d.rides → RideMeets (λ v. BareOnWay (table_of p) few j w u v (source_of p)) (source_of p) (answered (source_of p) d.given (drawn j w u)) (left opts j u) s n asked d.rides
   way_elsewhere h =
-      ride_elsewhere (table_of p) few seats (λ o. refl) places Free split (seats_of p input opts r d) (λ o. refl) splits nobodys (source_of p) j w u (run_first (source_of p) input opts range r fits on) d.rides (λ m z f. right_false (run_bars Homes (source_of p) input opts r m z) (ride_bars Homes (source_of p) j w u d.rides m z) (open_way m z f)) h
+      ride_elsewhere (table_of p) few seats (λ o. refl) places Free split (seats_of p input opts r d) (λ o. refl) splits nobodys foreign places_made (source_of p) j w u (run_first (source_of p) input opts range r fits on) d.rides (λ m z f. right_false (run_bars Homes (source_of p) input opts r m z) (ride_bars Homes (source_of p) j w u d.rides m z) (open_way m z f)) h
 
   -- nor of who raises an event
   abbrev pub BarsNone : State → Type 0
@@ -491,8 +613,8 @@ module _ (p : Program) (formed : IsFormed p) (ok : breaks_of p ≡ []) (input : 
 
   pub bars_none : RideMeets BarsNone (source_of p) (answered (source_of p) d.given (drawn j w u)) (left opts j u) s n asked d.rides
   bars_none =
-      ride_open (table_of p) few seats (λ o. refl) places Free split (seats_of p input opts r d) (λ o. refl) splits nobodys (source_of p) j w u d.rides (λ m z f. right_false (run_bars Homes (source_of p) input opts r m z) (ride_bars Homes (source_of p) j w u d.rides m z) (open_way m z f))
+      ride_open (table_of p) few seats (λ o. refl) places Free split (seats_of p input opts r d) (λ o. refl) splits nobodys foreign places_made (source_of p) j w u d.rides (λ m z f. right_false (run_bars Homes (source_of p) input opts r m z) (ride_bars Homes (source_of p) j w u d.rides m z) (open_way m z f))
 
   pub holds_none : (v : State) → BarsNone v → (todo : List Todo) (o : ℕ) → v.run.control ≡ piece.RaiseAtNow ∷ todo → top v.run.operands ≡ Object o → owner o j ≡ [] → o < object_count j → is_gone o j ≡ false → IsNoHome (table_of p) seats o (Base seats v.env.exec) → IsNoHome (table_of p) few o (Base few v.env.exec)
   holds_none v free todo o e operand none made there h =
-      unheld (table_of p) few seats (λ o. refl) places Free split (seats_of p input opts r d) (λ o. refl) splits nobodys (source_of p) j w u v free todo o e operand none made there h
+      unheld (table_of p) few seats (λ o. refl) places Free split (seats_of p input opts r d) (λ o. refl) splits nobodys foreign places_made (source_of p) j w u v free todo o e operand none made there h

@@ -66,7 +66,7 @@ module _ (p : Program) (formed : IsFormed p) (accepted : breaks_of p ≡ []) (fe
       (here s n (known s way.stays tt) m.0, ride_calls r m.1 f.1 (λ x l y. known x (way.ticks e l) (m.0, y)) (ticks_on p (setting_of p few) (laid_out p formed accepted) (law_accepted p accepted) code s t e n f.0))
   ride_calls (asks {s} e) m f known n = here s n (known s way.stays tt) m
 
-  told_here : (s : State) → Stands p (setting_of p few) s → IsKnownThere p few s → Meets (table_of p) few s → Fair (setting_of p few) s → FindsTold (table_of p) few (source_of p) s
+  pub told_here : (s : State) → Stands p (setting_of p few) s → IsKnownThere p few s → Meets (table_of p) few s → Fair (setting_of p few) s → FindsTold (table_of p) few (source_of p) s
   told_here s n k m f lets = tells p formed accepted few places s n.put k.knows lets k.life m f
 
   ride_told : {s u : State} {q k : ℕ} {a : Asked} (r : Rides (source_of p) s q u k a) → RideMeets (Meets (table_of p) few) (source_of p) s q u k a r → RideMeets (Fair (setting_of p few)) (source_of p) s q u k a r → ((v : State) (l : Leads (source_of p) s v) → LeadsMeet (Meets (table_of p) few) (source_of p) s v l → IsKnownThere p few v) → Stands p (setting_of p few) s → RideMeets (FindsTold (table_of p) few (source_of p)) (source_of p) s q u k a r

@@ -13,12 +13,12 @@ use Rattle.uc_acts.specs.Known.{object_count, is_gone, owner}
 use Rattle.uc_acts.specs.KernelRuns.{InRange}
 use Rattle.uc_acts.specs.Serves.{left}
 use Rattle.uc_machine.specs.declared.exec.Exec.{Exec}
-use Rattle.uc_machine.specs.Pieces.{Value, Number, Place, Running, Object, Nothing, Todo, EnterNow}
+use Rattle.uc_machine.specs.Pieces.{Value, Number, Place, Running, Object, Nothing, Todo, EnterNow, RaiseAtNow}
 use Rattle.uc_machine.specs.Quiet.{State, Goes, Ticks, Asks, quiet}
 use Rattle.uc_machine.specs.Rides as rides
 use Rattle.uc_machine.specs.Rides.{Rides}
 use Rattle.uc_machine.specs.Answering.{answered}
-use Rattle.uc_meaning.specs.Runs.{World, May, Runs, AsksIn, drawn, world_after, acts, more}
+use Rattle.uc_meaning.specs.Runs.{World, May, Runs, AsksIn, drawn, world_after, gives, no_room, acts, begun, more}
 use Rattle.uc_resolve.specs.Resolve.{source_of}
 use Rattle.uc_rules.specs.Breaks.{breaks_of}
 use Rattle.uc_sound.specs.SoundFormed.{IsFormed}
@@ -60,6 +60,15 @@ use Rattle.uc_request_laws.proofs.LastingLemmas.{names_made, law_lasting}
 use Rattle.uc_life_laws.proofs.UnmarkedWorlds.{law_runs as law_lone_runs}
 use Rattle.uc_putting_laws.proofs.PuttingRuns.{law_runs as law_puts}
 use Rattle.uc_running_laws.proofs.RunningLemmas.{run_leaves}
+use Rattle.uc_letting_laws.specs.AloneRuns.{RunAlone}
+use Rattle.uc_rooted_runs.specs.Mains.{CallsNoMain, FindsAll}
+use Rattle.uc_rooted_runs.specs.MainRuns.{EndsMains}
+use Rattle.uc_rooted_runs.proofs.MainRuns.{law_mains}
+use Rattle.uc_making_laws.specs.NoOthers.{NoThis}
+use Rattle.uc_making_laws.specs.BuilderRuns.{Finishes}
+use Rattle.uc_lasting_programs.specs.UnderWay.{RunStays}
+use Rattle.uc_lasting_programs.proofs.UnderWay.{under_way}
+use Rattle.uc_making_laws.proofs.BuilderRuns.{law_builder_runs}
 use Rattle.uc_rooted_runs.specs.UnmarkedRuns.{RunLeft}
 use Rattle.uc_rooted_runs.proofs.UnmarkedRuns.{law_unmarked_runs}
 use Rattle.uc_making_laws.specs.OwnThis.{ThisState, FindsThis}
@@ -70,27 +79,28 @@ use Rattle.uc_making_laws.specs.ForgetsThis.{RunGoes, IsLeftNowhere}
 use Rattle.uc_lasting_programs.specs.Forgetting.{IsLeftOf}
 use Rattle.uc_lasting_programs.specs.LastingPrograms.{IsLeftFor, LawLastingPrograms}
 use Rattle.uc_lasting_programs.specs.Meeting.{RunHoldsAt}
-use Rattle.uc_lasting_programs.specs.Bases.{unbarred, based}
+use Rattle.uc_lasting_programs.specs.Bases.{based}
 use Rattle.uc_lasting_programs.specs.Seats.{ride_seats, run_seats, seated}
 use Rattle.uc_lasting_programs.specs.Telling.{main_class, is_main_home, few_of, IsTelling}
 use Rattle.uc_lasting_programs.specs.Ways.{RunHoldsOnWay}
 use Rattle.uc_lasting_programs.proofs.Asking.{law_asked_at}
 use Rattle.uc_lasting_programs.specs.Sparing.{KnowsHomes}
-use Rattle.uc_lasting_programs.proofs.Finding.{ride_map}
 use Rattle.uc_lasting_programs.proofs.CallsRuns.{law_calls_runs}
 use Rattle.uc_lasting_programs.proofs.Forgetting.{law_forgets_programs, run_nobodys}
 use Rattle.uc_lasting_programs.proofs.Telling.{law_telling}
 use Rattle.uc_lasting_programs.proofs.Sparing.{run_spares}
 use Rattle.uc_lasting_programs.proofs.Ways.{law_ways}
-use Rattle.uc_lasting_programs.proofs.Meeting.{tells_made, ride_outside, run_outside, HasMet, Shown, BuiltHere, ride_lasts, ride_lives, ride_all, run_present, run_met, ride_reads, run_reads, homed}
+use Rattle.uc_lasting_programs.proofs.Meeting.{tells_made, ride_outside, run_outside, HasMet, Shown, BuiltHere, ride_clear, ride_lasts, ride_lives, ride_all, run_present, run_met, ride_reads, run_reads, homed}
 use Rattle.uc_lasting_programs.proofs.Numbers.{passes}
 use Rattle.uc_lasting_programs.proofs.PresentRides.{EntersClear, Began}
 use Rattle.uc_lasting_programs.proofs.PresentRuns.{began}
-use Rattle.uc_lasting_programs.proofs.Bases.{ways_elsewhere, way_elsewhere, BarsNone, bars_none, holds_none}
+use Rattle.uc_lasting_programs.proofs.Bases.{BareOnWayBy, BareOnWay, ways_elsewhere, way_elsewhere, BarsNone, bars_none, holds_none}
+use Rattle.uc_lasting_programs.proofs.OfOthers.{HasOthers, others_had}
 use Rattle.uc_lasting_programs.proofs.Seats.{left_true, right_true, Seats, ride_has, run_has}
 use Rattle.uc_lasting_programs.proofs.Remaining.{ride_remains, last_whole, run_remains}
 use Rattle.uc_lasting_programs.proofs.Owning.{first_owned}
-use Rattle.uc_lasting_programs.proofs.Raising.{not_raised}
+use Rattle.uc_lasting_programs.proofs.Raising.{not_raised, not_under_way, finishes}
+use Rattle.uc_lasting_programs.proofs.Finding.{law_finding, ride_found}
 
 -- what holds at the states of a ride in two ways, and on the way to one
 
@@ -146,7 +156,7 @@ module _ (p : Program) (formed : IsFormed p) (ok : breaks_of p ≡ []) (within :
   these = telling numbers home base
 
   abbrev Left : (j : Journal) (w : World) → Runs (source_of p) input opts j w → Type 0
-  Left j w r = RunHoldsOnWay (λ j w u v. ElsewhereOnWay (table_of p) these j w u v (source_of p)) (source_of p) input opts r × IsLeftKnown p these many input opts j w r
+  Left j w r = RunHoldsOnWay (λ j w u v. BareOnWay (table_of p) these j w u v (source_of p)) (source_of p) input opts r × IsLeftKnown p these many input opts j w r
 
   -- what one act less had made is told as it was
   fewer : (j : Journal) (w : World) (a : List Entry) (v : World) (r : Runs (source_of p) input opts j w) (on : is_over j ≡ false) (m : May (source_of p) opts input j w a v) → ((o : ℕ) → o < object_count (j ++ a) → home o ≡ home_of (source_of p) input opts (j ++ a) v (more r on m) o) → (o : ℕ) → o < object_count j → home o ≡ home_of (source_of p) input opts j w r o
@@ -160,20 +170,40 @@ module _ (p : Program) (formed : IsFormed p) (ok : breaks_of p ≡ []) (within :
   -- all is known where each step found what it was to find
   left_so : (j : Journal) (w : World) (r : Runs (source_of p) input opts j w) → RunFits (source_of p) input opts j w r → PassesBelow these opts j → RunMeets (Meets (table_of p) these) (source_of p) input opts j w r → IsLeftKnown p these many input opts j w r → IsLeftOf p these many input opts j w r
   left_so j w r f below met x =
-      let known = run_reads p formed ok numbers home base within raws places main input opts range r f below met in
+      let known = run_reads p formed ok numbers home base within raws places zero main many input opts range r f below met in
       record {
         homes = run_zip (Told p these many) (KnowsReads (table_of p) these) (KnowsHomes p these many) (λ v a b. (a, b)) r x.told known;
         fair = law_found.runs p formed ok within these many input opts range j w r f x.told known;
       }
 
-  apart_so : (j : Journal) (w : World) (r : Runs (source_of p) input opts j w) → RunFits (source_of p) input opts j w r → is_over j ≡ false → PassesBelow these opts j → RunMeets (Meets (table_of p) these) (source_of p) input opts j w r → Left j w r → RunMeets (StepApart (table_of p) these (source_of p)) (source_of p) input opts j w r × RunGoes (IsLeftNowhere (table_of p) these) (source_of p) input opts r
-  apart_so j w r f on below met x =
-      let l = left_so j w r f below met x.1 in
-      law_ways.runs p formed ok within these many places zero input opts range j w r f on below main met l.fair l.homes x.0
+  -- what the ways are asked, where what is entered again to be destroyed is not at hand
 
-  shown : (j : Journal) (w : World) (r : Runs (source_of p) input opts j w) → RunFits (source_of p) input opts j w r → is_over j ≡ false → PassesBelow these opts j → RunMeets (Meets (table_of p) these) (source_of p) input opts j w r → Left j w r → Shown p formed ok numbers home base input opts j w r
-  shown j w r f on below met x =
-      let so = apart_so j w r f on below met x in
+  elsewhere : (j : Journal) (w : World) (u : ℕ) (v : State) → BareOnWay (table_of p) these j w u v (source_of p) → EntersClear p these v → ElsewhereOnWay (table_of p) these j w u v (source_of p)
+  elsewhere j w u v h c = by v.run.control refl h
+    where
+      by : (l : List Todo) → v.run.control ≡ l → BareOnWayBy (table_of p) these j w u v (source_of p) l → ElsewhereOnWayBy (table_of p) these j w u v (source_of p) l
+      by (EnterNow m r ∷ todo) e h = λ k. c k m r todo e
+      by [] e h = h
+      by (z ∷ todo) e h = h
+
+  ride_elsewhere : (j : Journal) (w : World) (u : ℕ) {s x : State} {q k : ℕ} {a : Asked} (r : Rides (source_of p) s q x k a) → RideMeets (λ v. BareOnWay (table_of p) these j w u v (source_of p)) (source_of p) s q x k a r → RideMeets (EntersClear p these) (source_of p) s q x k a r → RideMeets (λ v. ElsewhereOnWay (table_of p) these j w u v (source_of p)) (source_of p) s q x k a r
+  ride_elsewhere j w u r h c =
+      ride_zip (λ v. BareOnWay (table_of p) these j w u v (source_of p)) (EntersClear p these) (λ v. ElsewhereOnWay (table_of p) these j w u v (source_of p)) (elsewhere j w u) r h c
+
+  run_elsewhere : {j : Journal} {w : World} (r : Runs (source_of p) input opts j w) → RunHoldsOnWay (λ j w u v. BareOnWay (table_of p) these j w u v (source_of p)) (source_of p) input opts r → RunMeets (EntersClear p these) (source_of p) input opts j w r → RunHoldsOnWay (λ j w u v. ElsewhereOnWay (table_of p) these j w u v (source_of p)) (source_of p) input opts r
+  run_elsewhere begun h c = tt
+  run_elsewhere (more r o (gives q t s le)) h c = (run_elsewhere r h.0 c.0, tt)
+  run_elsewhere (more r o (no_room q t s le)) h c = (run_elsewhere r h.0 c.0, tt)
+  run_elsewhere (more {j} {w} r o (acts q t n s asked d)) h c = (run_elsewhere r h.0 c.0, ride_elsewhere j w t d.rides h.1 c.1)
+
+  apart_so : (j : Journal) (w : World) (r : Runs (source_of p) input opts j w) → RunFits (source_of p) input opts j w r → is_over j ≡ false → PassesBelow these opts j → RunMeets (Meets (table_of p) these) (source_of p) input opts j w r → RunMeets (EntersClear p these) (source_of p) input opts j w r → Left j w r → RunMeets (StepApart (table_of p) these (source_of p)) (source_of p) input opts j w r × RunGoes (IsLeftNowhere (table_of p) these) (source_of p) input opts r
+  apart_so j w r f on below met clear x =
+      let l = left_so j w r f below met x.1 in
+      law_ways.runs p formed ok within these many places zero input opts range j w r f on below main met l.fair l.homes (run_elsewhere r x.0 clear)
+
+  shown : (j : Journal) (w : World) (r : Runs (source_of p) input opts j w) → RunFits (source_of p) input opts j w r → is_over j ≡ false → PassesBelow these opts j → RunMeets (Meets (table_of p) these) (source_of p) input opts j w r → RunMeets (EntersClear p these) (source_of p) input opts j w r → Left j w r → Shown p formed ok numbers home base many input opts j w r
+  shown j w r f on below met clear x =
+      let so = apart_so j w r f on below met clear x in
       let lone = law_apart_runs.runs p formed ok these input opts range j w r f below main met so.0 in
       let l = left_so j w r f below met x.1 in
       record {
@@ -181,15 +211,8 @@ module _ (p : Program) (formed : IsFormed p) (ok : breaks_of p ≡ []) (within :
         alone = lone;
         nobodys = run_nobodys p formed ok within these many places zero input opts range j w r f on lone below main met so.1 l;
         homes = x.1.homes;
+        told = x.1.told;
       }
-
-  -- what is entered again to be destroyed is not at hand of who enters it
-  clear_of : (j : Journal) (w : World) (u : ℕ) (v : State) → ElsewhereOnWay (table_of p) these j w u v (source_of p) → EntersClear p these v
-  clear_of j w u v h = λ k m r todo e. subst (ElsewhereOnWayBy (table_of p) these j w u v (source_of p)) e h k
-
-  clears : (j : Journal) (w : World) (r : Runs (source_of p) input opts j w) (q n k : ℕ) (s : State) (asked : Asked) (d : AsksIn (source_of p) opts j w q n k s asked) → RideMeets (λ v. ElsewhereOnWay (table_of p) these j w n v (source_of p)) (source_of p) (answered (source_of p) d.given (drawn j w n)) (left opts j n) s k asked d.rides → RideMeets (EntersClear p these) (source_of p) (answered (source_of p) d.given (drawn j w n)) (left opts j n) s k asked d.rides
-  clears j w r q n k s asked d h =
-      ride_map (λ v. ElsewhereOnWay (table_of p) these j w n v (source_of p)) (EntersClear p these) (clear_of j w n) d.rides h
 
 module _ (p : Program) (formed : IsFormed p) (ok : breaks_of p ≡ []) (within : IsWithinLimits p) (input : List ℕ) (opts : Options) (range : InRange opts) (j : Journal) (w : World) (r : Runs (source_of p) input opts j w) (f : RunFits (source_of p) input opts j w r) (on : is_over j ≡ false) (q t n : ℕ) (s : State) (asked : Asked) (d : AsksIn (source_of p) opts j w q t n s asked) (x : IsLeftFor p input opts j w r q t n s asked d) where
   abbrev source : Source
@@ -232,19 +255,23 @@ module _ (p : Program) (formed : IsFormed p) (ok : breaks_of p ≡ []) (within :
   Homes o = home_of source input opts j w r o
 
   -- what the ways are asked is shown of all that is told but seats
-  ways_here : RunHoldsOnWay (λ j w u v. ElsewhereOnWay (table_of p) few j w u v source) source input opts r
+  ways_here : RunHoldsOnWay (λ j w u v. BareOnWay (table_of p) few j w u v source) source input opts r
   ways_here = ways_elsewhere p formed ok input opts range j w r f on q t n s asked d x.ways
 
-  way_here : RideMeets (λ v. ElsewhereOnWay (table_of p) few j w t v source) source start (left opts j t) s n asked d.rides
+  way_here : RideMeets (λ v. BareOnWay (table_of p) few j w t v source) source start (left opts j t) s n asked d.rides
   way_here = way_elsewhere p formed ok input opts range j w r f on q t n s asked d x.way_now
 
   -- executions have the objects for which they were made
   has_seat : (n : Exec) (v : Value) (b : Ty) → IsPlace v → seated p input opts r d n v b ≡ true → Base few n v b
-  has_seat n (Place o l) b i h = right_true (is_main_home (main_class p) n o l b) (based p input opts r d n (Place o l) b) (left_true (seated p input opts r d n (Place o l) b) (unbarred Homes source input opts r d n (Place o l)) h)
+  has_seat n (Place o l) b i h = right_true (is_main_home (main_class p) n o l b) (based p input opts r d n (Place o l) b) (left_true (seated p input opts r d n (Place o l) b) _ h)
   has_seat n (Number z) b i h = absurd i
   has_seat n (Running m) b i h = absurd i
   has_seat n (Object o) b i h = absurd i
   has_seat n Nothing b i h = absurd i
+
+  -- and what is another's, and no mutex object
+  had : HasOthers few
+  had = others_had p input opts j w r q t n s asked d
 
   abbrev so_far : Exec → Value → Ty → Bool
   so_far n v b = run_seats (table_of p) Homes source input opts r n v b
@@ -261,11 +288,11 @@ module _ (p : Program) (formed : IsFormed p) (ok : breaks_of p ≡ []) (within :
       ride_has (table_of p) few.home (Base few) d.rides (λ n v b i h. has_seat n v b i (right_true (so_far n v b) (on_ride n v b) h))
 
   met_so_far : RunHoldsAt Here source input opts j w r
-  met_so_far = run_remains p formed ok within input opts range few raws_last (λ c o h. h) r f tells.below (run_with (Told p few all) Opened (λ v h. h.1) r told_here) x.met seats_so_far
+  met_so_far = run_remains p formed ok within input opts range few raws_last had (λ c o h. h) r f tells.below (run_with (Told p few all) Opened (λ v h. h.1) r told_here) x.met seats_so_far
 
   met_next : RideHolds (Here j) source 0 start (left opts j t) s n asked d.rides
   met_next =
-      ride_remains p formed ok within input opts range (lasting few j) (raws_last j) j (last_whole p formed ok within input opts range few (λ c o h. h) j) w r f on tells.below.clusters few (λ o. refl) q t n s asked d (ride_with (Told p few all) Opened (λ v h. h.1) d.rides told_next) x.met_now seats_next
+      ride_remains p formed ok within input opts range (lasting few j) (raws_last j) had j (last_whole p formed ok within input opts range few (λ c o h. h) j) w r f on tells.below.clusters few (λ o. refl) q t n s asked d (ride_with (Told p few all) Opened (λ v h. h.1) d.rides told_next) x.met_now seats_next
 
   abbrev LeftOf : (j : Journal) (w : World) → Runs source input opts j w → Type 0
   LeftOf j w r = Left p formed ok within all few.numbers few.home few.base tells.raws tells.main tells.places tells.nobodys input opts range j w r
@@ -273,55 +300,72 @@ module _ (p : Program) (formed : IsFormed p) (ok : breaks_of p ≡ []) (within :
   shorter_of : (j : Journal) (w : World) (a : List Entry) (v : World) (r : Runs source input opts j w) (on : is_over j ≡ false) (m : May source opts input j w a v) → LeftOf (j ++ a) v (more r on m) → LeftOf j w r
   shorter_of j w a v r on m l = shorter p formed ok within all few.numbers few.home few.base tells.raws tells.main tells.places tells.nobodys input opts range j w a v r on m l
 
-  shown_of : (j : Journal) (w : World) (r : Runs source input opts j w) → RunFits source input opts j w r → is_over j ≡ false → PassesBelow few opts j → HasMet p formed ok few.numbers few.home few.base input opts j w r → LeftOf j w r → Shown p formed ok few.numbers few.home few.base input opts j w r
-  shown_of j w r f on below so l = shown p formed ok within all few.numbers few.home few.base tells.raws tells.main tells.places tells.nobodys input opts range j w r f on below so.all l
+  shown_of : (j : Journal) (w : World) (r : Runs source input opts j w) → RunFits source input opts j w r → is_over j ≡ false → PassesBelow few opts j → HasMet p formed ok few.numbers few.home few.base input opts j w r → LeftOf j w r → Shown p formed ok few.numbers few.home few.base all input opts j w r
+  shown_of j w r f on below so l = shown p formed ok within all few.numbers few.home few.base tells.raws tells.main tells.places tells.nobodys input opts range j w r f on below so.all so.clear l
 
-  clears_of : (j : Journal) (w : World) (r : Runs source input opts j w) (on : is_over j ≡ false) (q n k : ℕ) (s : State) (asked : Asked) (d : AsksIn source opts j w q n k s asked) → LeftOf (j ++ act opts source.sites input j q n k asked) (world_after source (act opts source.sites input j q n k asked) w n s) (more r on (acts q n k s asked d)) → RideMeets (EntersClear p few) source (answered source d.given (drawn j w n)) (left opts j n) s k asked d.rides
-  clears_of j w r on q n k s asked d l = clears p formed ok within all few.numbers few.home few.base tells.raws tells.main tells.places tells.nobodys input opts range j w r q n k s asked d l.0.1
+  -- what is told of homes, and of others where an object is entered again to be destroyed
+  abbrev Conds : Journal → World → ℕ → State → Type 0
+  Conds j w u v = Told p few all v × BareOnWay (table_of p) few j w u v source
+
+  conds_of : (j : Journal) (w : World) (r : Runs source input opts j w) (on : is_over j ≡ false) (q n k : ℕ) (s : State) (asked : Asked) (d : AsksIn source opts j w q n k s asked) → LeftOf (j ++ act opts source.sites input j q n k asked) (world_after source (act opts source.sites input j q n k asked) w n s) (more r on (acts q n k s asked d)) → RideMeets (Conds j w n) source (answered source d.given (drawn j w n)) (left opts j n) s k asked d.rides
+  conds_of j w r on q n k s asked d l =
+      ride_zip (Told p few all) (λ v. BareOnWay (table_of p) few j w n v source) (Conds j w n) (λ v a b. (a, b)) d.rides l.1.told.1 l.0.1
 
   so : HasMet p formed ok few.numbers few.home few.base input opts j w r
-  so = run_met p formed ok few.numbers few.home few.base within tells.raws tells.places tells.main input opts range LeftOf shorter_of shown_of clears_of r f tells.below met_so_far (ways_here, left_here)
+  so = run_met p formed ok few.numbers few.home few.base within tells.raws tells.places tells.nobodys tells.main all input opts range LeftOf shorter_of shown_of conds_of r f tells.below met_so_far (ways_here, left_here)
 
   left_of : IsLeftOf p few all input opts j w r
   left_of = left_so p formed ok within all few.numbers few.home few.base tells.raws tells.main tells.places tells.nobodys input opts range j w r f tells.below so.all left_here
 
-  shows : Shown p formed ok few.numbers few.home few.base input opts j w r
+  shows : Shown p formed ok few.numbers few.home few.base all input opts j w r
   shows = shown_of j w r f on tells.below so (ways_here, left_here)
 
   forgets : RunForgets (table_of p) few source input opts j w r
   forgets = shows.forgets
 
   -- what is so as this ride begins
-  clear_now : RideMeets (EntersClear p few) source start (left opts j t) s n asked d.rides
-  clear_now = clears p formed ok within all few.numbers few.home few.base tells.raws tells.main tells.places tells.nobodys input opts range j w r q t n s asked d way_here
-
   begins : Began p few j start
   begins =
-      began p formed ok input opts range j w r f on shows.alone (run_present p formed ok few.numbers few.home few.base within tells.raws tells.places tells.main input opts range LeftOf shorter_of shown_of clears_of r f on tells.below so (ways_here, left_here)) few (homed p formed ok few.numbers few.home few.base within tells.raws tells.places tells.main input opts range j w r f tells.below so shows.homes) q t n s asked d
+      began p formed ok input opts range j w r f on shows.alone (run_present p formed ok few.numbers few.home few.base within tells.raws tells.places tells.nobodys tells.main all input opts range LeftOf shorter_of shown_of conds_of r f on tells.below so (ways_here, left_here)) few (homed p formed ok few.numbers few.home few.base within tells.raws tells.places tells.nobodys tells.main all input opts range j w r f tells.below so shows.homes) q t n s asked d
+
+  cond_now : RideMeets (Conds j w t) source start (left opts j t) s n asked d.rides
+  cond_now =
+      ride_zip (Told p few all) (λ v. BareOnWay (table_of p) few j w t v source) (Conds j w t) (λ v a b. (a, b)) d.rides told_next way_here
+
+  clear_now : RideMeets (EntersClear p few) source start (left opts j t) s n asked d.rides
+  clear_now = ride_clear p formed ok few.numbers few.home few.base within tells.raws tells.places tells.nobodys tells.main all input opts range j w r f on tells.below forgets shows.homes told_here shows.alone so q t n s asked d begins met_next cond_now
+
+  elsewhere_now : RideMeets (λ v. ElsewhereOnWay (table_of p) few j w t v source) source start (left opts j t) s n asked d.rides
+  elsewhere_now =
+      ride_elsewhere p formed ok within all few.numbers few.home few.base tells.raws tells.main tells.places tells.nobodys input opts range j w t d.rides way_here clear_now
 
   lasts_now : RideMeets (Meets (table_of p) (lasting few j)) source start (left opts j t) s n asked d.rides
-  lasts_now = ride_lasts p formed ok few.numbers few.home few.base within tells.raws tells.places tells.main input opts range j w r f on tells.below forgets shows.homes so q t n s asked d met_next clear_now begins
+  lasts_now = ride_lasts p formed ok few.numbers few.home few.base within tells.raws tells.places tells.nobodys tells.main all input opts range j w r f on tells.below forgets shows.homes told_here shows.alone so q t n s asked d begins met_next cond_now
 
   met_now : RideMeets (Meets (table_of p) few) source start (left opts j t) s n asked d.rides
-  met_now = ride_all p formed ok few.numbers few.home few.base within tells.raws tells.places tells.main input opts range j w r f on tells.below forgets shows.homes so q t n s asked d met_next clear_now begins
+  met_now = ride_all p formed ok few.numbers few.home few.base within tells.raws tells.places tells.nobodys tells.main all input opts range j w r f on tells.below forgets shows.homes told_here shows.alone so q t n s asked d begins met_next cond_now
 
   known_now : RideMeets (KnowsReads (table_of p) few) source start (left opts j t) s n asked d.rides
-  known_now = ride_reads p formed ok few.numbers few.home few.base within tells.raws tells.places tells.main input opts range j w r f on tells.below so.all q t n s asked d met_now
+  known_now = ride_reads p formed ok few.numbers few.home few.base within tells.raws tells.places tells.nobodys tells.main all input opts range j w r f on tells.below so.all q t n s asked d met_now
 
   fair_now : RideMeets (Fair (setting_of p few)) source start (left opts j t) s n asked d.rides
   fair_now =
-      law_found.rides p formed ok within few all input opts range j w r f told_here (run_reads p formed ok few.numbers few.home few.base within tells.raws tells.places tells.main input opts range r f tells.below so.all) on q t n s asked d told_next known_now
+      law_found.rides p formed ok within few all input opts range j w r f told_here (run_reads p formed ok few.numbers few.home few.base within tells.raws tells.places tells.nobodys tells.main all input opts range r f tells.below so.all) on q t n s asked d told_next known_now
 
   homes_now : RideMeets (KnowsHomes p few all) source start (left opts j t) s n asked d.rides
   homes_now = ride_zip (Told p few all) (KnowsReads (table_of p) few) (KnowsHomes p few all) (λ v a b. (a, b)) d.rides told_next known_now
 
+  elsewhere_here : RunHoldsOnWay (λ j w u v. ElsewhereOnWay (table_of p) few j w u v source) source input opts r
+  elsewhere_here =
+      run_elsewhere p formed ok within all few.numbers few.home few.base tells.raws tells.main tells.places tells.nobodys input opts range r ways_here so.clear
+
   on_way : RideMeets (StepApart (table_of p) few source) source start (left opts j t) s n asked d.rides
-  on_way = law_ways.rides p formed ok within few all tells.places tells.nobodys input opts range j w r f on tells.below tells.main so.all left_of.fair left_of.homes ways_here q t n s asked d met_now fair_now homes_now way_here
+  on_way = law_ways.rides p formed ok within few all tells.places tells.nobodys input opts range j w r f on tells.below tells.main so.all left_of.fair left_of.homes elsewhere_here q t n s asked d met_now fair_now homes_now elsewhere_now
 
   -- nobody else has at hand what is let go of, so far and in this ride
   apart : RunMeets (StepApart (table_of p) few source) source input opts j w r × RideMeets (StepApart (table_of p) few source) source start (left opts j t) s n asked d.rides
   apart = (
-    (apart_so p formed ok within all few.numbers few.home few.base tells.raws tells.main tells.places tells.nobodys input opts range j w r f on tells.below so.all (ways_here, left_here)).0,
+    (apart_so p formed ok within all few.numbers few.home few.base tells.raws tells.main tells.places tells.nobodys input opts range j w r f on tells.below so.all so.clear (ways_here, left_here)).0,
     on_way,
   )
 
@@ -343,11 +387,27 @@ module _ (p : Program) (formed : IsFormed p) (ok : breaks_of p ≡ []) (within :
   Calls v = FindsThis (table_of p) few source v
 
   abbrev All : State → Type 0
-  All v = Lasts v × (Known v × (Calls v × Ends v))
+  All v = Lasts v × (Known v × (Calls v × (Ends v × Finishes v)))
+
+  alone_so : RunAlone source input opts j w r
+  alone_so = law_apart_runs.runs p formed ok few input opts range j w r f tells.below tells.main so.all apart.0
+
+  -- no main is called, so nothing is left at the end of one
+  calls_none : RunMeets (CallsNoMain source) source input opts j w r
+  calls_none = (law_finding.runs p formed ok input opts range j w r f alone_so).calls
+
+  finishes_so : RunMeets Finishes source input opts j w r
+  finishes_so = run_with (EndsMains source) Finishes (finishes source) r (law_mains.runs source input opts j w r calls_none)
+
+  finishes_now : RideMeets Finishes source start (left opts j t) s n asked d.rides
+  finishes_now =
+      let found = ride_found p formed ok input opts range r f alone_so on q t n s asked d in
+      let mains = law_mains.runs source input opts (j ++ act opts source.sites input j q t n asked) (world_after source (act opts source.sites input j q t n asked) w t s) (more r on (acts q t n s asked d)) (calls_none, ride_with (λ v. FindsAll source v × CallsNoMain source v) (CallsNoMain source) (λ v h. h.1) d.rides found) in
+      ride_with (EndsMains source) Finishes (finishes source) d.rides mains.1
 
   ends_now : RideMeets Ends source start (left opts j t) s n asked d.rides
   ends_now =
-      ride_both (Fair (setting_of p few)) (λ v. LivesState (table_of p) (lasting few j) v × Free v) source d.rides fair_now (ride_both (LivesState (table_of p) (lasting few j)) Free source d.rides (ride_lives p formed ok few.numbers few.home few.base within tells.raws tells.places tells.main input opts range j w r f on tells.below forgets shows.homes so q t n s asked d met_next clear_now begins) (bars_none p formed ok input opts range j w r f on q t n s asked d))
+      ride_both (Fair (setting_of p few)) (λ v. LivesState (table_of p) (lasting few j) v × Free v) source d.rides fair_now (ride_both (LivesState (table_of p) (lasting few j)) Free source d.rides (ride_lives p formed ok few.numbers few.home few.base within tells.raws tells.places tells.nobodys tells.main all input opts range j w r f on tells.below forgets shows.homes told_here shows.alone so q t n s asked d begins met_next cond_now) (bars_none p formed ok input opts range j w r f on q t n s asked d))
 
   calls_now : RideMeets Calls source start (left opts j t) s n asked d.rides
   calls_now =
@@ -355,7 +415,7 @@ module _ (p : Program) (formed : IsFormed p) (ok : breaks_of p ≡ []) (within :
 
   all_meet : RideMeets All source start (left opts j t) s n asked d.rides
   all_meet =
-      ride_both Lasts (λ v. Known v × (Calls v × Ends v)) source d.rides lasts_now (ride_both Known (λ v. Calls v × Ends v) source d.rides met_now (ride_both Calls Ends source d.rides calls_now ends_now))
+      ride_both Lasts (λ v. Known v × (Calls v × (Ends v × Finishes v))) source d.rides lasts_now (ride_both Known (λ v. Calls v × (Ends v × Finishes v)) source d.rides met_now (ride_both Calls (λ v. Ends v × Finishes v) source d.rides calls_now (ride_both Ends Finishes source d.rides ends_now finishes_now)))
 
   -- marks are put for what is an execution's own
   puts : RunMeets (Puts (table_of p) few) source input opts j w r
@@ -378,10 +438,10 @@ module _ (p : Program) (formed : IsFormed p) (ok : breaks_of p ≡ []) (within :
     meets_there = leads_map All Known source (λ v h. h.1.0) a.leads a.meets
 
     fair_there : LeadsMeet (Fair (setting_of p few)) source start a.state a.leads
-    fair_there = leads_map All (Fair (setting_of p few)) source (λ v h. h.1.1.1.0) a.leads a.meets
+    fair_there = leads_map All (Fair (setting_of p few)) source (λ v h. h.1.1.1.0.0) a.leads a.meets
 
     lives_there : LeadsMeet (LivesState (table_of p) (lasting few j)) source start a.state a.leads
-    lives_there = leads_map All (LivesState (table_of p) (lasting few j)) source (λ v h. h.1.1.1.1.0) a.leads a.meets
+    lives_there = leads_map All (LivesState (table_of p) (lasting few j)) source (λ v h. h.1.1.1.0.1.0) a.leads a.meets
 
     puts_there : LeadsMeet (Puts (table_of p) few) source start a.state a.leads
     puts_there = law_puts.leads p formed ok few input opts range j w r f left_of.fair on t a.state comes fair_there
@@ -421,6 +481,15 @@ module _ (p : Program) (formed : IsFormed p) (ok : breaks_of p ≡ []) (within :
         by k i todo z true h = ends k i todo z h o m e
         by k i todo z false h = law_called p formed ok few input opts range j w r f on tells.below tells.main so.lasts forgets t a.state comes lasts_there k i todo z h o m s e
 
+    finishes_there : LeadsMeet Finishes source start a.state a.leads
+    finishes_there = leads_map All Finishes source (λ v h. h.1.1.1.1) a.leads a.meets
+
+    -- who raises an event made what is its own, and of no task yet: so it builds that, and one of its activations is of it
+    foreign : (o : ℕ) (todo : List Todo) → a.state.run.control ≡ RaiseAtNow ∷ todo → NoThis o (a.state.run ∷ a.state.callers) → (Belongs few a.state.env.exec (few.home o) → RunStays source o a.state.env.exec input opts r) → o < object_count j → is_gone o j ≡ false → Belongs few a.state.env.exec (few.home o) → ⊥
+    foreign o todo z none made lt there b =
+        let near = law_builder_runs source o a.state.env.exec input opts j w r range f on (run_leaves p formed ok input opts range r f alone_so) (run_spares p formed ok within few all input opts range r f alone_so left_of.fair left_of.homes) finishes_so (under_way p formed ok few tells.nobodys input opts range r f alone_so on left_of.fair (λ i l. refl) o lt there a.state.env.exec b (made b)) t a.state comes finishes_there in
+        not_under_way source o a.state.env.exec a.state near none todo z refl
+
     raises : (o event : ℕ) (y z : ℤ) → quiet source a.state ≡ Asks (ask.Raise o event y z) s → NamesMade opts j (ask.Raise o event y z) → IsLasting j (ask.Raise o event y z)
     raises o event y z e m =
         let c = law_asked_at source a.state (ask.Raise o event y z) s e in
@@ -429,7 +498,7 @@ module _ (p : Program) (formed : IsFormed p) (ok : breaks_of p ≡ []) (within :
           λ none.
               let g = x.raised a.state o event y z e none m there in
               let zero : o ≡ 0 → ⊥ = λ z. first_owned source input opts r (subst (λ k. owner k j ≡ []) z none) in
-              not_raised (table_of p) few tells.places a.state known_there lone_there.stack this_there.stack o zero g.foreign (holds_none p formed ok input opts range j w r f on q t n s asked d a.state a.here.1.1.1.1.1 c.0 o c.1 c.2 none m there g.unheld) c.0 c.1 c.2,
+              not_raised (table_of p) few tells.places a.state known_there lone_there.stack this_there.stack o zero (foreign o c.0 c.1 g.unbuilt g.made m there) (holds_none p formed ok input opts range j w r f on q t n s asked d a.state a.here.1.1.1.0.1.1 c.0 o c.1 c.2 none m there g.unheld) c.0 c.1 c.2,
         )
 
     last : (q : Request) → quiet source a.state ≡ Asks q s → NamesMade opts j q → IsLasting j q

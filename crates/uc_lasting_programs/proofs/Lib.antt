@@ -12,12 +12,18 @@ pub mod Ways
 pub mod Telling
 pub mod Numbers
 pub mod Seats
+pub mod SeatHomes
 pub mod Bases
+pub mod OfOthers
+pub mod Lying
 pub mod PlacedHomes
 pub mod Presence
+pub mod OwnScopes
+pub mod PutLeads
+pub mod EnteredAgain
+pub mod HomesAway
 pub mod PresentRides
 pub mod PresentRuns
-pub mod OwnScopes
 pub mod Meeting
 pub mod Clusters
 pub mod MutexScopes
@@ -26,3 +32,4 @@ pub mod Remaining
 pub mod Owning
 pub mod Raising
 pub mod LastingPrograms
+pub mod UnderWay

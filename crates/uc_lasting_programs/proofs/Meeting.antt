@@ -1,5 +1,5 @@
 -- What each step of a run finds by numbers of what is not gone, and by all that have been made.
-use Rattle.std.proofs.Common.{◌≡◌, ℕ, zero, suc, ◌<◌, Bool, false, [], ◌∷◌, List, ◌++◌, sym, subst}
+use Rattle.std.proofs.Common.{◌≡◌, ℕ, zero, suc, ◌<◌, ◌⊎◌, inl, inr, Bool, false, [], ◌∷◌, List, ◌++◌, refl, sym, subst, arith}
 use Rattle.std.proofs.lemmas.Bool.{ltb-true}
 use Rattle.uc_tree.specs.Programs.{Program}
 use Rattle.uc_tree.specs.Source.{Source}
@@ -14,6 +14,8 @@ use Rattle.uc_acts.specs.KernelRuns.{InRange}
 use Rattle.uc_acts.specs.Serves.{left}
 use Rattle.uc_acts.proofs.Bounds.{over_limit}
 use Rattle.uc_machine.specs.declared.exec.Exec.{Exec}
+use Rattle.uc_machine.specs.declared.exec.Home.{Home}
+use Rattle.uc_machine.specs.declared.exec.Home.TheVariants as dwelling
 use Rattle.uc_machine.specs.Pieces.{Value}
 use Rattle.uc_machine.specs.Quiet.{State}
 use Rattle.uc_machine.specs.Rides as rides
@@ -28,13 +30,15 @@ use Rattle.uc_sound.specs.Tables.{table_of}
 use Rattle.uc_state_laws.specs.Fitting.{RunFits}
 use Rattle.uc_state_laws.specs.Limits.{IsWithinLimits}
 use Rattle.uc_state_laws.specs.RoomRuns as rooms
-use Rattle.uc_state_laws.specs.RoomRuns.{Leads}
+use Rattle.uc_state_laws.specs.RoomRuns.{Leads, Comes}
 use Rattle.uc_state_laws.specs.Endings.{still_reading, RideHolds, RunHolds}
 use Rattle.uc_state_laws.specs.Opens.{RideMeets, RunMeets, LeadsMeet}
 use Rattle.uc_typing.specs.Typing.{Ty, Table}
+use Rattle.uc_inner_laws.specs.Standing.{IsHere}
 use Rattle.uc_letting_laws.specs.AloneRuns.{RunAlone}
 use Rattle.uc_life_laws.specs.Things.{Few, Base}
-use Rattle.uc_life_laws.specs.Knowing.{KnowsState}
+use Rattle.uc_life_laws.specs.Knowing.{KnowsState, main_of}
+use Rattle.uc_life_laws.specs.Belonging.{Belongs}
 use Rattle.uc_life_laws.specs.Homes.{home_of}
 use Rattle.uc_life_laws.specs.Rooted.{IsPlace}
 use Rattle.uc_life_laws.specs.Lives.{Lives, LivesState}
@@ -49,7 +53,12 @@ use Rattle.uc_life_laws.proofs.Endings.{goes_on, ticks_on, goes_met, ticks_met}
 use Rattle.uc_life_laws.proofs.Lasting.{law_lasting}
 use Rattle.uc_request_laws.specs.Lasting.{TellsMade}
 use Rattle.uc_cell_laws.specs.OwnCells.{owns_of}
-use Rattle.uc_homed_ends.specs.HomesLeft.{KnowsReads}
+use Rattle.uc_homed_ends.specs.HomesLeft.{KnowsReads, Told}
+use Rattle.uc_homed_ends.proofs.BoundRuns.{leads_zip, ride_zip}
+use Rattle.uc_homed_ends.proofs.EndHomes.{ride_with}
+use Rattle.uc_putting_laws.specs.PuttingLaws.{setting_of}
+use Rattle.uc_putting_laws.proofs.LoneObjects.{law_lone_objects}
+use Rattle.uc_putting_laws.proofs.Routines.{law_calling}
 use Rattle.uc_building_laws.specs.Building.{heads_of}
 use Rattle.uc_building_laws.specs.BuildingStates.{Built, BuiltState}
 use Rattle.uc_building_laws.specs.BuiltEndings.{BuiltOutside}
@@ -60,13 +69,18 @@ use Rattle.uc_building_laws.proofs.Worlds.{lives}
 use Rattle.uc_lasting_programs.specs.Meeting.{RunHoldsAt}
 use Rattle.uc_lasting_programs.proofs.OwnScopes.{Owned, leads_led, owned_on}
 use Rattle.uc_lasting_programs.specs.Telling.{few_of}
+use Rattle.uc_lasting_programs.proofs.Bases.{BareOnWayBy, BareOnWay}
+use Rattle.uc_lasting_programs.proofs.EnteredAgain.{clear}
+use Rattle.uc_lasting_programs.proofs.HomesAway.{number_at, homes_away}
+use Rattle.uc_lasting_programs.proofs.PutLeads.{leads_less, leads_turned, Seen, run_fair, put_on, lets_on}
+use Rattle.uc_lasting_programs.proofs.SeatHomes.{IsForeign}
 use Rattle.uc_making_laws.specs.ForgetsThis.{RunGoes}
 use Rattle.uc_making_laws.specs.LettingGo.{LetsState, LetsAsked}
 use Rattle.uc_making_laws.specs.Nobodys.{IsNobodys}
 use Rattle.uc_lasting_programs.proofs.Numbers.{passes, knows_all, meets}
 use Rattle.uc_lasting_programs.proofs.PlacedHomes.{homes_placed}
 use Rattle.uc_lasting_programs.proofs.Presence.{there}
-use Rattle.uc_lasting_programs.proofs.PresentRides.{IsPresent, EntersClear, Began, Once, led, rode, ended}
+use Rattle.uc_lasting_programs.proofs.PresentRides.{IsPresent, EntersClear, Stood, Began, own_made, made_home, Once, led, rode, cleared, ended}
 use Rattle.uc_lasting_programs.proofs.PresentRuns.{PresentWorld, present_begun, present_given, present_acted, began}
 
 -- what passes the test of a run has been made
@@ -108,11 +122,11 @@ module _ (t : Table) (few : Few) (source : Source) where
 
 -- two things that hold along a ride, one of them by how many states are left
 module _ (Q : ℕ → State → Type 0) (C : State → Type 0) (source : Source) where
-  with_clear : {s u : State} {q k : ℕ} {a : Asked} (n : ℕ) (r : Rides source s q u k a) → RideHolds Q source n s q u k a r → RideMeets C source s q u k a r → RideHolds (λ n s. C s × Q n s) source n s q u k a r
-  with_clear n rides.slices h c = tt
-  with_clear n (rides.goes_on {s} e r) h c = ((c.0, h.0), with_clear (still_reading n s.run.control) r h.1 c.1)
-  with_clear n (rides.ticks {s} e r) h c = ((c.0, h.0), with_clear (still_reading n s.run.control) r h.1 c.1)
-  with_clear n (rides.asks {s} e) h c = (c, h)
+  with_cond : {s u : State} {q k : ℕ} {a : Asked} (n : ℕ) (r : Rides source s q u k a) → RideHolds Q source n s q u k a r → RideMeets C source s q u k a r → RideHolds (λ n s. C s × Q n s) source n s q u k a r
+  with_cond n rides.slices h c = tt
+  with_cond n (rides.goes_on {s} e r) h c = ((c.0, h.0), with_cond (still_reading n s.run.control) r h.1 c.1)
+  with_cond n (rides.ticks {s} e r) h c = ((c.0, h.0), with_cond (still_reading n s.run.control) r h.1 c.1)
+  with_cond n (rides.asks {s} e) h c = (c, h)
 
 module _ (p : Program) (formed : IsFormed p) (ok : breaks_of p ≡ []) (numbers : Ty → ℕ → Bool) (home : ℕ → Value) (base : Exec → Value → Ty → Bool) where
   abbrev pub few : Few
@@ -131,19 +145,22 @@ module _ (p : Program) (formed : IsFormed p) (ok : breaks_of p ≡ []) (numbers 
     -- and what is in scope holds what is not gone
     pub lives : RunMeetsAt (λ i s. LivesState t (lasting few i) s) source input opts j w r
     -- so do objects that are built
-    pub built : RunMeetsAt (λ i s. FindsBuilt t (heads_of p) (lasting few i) source s) source input opts j w r
+    pub built : RunMeetsAt (λ i s. FindsBuilt p (lasting few i) s) source input opts j w r
+    -- and what was entered again to be destroyed was not at hand
+    pub clear : RunMeets (EntersClear p few) source input opts j w r
 
   -- one act less
   before : (input : List ℕ) (opts : Options) {j : Journal} {w : World} {a : List Entry} {v : World} (r : Runs source input opts j w) (on : is_over j ≡ false) (m : May source opts input j w a v) → HasMet input opts (j ++ a) v (more r on m) → HasMet input opts j w r
-  before input opts r on m so = record { all = so.all.0; lasts = so.lasts.0; lives = so.lives.0; built = so.built.0 }
+  before input opts r on m so = record { all = so.all.0; lasts = so.lasts.0; lives = so.lives.0; built = so.built.0; clear = so.clear.0 }
 
   -- nobody has at hand what has gone, nothing else is owed to what was let go of, and no activation is of that; and what was made is at home where the run
   -- tells it
-  pub record Shown (input : List ℕ) (opts : Options) (j : Journal) (w : World) (r : Runs source input opts j w) : Type 0 where
+  pub record Shown (many : ℕ) (input : List ℕ) (opts : Options) (j : Journal) (w : World) (r : Runs source input opts j w) : Type 0 where
     pub forgets : RunForgets t few source input opts j w r
     pub alone : RunAlone source input opts j w r
     pub nobodys : RunGoes IsNobodys source input opts r
     pub homes : (o : ℕ) → o < object_count j → home o ≡ home_of source input opts j w r o
+    pub told : RunMeets (Told p few many) source input opts j w r
 
   -- own mutex objects are at home where scopes open
   abbrev OwnsHome : State → Type 0
@@ -153,7 +170,7 @@ module _ (p : Program) (formed : IsFormed p) (ok : breaks_of p ≡ []) (numbers 
   abbrev pub BuiltHere : Journal → ℕ → State → Type 0
   BuiltHere i n v = IsPresent few.home i v → OwnsHome v → BuiltOutside p (lasting few i) n v
 
-  module _ (within : IsWithinLimits p) (raws : RawsPass few) (places : (n : Exec) (w : Value) (b : Ty) → Base few n w b → IsPlace w) (main : MainPasses t few (t.routine source.main).this 0) (input : List ℕ) (opts : Options) (range : InRange opts) where
+  module _ (within : IsWithinLimits p) (raws : RawsPass few) (places : (n : Exec) (w : Value) (b : Ty) → Base few n w b → IsPlace w) (zero : (n : Exec) → Belongs few n (few.home 0) → ⊥) (main : MainPasses t few (t.routine source.main).this 0) (many : ℕ) (input : List ℕ) (opts : Options) (range : InRange opts) where
     -- all is known then in each state, so each step finds what it reads
 
     module _ (j : Journal) (w : World) (r : Runs source input opts j w) (f : RunFits source input opts j w r) (on : is_over j ≡ false) (below : PassesBelow few opts j) (met : RunMeets (Meets t few) source input opts j w r) where
@@ -173,7 +190,7 @@ module _ (p : Program) (formed : IsFormed p) (ok : breaks_of p ≡ []) (numbers 
         (run_reads r f.0 e h.0, ride_reads j w r f.0 on e h.0 q n k s asked d h.1)
 
     -- of a run in which nobody has at hand what has gone
-    module _ (j : Journal) (w : World) (r : Runs source input opts j w) (f : RunFits source input opts j w r) (on : is_over j ≡ false) (below : PassesBelow few opts j) (forgets : RunForgets t few source input opts j w r) (homes : (o : ℕ) → o < object_count j → home o ≡ home_of source input opts j w r o) (so : HasMet input opts j w r) where
+    module _ (j : Journal) (w : World) (r : Runs source input opts j w) (f : RunFits source input opts j w r) (on : is_over j ≡ false) (below : PassesBelow few opts j) (forgets : RunForgets t few source input opts j w r) (homes : (o : ℕ) → o < object_count j → home o ≡ home_of source input opts j w r o) (told : RunMeets (Told p few many) source input opts j w r) (alone : RunAlone source input opts j w r) (so : HasMet input opts j w r) where
       known : AllIsKnown t (lasting few j) source j w
       known = law_lasting p formed ok few input opts range j w r f on below main so.lasts forgets
 
@@ -181,57 +198,142 @@ module _ (p : Program) (formed : IsFormed p) (ok : breaks_of p ≡ []) (numbers 
         abbrev start : State
         start = answered source d.given (drawn j w n)
 
-        abbrev Finds_built : State → Type 0
-        Finds_built v = FindsBuilt t (heads_of p) (lasting few j) source v
+        abbrev comes : (v : State) → Leads source start v → Comes source j w n v
+        comes v l = record { given = d.given; processor = q; runs = d.runs; told = d.told; leads = l }
 
-        built_at : (v : State) (l : Leads source start v) → LeadsMeet Finds_built source start v l → BuiltState t (heads_of p) (lasting few j) [] v
-        built_at v l m = law_built_lasting p formed ok few input opts range j w r f on below main so.built forgets n v (record { given = d.given; processor = q; runs = d.runs; told = d.told; leads = l }) m
+        abbrev Finds_built : State → Type 0
+        Finds_built v = FindsBuilt p (lasting few j) v
+
+        -- what is told of homes, and what is had of others where an object is entered again to be destroyed
+        abbrev Cond : State → Type 0
+        Cond v = Told p few many v × BareOnWay t few j w n v source
+
+        abbrev Finds_all : State → Type 0
+        Finds_all v = Cond v × Finds_built v
+
+        built_at : (v : State) (l : Leads source start v) → LeadsMeet Finds_all source start v l → BuiltState t (heads_of p) (lasting few j) [] v
+        built_at v l m =
+            law_built_lasting p formed ok few input opts range j w r f on below main so.built forgets n v (comes v l) (leads_less Finds_all Finds_built source (λ s x. x.1) l m)
 
         -- by numbers of what is not gone, and by all
-        known_at : (v : State) (l : Leads source start v) → LeadsMeet Finds_built source start v l → KnowsState t (lasting few j) [] v × KnowsState t few [] v
+        known_at : (v : State) (l : Leads source start v) → LeadsMeet Finds_all source start v l → KnowsState t (lasting few j) [] v × KnowsState t few [] v
         known_at v l m =
             let x = plain t (lasting few j) (Built t (heads_of p) (lasting few j)) [] v (built_at v l m).0 in
             (x, knows_all t numbers home base j v x)
 
         -- own mutex objects are at home where the next scope opens
-        owned_at : (v : State) (l : Leads source start v) → LeadsMeet Finds_built source start v l → OwnsHome v
+        owned_at : (v : State) (l : Leads source start v) → LeadsMeet Finds_all source start v l → OwnsHome v
         owned_at v l m =
-            owned_on p formed ok within few input opts range j w r f homes (run_reads r f below so.all) on n v (record { given = d.given; processor = q; runs = d.runs; told = d.told; leads = l }) (leads_led Finds_built (λ v. KnowsState t few [] v) source start (λ v l m. (known_at v l m).1) rooms.stays tt l m)
+            owned_on p formed ok within few input opts range j w r f homes (run_reads r f below so.all) on n v (comes v l) (leads_led Finds_all (λ v. KnowsState t few [] v) source start (λ v l m. (known_at v l m).1) rooms.stays tt l m)
 
-        -- where what is entered again to be destroyed is not at hand, and the object at hand is told of
-        module _ (h : RideHolds (BuiltHere j) source 0 start (left opts j n) s k asked d.rides) (clear : RideMeets (EntersClear p few) source start (left opts j n) s k asked d.rides) (b : Began p few j start) where
-          abbrev Finds_once : State → Type 0
-          Finds_once v = Once p formed ok few places j start b Finds_built known_at OwnsHome owned_at v
+        -- all that was found on the way
 
-          ride_once : RideMeets Finds_once source start (left opts j n) s k asked d.rides
-          ride_once =
-              endings.ride_met t (lasting few j) source (λ c o h. raws c o (passes t numbers home base j c o h)) Finds_once (λ m v. EntersClear p few v × BuiltHere j m v) (λ m v x e. (x.0, λ g o. built_met p formed ok (lasting few j) m v (x.1 g o) e)) start (λ v l m. lives p formed ok (lasting few j) v (built_at v l (led p formed ok few places j start b Finds_built known_at OwnsHome owned_at rooms.stays tt b.stood l m))) rooms.stays tt 0 d.rides (with_clear (BuiltHere j) (EntersClear p few) source 0 d.rides h clear) tt
+        lasts_here : (v : State) (l : Leads source start v) → LeadsMeet Finds_all source start v l → Finds_all v → Meets t (lasting few j) v
+        lasts_here v l m h = λ x. let y = h.1 (built_at v l m) in (lives p formed ok (lasting few j) v y.0, (y.1, y.2))
 
-          pub ride_built : RideMeets Finds_built source start (left opts j n) s k asked d.rides
-          ride_built = rode p formed ok few places j start b Finds_built known_at OwnsHome owned_at rooms.stays tt b.stood d.rides ride_once
+        meets_here : (v : State) (l : Leads source start v) → LeadsMeet (Meets t (lasting few j)) source start v l → Meets t (lasting few j) v → Meets t few v
+        meets_here v l m h = meets t numbers home base j raws v (known.lives n v (comes v l) m) h
 
-          pub ride_lasts : RideMeets (Meets t (lasting few j)) source start (left opts j n) s k asked d.rides
-          ride_lasts =
-              ride_turned Finds_built (Meets t (lasting few j)) source start (λ v l m h. λ x. let y = h (built_at v l m) in (lives p formed ok (lasting few j) v y.0, (y.1, y.2))) rooms.stays tt d.rides ride_built
+        meets_on : (v : State) (l : Leads source start v) → LeadsMeet Finds_all source start v l → LeadsMeet (Meets t few) source start v l
+        meets_on v l m =
+            leads_turned (Meets t (lasting few j)) (Meets t few) source start meets_here rooms.stays tt l (leads_turned Finds_all (Meets t (lasting few j)) source start lasts_here rooms.stays tt l m)
 
-          pub ride_lives : RideMeets (LivesState t (lasting few j)) source start (left opts j n) s k asked d.rides
-          ride_lives =
-              ride_turned Finds_built (LivesState t (lasting few j)) source start (λ v l m h. lives p formed ok (lasting few j) v (built_at v l m)) rooms.stays tt d.rides ride_built
+        all : AllIsKnown t few source j w
+        all = all_known j w r f on below so.all
 
-          pub ride_all : RideMeets (Meets t few) source start (left opts j n) s k asked d.rides
-          ride_all =
-              ride_turned (Meets t (lasting few j)) (Meets t few) source start (λ v l m h. meets t numbers home base j raws v (known.lives n v (record { given = d.given; processor = q; runs = d.runs; told = d.told; leads = l }) m) h) rooms.stays tt d.rides ride_lasts
+        abbrev Told_met : State → Type 0
+        Told_met v = Told p few many v × Meets t few v
 
-        -- what goes on at the end of a ride that is met
-        ends : RideMeets (EntersClear p few) source start (left opts j n) s k asked d.rides → Began p few j start → RideMeets Finds_built source start (left opts j n) s k asked d.rides → LetsState t (there (λ o. is_gone o j)) s × LetsAsked t (there (λ o. is_gone o j)) asked.request s
-        ends clear b m = ended p formed ok few places j start b Finds_built known_at OwnsHome owned_at rooms.stays tt b.stood d.rides clear m
+        abbrev Seen_all : State → Type 0
+        Seen_all v = Seen p formed ok within few many places input opts range main j w r f on below so.all told (run_reads r f below so.all) v
+
+        seen_here : (v : State) (l : Leads source start v) → LeadsMeet Told_met source start v l → Told_met v → Seen_all v
+        seen_here v l m h =
+            let met : LeadsMeet (Meets t few) source start v l = leads_less Told_met (Meets t few) source (λ s x. x.1) l m in
+            let life : LivesState t few v = all.lives n v (comes v l) met in
+            let x = h.1 life in
+            ((h.0, (plain t few (Lives t few) [] v x.0.0, x.1.0)), (record { knows = all.comes n v (comes v l) met; life = life }, h.1))
+
+        seen_on : (v : State) (l : Leads source start v) → LeadsMeet Finds_all source start v l → LeadsMeet Seen_all source start v l
+        seen_on v l m =
+            let both : LeadsMeet Told_met source start v l = leads_zip Finds_all (Meets t few) Told_met (λ s a b. (a.0.0, b)) l m (meets_on v l m) in
+            leads_turned Told_met Seen_all source start seen_here rooms.stays tt l both
+
+        -- so what is entered again to be destroyed is not at hand
+        module _ (b : Began p few j start) where
+          -- an object that was made and is not gone is at home in what is the own of who is at home in what was made before
+          older : (o : ℕ) → (o < object_count j) × (is_gone o j ≡ false) → (m : Exec) → Belongs few m (few.home o) → number_at m.home < o
+          older o there m own = homes_away p formed ok few zero input opts range r f alone on (run_fair p formed ok within few many places input opts range main j w r f on below so.all told (run_reads r f below so.all)) homes o there.0 there.1 m own
+
+          foreign_at : (v : State) → Stood p j b.own b.news b.ks b.hs v → IsForeign few v.env.exec
+          foreign_at v h = λ o whose own.
+              let lt = older o (made_home p formed ok few places j start b v h o whose) v.env.exec own in
+              by o whose lt
+            where
+              by : (o : ℕ) → (v.env.exec.home ≡ dwelling.Object o) ⊎ (v.env.exec ≡ main_of o) → number_at v.env.exec.home < o → ⊥
+              by o (inl e) lt = let l : o < o = subst (λ (x : Home). number_at x < o) e lt in omega (arith, l)
+              by o (inr e) lt = let l : o < o = subst (λ (x : Exec). number_at x.home < o) e lt in omega (arith, l)
+
+          -- the own object, where that is entered
+          own_at : (v : State) → Stood p j b.own b.news b.ks b.hs v → Belongs few v.env.exec (few.home v.env.own) → (o : ℕ) × (v.env.exec.home ≡ dwelling.Object o) × (o < v.env.own)
+          own_at v h own = by v.env.exec.home refl
+            where
+              lt : number_at v.env.exec.home < v.env.own
+              lt = older v.env.own (own_made p formed ok few places j start b v h) v.env.exec own
+
+              by : (x : Home) → v.env.exec.home ≡ x → (o : ℕ) × (v.env.exec.home ≡ dwelling.Object o) × (o < v.env.own)
+              by (dwelling.Object o) e = (o, e, subst (λ (x : Home). number_at x < v.env.own) e lt)
+              by (dwelling.Task o) e =
+                  let same : o ≡ v.env.own = subst (IsHere v.env.own v.env.hand) e h.stands.here in
+                  let l : o < v.env.own = subst (λ (x : Home). number_at x < v.env.own) e lt in
+                  absurd (omega (arith, same, l))
+
+          clear_at : (v : State) (l : Leads source start v) → LeadsMeet Finds_all source start v l → Stood p j b.own b.news b.ks b.hs v → Cond v → EntersClear p few v
+          clear_at v l m h c = λ k x y todo e.
+              let seen = seen_on v l m in
+              let puts = put_on p formed ok within few many places input opts range main j w r f on below so.all told (run_reads r f below so.all) n d.given q d.runs d.told v l (leads_less Seen_all (λ s. Told p few many s × KnowsReads t few s) source (λ s x. x.0) l seen) in
+              let lets = lets_on p formed ok within few many places input opts range main j w r f on below so.all told (run_reads r f below so.all) n d.given q d.runs d.told v l seen in
+              clear t few source zero b.news v k h.deep lets (law_lone_objects (setting_of p few) (law_calling p formed ok) v puts.put) (foreign_at v h) (own_at v h) x y todo e j w n (subst (BareOnWayBy t few j w n v source) e c.1)
+
+          -- where the object at hand is told of
+          module _ (h : RideHolds (BuiltHere j) source 0 start (left opts j n) s k asked d.rides) (cond : RideMeets Cond source start (left opts j n) s k asked d.rides) where
+            abbrev Finds_once : State → Type 0
+            Finds_once v = Once p formed ok few places j start b Finds_all known_at OwnsHome owned_at Cond clear_at v
+
+            ride_once : RideMeets Finds_once source start (left opts j n) s k asked d.rides
+            ride_once =
+                endings.ride_met t (lasting few j) source (λ c o h. raws c o (passes t numbers home base j c o h)) Finds_once (λ m v. Cond v × BuiltHere j m v) (λ m v x e. (x.0, λ g o. (x.0, built_met p formed ok (lasting few j) m v (x.1 g o) e))) start (λ v l m. lives p formed ok (lasting few j) v (built_at v l (led p formed ok few places j start b Finds_all known_at OwnsHome owned_at Cond clear_at rooms.stays tt b.stood l m))) rooms.stays tt 0 d.rides (with_cond (BuiltHere j) Cond source 0 d.rides h cond) tt
+
+            ride_found : RideMeets Finds_all source start (left opts j n) s k asked d.rides
+            ride_found = rode p formed ok few places j start b Finds_all known_at OwnsHome owned_at Cond clear_at rooms.stays tt b.stood d.rides ride_once
+
+            pub ride_clear : RideMeets (EntersClear p few) source start (left opts j n) s k asked d.rides
+            ride_clear = cleared p formed ok few places j start b Finds_all known_at OwnsHome owned_at Cond clear_at rooms.stays tt b.stood d.rides ride_once
+
+            pub ride_built : RideMeets Finds_built source start (left opts j n) s k asked d.rides
+            ride_built = ride_with Finds_all Finds_built (λ v x. x.1) d.rides ride_found
+
+            pub ride_lasts : RideMeets (Meets t (lasting few j)) source start (left opts j n) s k asked d.rides
+            ride_lasts = ride_turned Finds_all (Meets t (lasting few j)) source start lasts_here rooms.stays tt d.rides ride_found
+
+            pub ride_lives : RideMeets (LivesState t (lasting few j)) source start (left opts j n) s k asked d.rides
+            ride_lives =
+                ride_turned Finds_all (LivesState t (lasting few j)) source start (λ v l m h. lives p formed ok (lasting few j) v (built_at v l m)) rooms.stays tt d.rides ride_found
+
+            pub ride_all : RideMeets (Meets t few) source start (left opts j n) s k asked d.rides
+            ride_all = ride_turned (Meets t (lasting few j)) (Meets t few) source start meets_here rooms.stays tt d.rides ride_lasts
+
+          -- what goes on at the end of a ride that is met
+          ends : RideMeets Cond source start (left opts j n) s k asked d.rides → RideMeets (EntersClear p few) source start (left opts j n) s k asked d.rides → RideMeets Finds_built source start (left opts j n) s k asked d.rides → LetsState t (there (λ o. is_gone o j)) s × LetsAsked t (there (λ o. is_gone o j)) asked.request s
+          ends cond clear m =
+              ended p formed ok few places j start b Finds_all known_at OwnsHome owned_at Cond clear_at rooms.stays tt b.stood d.rides clear (ride_zip Cond Finds_built Finds_all (λ v a b. (a, b)) d.rides cond m)
 
     -- what was made is at home at a place
     pub homed : (j : Journal) (w : World) (r : Runs source input opts j w) → RunFits source input opts j w r → PassesBelow few opts j → HasMet input opts j w r → ((o : ℕ) → o < object_count j → home o ≡ home_of source input opts j w r o) → (o : ℕ) → o < object_count j → IsPlace (home o)
     homed j w r f below so tells o lt = subst IsPlace (sym (tells o lt)) (homes_placed p formed ok few input opts r (run_reads r f below so.all) o)
 
     -- act by act, where what is left of runs shows of each what `Shown` says
-    module _ (Left : (j : Journal) (w : World) → Runs source input opts j w → Type 0) (shorter : (j : Journal) (w : World) (a : List Entry) (v : World) (r : Runs source input opts j w) (on : is_over j ≡ false) (m : May source opts input j w a v) → Left (j ++ a) v (more r on m) → Left j w r) (shows : (j : Journal) (w : World) (r : Runs source input opts j w) → RunFits source input opts j w r → is_over j ≡ false → PassesBelow few opts j → HasMet input opts j w r → Left j w r → Shown input opts j w r) (clears : (j : Journal) (w : World) (r : Runs source input opts j w) (on : is_over j ≡ false) (q n k : ℕ) (s : State) (asked : Asked) (d : AsksIn source opts j w q n k s asked) → Left (j ++ act opts source.sites input j q n k asked) (world_after source (act opts source.sites input j q n k asked) w n s) (more r on (acts q n k s asked d)) → RideMeets (EntersClear p few) source (answered source d.given (drawn j w n)) (left opts j n) s k asked d.rides) where
+    module _ (Left : (j : Journal) (w : World) → Runs source input opts j w → Type 0) (shorter : (j : Journal) (w : World) (a : List Entry) (v : World) (r : Runs source input opts j w) (on : is_over j ≡ false) (m : May source opts input j w a v) → Left (j ++ a) v (more r on m) → Left j w r) (shows : (j : Journal) (w : World) (r : Runs source input opts j w) → RunFits source input opts j w r → is_over j ≡ false → PassesBelow few opts j → HasMet input opts j w r → Left j w r → Shown many input opts j w r) (conds : (j : Journal) (w : World) (r : Runs source input opts j w) (on : is_over j ≡ false) (q n k : ℕ) (s : State) (asked : Asked) (d : AsksIn source opts j w q n k s asked) → Left (j ++ act opts source.sites input j q n k asked) (world_after source (act opts source.sites input j q n k asked) w n s) (more r on (acts q n k s asked d)) → RideMeets (λ v. Told p few many v × BareOnWay t few j w n v source) source (answered source d.given (drawn j w n)) (left opts j n) s k asked d.rides) where
       -- each activation that does more than to come to its end is of an object that has not gone
       pub run_present : {j : Journal} {w : World} (r : Runs source input opts j w) → RunFits source input opts j w r → is_over j ≡ false → PassesBelow few opts j → HasMet input opts j w r → Left j w r → PresentWorld t j w
       run_present begun f on below so x = present_begun t source input opts
@@ -246,27 +348,28 @@ module _ (p : Program) (formed : IsFormed p) (ok : breaks_of p ≡ []) (numbers 
           let had = run_present r f.0 o e so_far l in
           let g = shows j w r f.0 o e so_far l in
           let b = began p formed ok input opts range j w r f.0 o g.alone had few (homed j w r f.0 e so_far g.homes) q n k s asked d in
-          let y = ends j w r f.0 o e g.forgets g.homes so_far q n k s asked d (clears j w r o q n k s asked d x) b so.built.1 in
+          let y = ends j w r f.0 o e g.forgets g.homes g.told g.alone so_far q n k s asked d b (conds j w r o q n k s asked d x) so.clear.1 so.built.1 in
           present_acted t source input opts j w q n k s asked d on had y.0 y.1 (shows (j ++ a) v (more r o (acts q n k s asked d)) f on below so x).nobodys.1
 
       pub run_met : {j : Journal} {w : World} (r : Runs source input opts j w) → RunFits source input opts j w r → PassesBelow few opts j → RunHoldsAt BuiltHere source input opts j w r → Left j w r → HasMet input opts j w r
-      run_met begun f below h x = record { all = tt; lasts = tt; lives = tt; built = tt }
+      run_met begun f below h x = record { all = tt; lasts = tt; lives = tt; built = tt; clear = tt }
       run_met (more {j} {w} {a} {w' = v} r on (gives q n s le)) f below h x =
           let so = run_met r f.0 (earlier few opts j a below) h.0 (shorter j w a v r on (gives q n s le) x) in
-          record { all = (so.all, tt); lasts = (so.lasts, tt); lives = (so.lives, tt); built = (so.built, tt) }
+          record { all = (so.all, tt); lasts = (so.lasts, tt); lives = (so.lives, tt); built = (so.built, tt); clear = (so.clear, tt) }
       run_met (more {j} {w} {a} {w' = v} r on (no_room q n s le)) f below h x =
           let so = run_met r f.0 (earlier few opts j a below) h.0 (shorter j w a v r on (no_room q n s le) x) in
-          record { all = (so.all, tt); lasts = (so.lasts, tt); lives = (so.lives, tt); built = (so.built, tt) }
+          record { all = (so.all, tt); lasts = (so.lasts, tt); lives = (so.lives, tt); built = (so.built, tt); clear = (so.clear, tt) }
       run_met (more {j} {w} {a} {w' = v} r on (acts q n k s asked d)) f below h x =
           let l = shorter j w a v r on (acts q n k s asked d) x in
           let e = earlier few opts j a below in
           let so = run_met r f.0 e h.0 l in
           let g = shows j w r f.0 on e so l in
-          let c = clears j w r on q n k s asked d x in
+          let c = conds j w r on q n k s asked d x in
           let b = began p formed ok input opts range j w r f.0 on g.alone (run_present r f.0 on e so l) few (homed j w r f.0 e so g.homes) q n k s asked d in
           record {
-            all = (so.all, ride_all j w r f.0 on e g.forgets g.homes so q n k s asked d h.1 c b);
-            lasts = (so.lasts, ride_lasts j w r f.0 on e g.forgets g.homes so q n k s asked d h.1 c b);
-            lives = (so.lives, ride_lives j w r f.0 on e g.forgets g.homes so q n k s asked d h.1 c b);
-            built = (so.built, ride_built j w r f.0 on e g.forgets g.homes so q n k s asked d h.1 c b);
+            all = (so.all, ride_all j w r f.0 on e g.forgets g.homes g.told g.alone so q n k s asked d b h.1 c);
+            lasts = (so.lasts, ride_lasts j w r f.0 on e g.forgets g.homes g.told g.alone so q n k s asked d b h.1 c);
+            lives = (so.lives, ride_lives j w r f.0 on e g.forgets g.homes g.told g.alone so q n k s asked d b h.1 c);
+            built = (so.built, ride_built j w r f.0 on e g.forgets g.homes g.told g.alone so q n k s asked d b h.1 c);
+            clear = (so.clear, ride_clear j w r f.0 on e g.forgets g.homes g.told g.alone so q n k s asked d b h.1 c);
           }

@@ -7,11 +7,13 @@ use Rattle.uc_machine.specs.declared.exec.Owner.{Owner}
 use Rattle.uc_machine.specs.Pieces.{Link, At, Value, Number, Place, Running, Object, Nothing, nought, address, further}
 use Rattle.uc_typing.specs.Typing.{Ty, Cell, Obj, Row, Table, element_shape}
 use Rattle.uc_typing.specs.States.{IsNumbered, IsObjectBy}
-use Rattle.uc_life_laws.specs.Things.{Few, IsMutex, Within, itself, field, element, Stands, lies, inside, Holds, IsFew, LiesIn, Known}
+use Rattle.uc_life_laws.specs.Things.{Few, Base, IsMutex, Within, itself, field, element, Stands, lies, inside, Holds, IsFew, LiesIn, Known}
 use Rattle.uc_life_laws.specs.HomedStates.{Owns, Inside, all_of_it, own_element, HoldsHome}
 use Rattle.uc_homed_ends.specs.Elements.{no_fields}
 use Rattle.uc_cell_laws.proofs.CellPlaces.{inside_within}
+use Rattle.uc_lasting_programs.specs.OfOthers.{IsOfOthers}
 use Rattle.uc_lasting_programs.specs.Remaining.{IsOne, HoldsLeft}
+use Rattle.uc_lasting_programs.proofs.OfOthers.{HasOthers, known_of_others}
 
 cell_of : (b c : Ty) → Cell b ≡ Cell c → b ≡ c
 cell_of b c e = cc
@@ -107,8 +109,9 @@ module _ (t : Table) where
         let z = h p b x.1 x.0 in
         at_home b (slice_index_or vs (address p) nought) (Place o p) x.0 (lies k i) z.0 z.1 (same z.0 ∙ z.2) (f p b i)
 
-    -- and so does each binding within a thing that holds what is left, where own mutex objects are at home in what the thing lies in
-    module _ (owns : Owns) (o : Owner) (vs : List Value) (u : Value) (c : Ty) (k : K u c) (homed : (x : List Link) (d : ℕ) → t.mutex d ≡ true → Inside t owns u c (Place o x) (Cell (Obj d)) → (q : ℕ) → slice_index_or vs (address x) nought ≡ Object q → few.home q ≡ Place o x) where
+    -- and so does each binding within a thing that holds what is left, where own mutex objects are at home in what the thing lies in, and what is
+    -- another's is told
+    module _ (had : HasOthers few) (more : (v : Value) (b : Ty) → Base few n v b → K v b) (owns : Owns) (o : Owner) (vs : List Value) (u : Value) (c : Ty) (k : K u c) (homed : (x : List Link) (d : ℕ) → t.mutex d ≡ true → Inside t owns u c (Place o x) (Cell (Obj d)) → (q : ℕ) → slice_index_or vs (address x) nought ≡ Object q → few.home q ≡ Place o x) where
       own : (b : Ty) (p : List Link) → IsMutex t b → Inside t owns u c (Place o p) (Cell b) → IsOne t owns few n K o vs b (slice_index_or vs (address p) nought) → Known t few n K b (slice_index_or vs (address p) nought)
       own (Obj d) p m i one =
           let q = numbered (slice_index_or vs (address p) nought) one.0 in
@@ -118,6 +121,7 @@ module _ (t : Table) where
       pub left_holds : (w : Value) (a : Ty) → HoldsLeft t owns few n K o vs u c w a → Holds t few n K o vs w a
       left_holds w a h p b i y = by (h p b i y)
         where
-          by : Known t few n K b (slice_index_or vs (address p) nought) ⊎ (IsMutex t b × Inside t owns u c (Place o p) (Cell b) × IsOne t owns few n K o vs b (slice_index_or vs (address p) nought)) → Known t few n K b (slice_index_or vs (address p) nought)
-          by (inl z) = z
-          by (inr z) = own b p z.0 z.1 z.2
+          by : IsOfOthers t n b (slice_index_or vs (address p) nought) ⊎ (Known t few n K b (slice_index_or vs (address p) nought) ⊎ (IsMutex t b × Inside t owns u c (Place o p) (Cell b) × IsOne t owns few n K o vs b (slice_index_or vs (address p) nought))) → Known t few n K b (slice_index_or vs (address p) nought)
+          by (inl z) = known_of_others t few had n K more b (slice_index_or vs (address p) nought) z
+          by (inr (inl z)) = z
+          by (inr (inr z)) = own b p z.0 z.1 z.2

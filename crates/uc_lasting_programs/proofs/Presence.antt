@@ -100,7 +100,7 @@ module _ (t : Table) (gone : ℕ → Bool) where
   -- the object of the activation that runs
   module _ (s : State) (lets : LetsState t (there gone) s) (first : gone 0 ≡ false) (marked : (n : ℕ) (a : Active) → slice_get (s.run ∷ s.callers) n ≡ Some a → 0 < marks a.control → gone (object_in a.this) ≡ false) where
     told_present : (o : ℕ) → IsTold t (there gone) s.env.exec s.callers o → gone o ≡ false
-    told_present o (inl e) = ap gone e ∙ first
+    told_present o (inl e) = ap gone e.0 ∙ first
     told_present o (inr (inl k)) = stands_there s.env.exec s.callers (Cell (Obj k.0)) (Object o) k.1 o refl
     told_present o (inr (inr l)) = owed_there s.callers (λ n a e. marked (suc n) a e) o l
 
@@ -121,11 +121,11 @@ module _ (t : Table) (gone : ℕ → Bool) where
     this_told n Nothing e busy = tt
 
     spawned_told : (v : Value) → s.run.this ≡ v → (AllSilent s.run.control → ⊥) → IsTold t (there gone) (main_of (object_in v)) [] (object_in v)
-    spawned_told (Number z) e busy = inl refl
-    spawned_told (Place o p) e busy = inl refl
-    spawned_told (Running x) e busy = inl refl
+    spawned_told (Number z) e busy = inl (refl, refl)
+    spawned_told (Place o p) e busy = inl (refl, refl)
+    spawned_told (Running x) e busy = inl (refl, refl)
     spawned_told (Object o) e busy = told_there (main_of o) [] o (this_present o e busy)
-    spawned_told Nothing e busy = inl refl
+    spawned_told Nothing e busy = inl (refl, refl)
 
 -- code in which what lets go of an object stands in routines alone, as a whole
 
@@ -135,7 +135,7 @@ module _ (source : Source) where
   no_object (src.Frees r) h = let e : true ≡ false = h in absurd (cc)
   no_object c h = refl
 
-  closed : (ss : Stmts) → EnteredStmts source ss → IsClosed ss
+  pub closed : (ss : Stmts) → EnteredStmts source ss → IsClosed ss
   closed (src.Scoped c rest) h = no_object c h.0
   closed ss h = refl
 

@@ -1,7 +1,7 @@
 -- Along a ride activations go on to be told of objects that have not gone, as the task is as deep in objects as it owes them; as far as each step that enters
 -- an object again to be destroyed finds its own execution clear of that.
-use Rattle.std.proofs.Common.{◌≡◌, ℕ, ◌<◌, inl, inr, suc, ◌||◌, Bool, true, false, List, [], ◌∷◌, Some, refl, sym, ap, ◌∙◌, subst, arith}
-use Rattle.std.specs.Prelude.{if◌then◌else◌, nat_eq}
+use Rattle.std.proofs.Common.{◌≡◌, ℕ, ◌<◌, ◌⊎◌, inl, inr, suc, ◌||◌, Bool, true, false, List, [], ◌∷◌, Option, Some, None, refl, sym, ap, ◌∙◌, subst, arith}
+use Rattle.std.specs.Prelude.{if◌then◌else◌, is_some, nat_eq}
 use Rattle.uc_tree.specs.Programs.{Program}
 use Rattle.uc_entry.specs.Keyed.{find}
 use Rattle.uc_entry.specs.declared.request.Asked.{Asked}
@@ -38,13 +38,13 @@ use Rattle.uc_depth_laws.specs.Owing.{Tests, marks, AloneAt, Alone, Deep, DeepSt
 use Rattle.uc_depth_laws.proofs.Answers.{law_steps}
 use Rattle.uc_depth_laws.proofs.Standing.{law_inside}
 use Rattle.uc_inner_laws.specs.Inner.{InnerSource}
-use Rattle.uc_inner_laws.specs.Standing.{StandsState, StandsStep}
+use Rattle.uc_inner_laws.specs.Standing.{IsHere, StandsState, StandsStep}
 use Rattle.uc_inner_laws.proofs.Walk.{law_steps as inner_steps, law_fair}
 use Rattle.uc_letting_laws.proofs.Hands.{found_some}
 use Rattle.uc_letting_laws.proofs.LettingWorlds.{sole, tells as tells_others}
 use Rattle.uc_life_laws.specs.Things.{Few, Base}
 use Rattle.uc_life_laws.specs.Silent.{AllSilent}
-use Rattle.uc_life_laws.specs.Knowing.{KnowsState}
+use Rattle.uc_life_laws.specs.Knowing.{KnowsState, main_of}
 use Rattle.uc_life_laws.specs.Lasting.{lasting}
 use Rattle.uc_life_laws.specs.Rooted.{IsPlace}
 use Rattle.uc_life_laws.proofs.Aparts.{law_apart}
@@ -87,7 +87,7 @@ pub record Began (p : Program) (few : Few) (j : Journal) (start : State) : Type 
   pub away : (h : Home) (k : Aspect) (q : ℕ) → news h k q ≡ true → h ≡ home.Object q → ⊥
   pub ks : List ℕ
   pub hs : List ℕ
-  pub made : (o : ℕ) → has hs o ≡ true → o < object_count j
+  pub made : (o : ℕ) → has hs o ≡ true → (o < object_count j) × (is_gone o j ≡ false)
   pub held : (o : ℕ) → has ks o ≡ true → (o < object_count j) × (is_gone o j ≡ false)
   pub homed : (o : ℕ) → o < object_count j → IsPlace (few.home o)
   pub first : is_gone 0 j ≡ false
@@ -160,8 +160,23 @@ module _ (p : Program) (formed : IsFormed p) (ok : breaks_of p ≡ []) (few : Fe
           let one : 0 < marks s.run.control = subst (λ l. 0 < marks l) (sym e) (omega (arith)) in
           b.homed (this_object s) (made s h (this_object s) (law_inside.marked (source_of p) b.news s h.deep 0 s.run refl one)).0;
       in_hand = λ o m e.
-          b.homed o (b.made o (ap (λ l. has l o) (sym (settled_keys b.hs s h.settled)) ∙ hand_some o m s.env.hand e));
+          b.homed o (b.made o (ap (λ l. has l o) (sym (settled_keys b.hs s h.settled)) ∙ hand_some o m s.env.hand e)).0;
     }
+
+    -- so is the own object
+    pub own_made : (s : State) → Here s → (s.env.own < object_count j) × (is_gone s.env.own j ≡ false)
+    own_made s h = made s h s.env.own (law_inside.own (source_of p) b.news s h.deep)
+
+    -- so is that at which who runs is at home, and that of which it is the main
+    pub made_home : (s : State) → Here s → (o : ℕ) → (s.env.exec.home ≡ home.Object o) ⊎ (s.env.exec ≡ main_of o) → (o < object_count j) × (is_gone o j ≡ false)
+    made_home s h o (inl e) = by (find o s.env.hand) refl (subst (IsHere s.env.own s.env.hand) e h.stands.here)
+      where
+        by : (x : Option Members) → find o s.env.hand ≡ x → is_some x ≡ true → (o < object_count j) × (is_gone o j ≡ false)
+        by None f i = let z : false ≡ true = i in absurd (cc)
+        by (Some m) f i = b.made o (ap (λ l. has l o) (sym (settled_keys b.hs s h.settled)) ∙ hand_some o m s.env.hand f)
+    made_home s h o (inr e) =
+        let here : o ≡ s.env.own = subst (IsHere s.env.own s.env.hand) (ap (λ (n : Exec). n.home) e) h.stands.here in
+        subst (λ (i : ℕ). (i < object_count j) × (is_gone i j ≡ false)) (sym here) (own_made s h)
 
     lets_on : (s : State) → KnowsState (table_of p) (lasting few j) [] s → Here s → LetsStep (table_of p) (there (λ o. is_gone o j)) (quiet (source_of p) s)
     lets_on s k h =
@@ -197,33 +212,48 @@ module _ (p : Program) (formed : IsFormed p) (ok : breaks_of p ≡ []) (few : Fe
         }
 
     -- along the way, where all is known in each state before which steps found what they were to find
-    module _ (G : State → Type 0) (known : (s : State) (l : Leads (source_of p) start s) → LeadsMeet G (source_of p) start s l → KnowsState (table_of p) (lasting few j) [] s × KnowsState (table_of p) few [] s) (Also : State → Type 0) (also : (s : State) (l : Leads (source_of p) start s) → LeadsMeet G (source_of p) start s l → Also s) where
-      -- a step finds that where the object at hand is present, and where else what follows from all that was found holds
+    module _ (G : State → Type 0) (known : (s : State) (l : Leads (source_of p) start s) → LeadsMeet G (source_of p) start s l → KnowsState (table_of p) (lasting few j) [] s × KnowsState (table_of p) few [] s) (Also : State → Type 0) (also : (s : State) (l : Leads (source_of p) start s) → LeadsMeet G (source_of p) start s l → Also s) (Cond : State → Type 0) (clear : (s : State) (l : Leads (source_of p) start s) → LeadsMeet G (source_of p) start s l → Here s → Cond s → EntersClear p few s) where
+      -- a step finds that where the object at hand is present, and where else what follows from all that was found holds; and from this it follows that what
+      -- is entered again is not at hand
       abbrev pub Once : State → Type 0
-      Once s = EntersClear p few s × (IsPresent few.home j s → Also s → G s)
+      Once s = Cond s × (IsPresent few.home j s → Also s → G s)
 
       pub led : {s u : State} (m : Leads (source_of p) start s) → LeadsMeet G (source_of p) start s m → Here s → (l : Leads (source_of p) s u) → LeadsMeet Once (source_of p) s u l → LeadsMeet G (source_of p) s u l
       led m g h way.stays f = tt
       led {s} m g h (way.goes {u = v} e l) f =
           let here : G s = f.0.1 (present_at s h) (also s m g) in
           let k = known s m g in
-          (here, led (endings.goes_on G (source_of p) m e) (endings.goes_met G (source_of p) m e g here) (goes s v k.0 k.1 f.0.0 h e) l f.1)
+          (here, led (endings.goes_on G (source_of p) m e) (endings.goes_met G (source_of p) m e g here) (goes s v k.0 k.1 (clear s m g h f.0.0) h e) l f.1)
       led {s} m g h (way.ticks {u = v} e l) f =
           let here : G s = f.0.1 (present_at s h) (also s m g) in
           let k = known s m g in
-          (here, led (endings.ticks_on G (source_of p) m e) (endings.ticks_met G (source_of p) m e g here) (ticked s v k.0 k.1 f.0.0 h e) l f.1)
+          (here, led (endings.ticks_on G (source_of p) m e) (endings.ticks_met G (source_of p) m e g here) (ticked s v k.0 k.1 (clear s m g h f.0.0) h e) l f.1)
 
       pub rode : {s u : State} {q k : ℕ} {a : Asked} (m : Leads (source_of p) start s) → LeadsMeet G (source_of p) start s m → Here s → (r : Rides (source_of p) s q u k a) → RideMeets Once (source_of p) s q u k a r → RideMeets G (source_of p) s q u k a r
       rode m g h slices f = tt
       rode m g h (goes_on {s} {t = v} e r) f =
           let here : G s = f.0.1 (present_at s h) (also s m g) in
           let k = known s m g in
-          (here, rode (endings.goes_on G (source_of p) m e) (endings.goes_met G (source_of p) m e g here) (goes s v k.0 k.1 f.0.0 h e) r f.1)
+          (here, rode (endings.goes_on G (source_of p) m e) (endings.goes_met G (source_of p) m e g here) (goes s v k.0 k.1 (clear s m g h f.0.0) h e) r f.1)
       rode m g h (ticks {s} {t = v} e r) f =
           let here : G s = f.0.1 (present_at s h) (also s m g) in
           let k = known s m g in
-          (here, rode (endings.ticks_on G (source_of p) m e) (endings.ticks_met G (source_of p) m e g here) (ticked s v k.0 k.1 f.0.0 h e) r f.1)
+          (here, rode (endings.ticks_on G (source_of p) m e) (endings.ticks_met G (source_of p) m e g here) (ticked s v k.0 k.1 (clear s m g h f.0.0) h e) r f.1)
       rode m g h (asks {s} e) f = f.1 (present_at s h) (also s m g)
+
+      pub cleared : {s u : State} {q k : ℕ} {a : Asked} (m : Leads (source_of p) start s) → LeadsMeet G (source_of p) start s m → Here s → (r : Rides (source_of p) s q u k a) → RideMeets Once (source_of p) s q u k a r → RideMeets (EntersClear p few) (source_of p) s q u k a r
+      cleared m g h slices f = tt
+      cleared m g h (goes_on {s} {t = v} e r) f =
+          let here : G s = f.0.1 (present_at s h) (also s m g) in
+          let k = known s m g in
+          let c = clear s m g h f.0.0 in
+          (c, cleared (endings.goes_on G (source_of p) m e) (endings.goes_met G (source_of p) m e g here) (goes s v k.0 k.1 c h e) r f.1)
+      cleared m g h (ticks {s} {t = v} e r) f =
+          let here : G s = f.0.1 (present_at s h) (also s m g) in
+          let k = known s m g in
+          let c = clear s m g h f.0.0 in
+          (c, cleared (endings.ticks_on G (source_of p) m e) (endings.ticks_met G (source_of p) m e g here) (ticked s v k.0 k.1 c h e) r f.1)
+      cleared m g h (asks {s} e) f = clear s m g h f.0
 
       -- and at its end
       pub ended : {s u : State} {q k : ℕ} {a : Asked} (m : Leads (source_of p) start s) → LeadsMeet G (source_of p) start s m → Here s → (r : Rides (source_of p) s q u k a) → RideMeets (EntersClear p few) (source_of p) s q u k a r → RideMeets G (source_of p) s q u k a r → LetsState (table_of p) (there (λ o. is_gone o j)) u × LetsAsked (table_of p) (there (λ o. is_gone o j)) a.request u

@@ -235,7 +235,7 @@ module _ (t : Table) (source : Source) (input : List ℕ) (opts : Options) where
   present_begun = record {
     first = gone_still 0 [] (begin opts) refl ∙ nothing_gone 0;
     told = record {
-      tasks = λ u on. law_letting.begins t (there (λ o. is_gone o (begin opts ∷ []))) source source.main 0 (inl refl);
+      tasks = λ u on. law_letting.begins t (there (λ o. is_gone o (begin opts ∷ []))) source source.main 0 (inl (refl, refl));
       homes = λ o. either (LetsMembers t (there (λ o. is_gone o (begin opts ∷ []))) (home.Object o)) (o == 0) (Some no_members) None tt tt;
     };
   }
@@ -325,7 +325,7 @@ module _ (p : Program) (formed : IsFormed p) (ok : breaks_of p ≡ []) (input : 
         ks = deep_in (answered (source_of p) d.given (drawn j w u));
         hs = e.hand;
         made = λ o h.
-            (made o (deep_in_hand (source_of p) input opts range rests on deeps q u k s asked d o ∙ (ap (λ l. has l o) (ride_keys (source_of p) e.hand d.rides e.settled) ∙ h))).0;
+            made o (deep_in_hand (source_of p) input opts range rests on deeps q u k s asked d o ∙ (ap (λ l. has l o) (ride_keys (source_of p) e.hand d.rides e.settled) ∙ h));
         held = made;
         homed = homed;
         first = x.first;

@@ -1,7 +1,7 @@
 -- An event is raised at an object that is at home in what is the own of who raises it, or in what that has of others.
-use Rattle.std.proofs.Common.{◌≡◌, ℕ, inl, inr, List, [], ◌∷◌, refl, sym, subst, ⊎_elim}
+use Rattle.std.proofs.Common.{◌≡◌, ℕ, ◌⊎◌, inl, inr, false, List, [], ◌∷◌, refl, sym, subst, ⊎_elim}
 use Rattle.uc_tree.specs.Source as src
-use Rattle.uc_tree.specs.Source.{CleanUp}
+use Rattle.uc_tree.specs.Source.{CleanUp, Source}
 use Rattle.uc_machine.specs.declared.exec.Exec.{Exec}
 use Rattle.uc_machine.specs.declared.exec.Owner.TheVariants.{Frame}
 use Rattle.uc_machine.specs.Pieces as piece
@@ -18,6 +18,12 @@ use Rattle.uc_apart_laws.specs.Clear.{IsNoHome}
 use Rattle.uc_tasked_laws.specs.Aims.{IsAimed}
 use Rattle.uc_tasked_laws.proofs.Aiming.{law_aimed}
 use Rattle.uc_making_laws.specs.OwnThis.{ThisStack}
+use Rattle.uc_life_laws.specs.Held.{AreLines}
+use Rattle.uc_rooted_runs.specs.MainRuns.{EndsMains}
+use Rattle.uc_putting_laws.specs.ObjectsAtHand.{lets_go, IsBuilt}
+use Rattle.uc_making_laws.specs.NoOthers.{NoThis}
+use Rattle.uc_making_laws.specs.Builders.{Lets}
+use Rattle.uc_making_laws.specs.BuilderRuns.{FinishesBy, Finishes, Nears, NearState}
 use Rattle.uc_making_laws.proofs.NoOthers.{law_no_others}
 
 -- what marks are for is their execution's own: a variable of it, or a field of what is; so is what stands in that
@@ -102,3 +108,33 @@ module _ (t : Table) (few : Few) (places : (n : Exec) (w : Value) (b : Ty) → B
 
   pub not_raised : (todo : List Todo) → s.run.control ≡ RaiseAtNow ∷ todo → top s.run.operands ≡ Object o → ⊥
   not_raised todo control at = let a = law_aimed t few s known todo control o at in not_aimed a.0 a.2
+
+-- what is under way is that of an activation of who made it
+module _ (source : Source) (o : ℕ) (m : Exec) (s : State) (near : NearState source o m s) (none : NoThis o (s.run ∷ s.callers)) where
+  is_of : (cs : List Active) → IsBuilt cs o → NoThis o cs → ⊥
+  is_of [] b h = b
+  is_of (a ∷ cs) (inl b) h = h.0 b.0
+  is_of (a ∷ cs) (inr b) h = is_of cs b h.1
+
+  pub not_under_way : (todo : List Todo) → s.run.control ≡ RaiseAtNow ∷ todo → s.env.exec ≡ m → ⊥
+  not_under_way todo control e = by (near.stack e)
+    where
+      by : (IsBuilt s.callers o ⊎ ((s.run.this ≡ Object o) × Lets s.run.control)) ⊎ Nears source o m s.run.control s.run.operands → ⊥
+      by (inl (inl b)) = is_of s.callers b none.1
+      by (inl (inr b)) = none.0 b.0
+      by (inr n) = subst (λ l. Nears source o m l s.run.operands) control n
+
+-- at the end of a main nothing is left that lets go of an object
+
+lines_none : (todo : List Todo) → AreLines todo → lets_go todo ≡ false
+lines_none [] h = refl
+lines_none (piece.Within line ∷ todo) h = lines_none todo h
+lines_none (p ∷ todo) h = absurd h
+
+pub finishes : (source : Source) (s : State) → EndsMains source s → Finishes s
+finishes source s h = by s.run.control refl
+  where
+    by : (l : List Todo) → s.run.control ≡ l → FinishesBy l
+    by (piece.Finish ∷ todo) e = lines_none todo (h.finish todo e)
+    by [] e = tt
+    by (p ∷ todo) e = tt

@@ -22,7 +22,7 @@ use Rattle.uc_machine.specs.Executions.{members_at, others}
 use Rattle.uc_machine.specs.Switches.{new_exec}
 use Rattle.uc_machine.specs.Monitors.{this_object}
 use Rattle.uc_machine.specs.Pieces as piece
-use Rattle.uc_machine.specs.Pieces.{Slot, FieldAt, Value, Number, Place, Running, Object, Nothing, Todo, State, Members, Goes, at, further, top, variable_at}
+use Rattle.uc_machine.specs.Pieces.{Slot, FieldAt, Value, Number, Place, Running, Object, Nothing, Todo, Active, State, Members, Goes, at, further, loaded, top, variable_at}
 use Rattle.uc_machine.specs.Quiet.{quiet, act_todo, home_at}
 use Rattle.uc_typing.specs.Pieces.{Ok}
 use Rattle.uc_machine.specs.Answering.{answered}
@@ -44,23 +44,31 @@ use Rattle.uc_state_laws.specs.Endings.{still_reading, RideHolds}
 use Rattle.uc_place_laws.proofs.OpenRuns.{law_opens, law_there}
 use Rattle.uc_place_laws.specs.OpeningLaws.{IsCalled}
 use Rattle.uc_place_laws.proofs.OpeningRuns.{law_runs as called}
+use Rattle.uc_place_laws.specs.Sparing.{Sparing}
+use Rattle.uc_place_laws.specs.Addresses.{AreAddressed}
+use Rattle.uc_place_laws.proofs.SparingRuns.{law_sparing}
+use Rattle.uc_place_laws.proofs.Addresses.{law_addresses}
 use Rattle.uc_building_laws.specs.Building.{heads_of}
 use Rattle.uc_building_laws.specs.BuildingStates.{Built, BuiltState}
 use Rattle.uc_building_laws.specs.BuiltEndings.{BuiltOutside}
 use Rattle.uc_building_laws.specs.BuiltReads.{reads_bound}
+use Rattle.uc_building_laws.specs.ScopedReads.{in_own, in_others}
 use Rattle.uc_building_laws.proofs.Building.{whole_built, where_bound}
 use Rattle.uc_building_laws.proofs.BuiltReads.{law_built_reads}
 use Rattle.uc_building_laws.proofs.Constructors.{fair}
 use Rattle.uc_building_laws.proofs.Kept.{law_kept}
+use Rattle.uc_building_laws.proofs.ScopedReads.{others_are, law_scoped_reads}
+use Rattle.uc_lasting_programs.proofs.Lying.{base_things, lying_known, seen_known}
 use Rattle.uc_typing.specs.Typing.{Ty, Num, Cell, Obj, Raw, Row, Clu, Name, Sig, Table, CleansAt, object_ty}
-use Rattle.uc_life_laws.specs.Things.{Few, Base, itself, lies, inside, IsField, Holds, IsFew, LiesIn, Known}
+use Rattle.uc_typing.specs.States.{Is}
+use Rattle.uc_life_laws.specs.Things.{Few, Base, itself, lies, inside, IsField, IsBinding, Holds, IsFew, LiesIn, Known}
 use Rattle.uc_life_laws.specs.HomedStates.{OpensAt, Opens}
 use Rattle.uc_life_laws.specs.LifeStates.{Outwards, frame_at, OpensAtBy}
 use Rattle.uc_life_laws.specs.Lives.{OutwardsOrMade}
 use Rattle.uc_life_laws.specs.Lasting.{lasting}
 use Rattle.uc_life_laws.specs.Silent.{AllSilent}
 use Rattle.uc_life_laws.specs.KnownRuns.{PassesBelow}
-use Rattle.uc_life_laws.specs.Knowing.{AtHand, KnownThis, HasObject, ReadsKnown, IsStill, main_of, FindsObject, FindsExpr, Finds}
+use Rattle.uc_life_laws.specs.Knowing.{AtHand, Here, KnownThis, HasObject, ReadsKnown, IsStill, main_of, FindsObject, FindsExpr, Finds}
 use Rattle.uc_life_laws.specs.Endings.{RawsPass}
 use Rattle.uc_life_laws.specs.Rooted.{IsPlace}
 use Rattle.uc_life_laws.proofs.Endings.{goes_on, ticks_on}
@@ -70,7 +78,8 @@ use Rattle.uc_life_laws.proofs.OpenedRuns.{good_counted}
 use Rattle.uc_cell_laws.specs.OwnCells.{owns_of}
 use Rattle.uc_homed_ends.specs.Elements.{no_fields}
 use Rattle.uc_lasting_programs.specs.Meeting.{RunHoldsAt}
-use Rattle.uc_lasting_programs.specs.Remaining.{ReadsLeft, ObjectLeft, ExprLeft, FindsLeft, IsNumberCells, OpensLeftAt, LeftOutside}
+use Rattle.uc_lasting_programs.specs.Remaining.{BoundLeft, ReadsLeft, ObjectLeft, ExprLeft, FindsLeft, IsNumberCells, OpensLeftAt, LeftOutside}
+use Rattle.uc_lasting_programs.proofs.OfOthers.{HasOthers}
 use Rattle.uc_lasting_programs.proofs.Clusters.{is_cluster, cluster_holds}
 use Rattle.uc_lasting_programs.proofs.MutexScopes.{mutex_holds, left_holds}
 use Rattle.uc_lasting_programs.proofs.OwnScopes.{IsKind, OwnedAt, OwnedBy, Owned}
@@ -99,7 +108,12 @@ whole_few t few n K g o v w h c e =
 abbrev IsThere : (t : Table) (few : Few) (s : State) → Type 0
 IsThere t few s = (c : ℕ) → IsFew t few s.env.exec (Raw c) s.run.this → IsFew t few s.env.exec (Obj c) s.run.this
 
-module _ (t : Table) (few : Few) (raws : RawsPass few) (gs : List Sig) (g : Sig) (sc : List Name) (s : State) (this : KnownThis t few s.env.exec (AtHand t few s.env.exec (others gs) s.callers) g g.this s.run.this) (there : (AllSilent s.run.control → ⊥) → IsThere t few s) where
+-- what is read in variables in scope is known
+record IsScoped (t : Table) (few : Few) (gs : List Sig) (s : State) : Type 0 where
+  own : (a : Ty) (v : Value) → in_own t s a v ≡ true → Known t few s.env.exec (Here t few gs s) a (loaded v s.env)
+  others : (a : Ty) (v : Value) → in_others t s a v ≡ true → IsBinding a × (Is t a (loaded v s.env) × IsFew t few s.env.exec a (loaded v s.env))
+
+module _ (t : Table) (few : Few) (raws : RawsPass few) (gs : List Sig) (g : Sig) (sc : List Name) (s : State) (this : KnownThis t few s.env.exec (AtHand t few s.env.exec (others gs) s.callers) g g.this s.run.this) (there : (AllSilent s.run.control → ⊥) → IsThere t few s) (had : HasOthers few) (scoped : IsScoped t few gs s) where
   still : (AllSilent s.run.control → ⊥) → IsStill t few gs g sc s
   still busy = by g.whole refl
     where
@@ -108,10 +122,21 @@ module _ (t : Table) (few : Few) (raws : RawsPass few) (gs : List Sig) (g : Sig)
       by false w = λ c e.
           ((λ f. whole_few t few s.env.exec (AtHand t few s.env.exec (others gs) s.callers) g g.this s.run.this w this c e), (λ f. raw_few t few raws s.env.exec c s.run.this f))
 
+  -- what is known where it is read
+  all_read : (a : Ty) (v : Value) → Known t few s.env.exec (Here t few gs s) a (loaded v s.env) → ReadsKnown t few gs s a v
+  all_read a v h = record { untracked = λ r z. h; seated = λ r l. h; foreign = λ o. h; field = λ w b o i. h; making = λ w c k i. h }
+
+  bound : (a : Ty) (v : Value) (o : Bool) → in_own t s a v ≡ o → (u : Bool) → in_others t s a v ≡ u → BoundLeft t few gs g sc s o u a v → ReadsKnown t few gs s a v
+  bound a v true e u f h = all_read a v (scoped.own a v e)
+  bound a v false e true f h =
+      let o = scoped.others a v f in
+      all_read a v (lying_known t few had gs g s this a (loaded v s.env) o.0 o.1 h)
+  bound a v false e false f h = ⊎_elim (λ k. k) (λ o. all_read a v (seen_known t few had gs g s this a (loaded v s.env) o)) h
+
   reads : (a : Ty) (v : Value) → ReadsLeft t few gs g sc s a v → ReadsKnown t few gs s a v
-  reads Num v h = record { untracked = λ r z. tt; seated = λ r l. tt; foreign = λ o. tt; field = λ w b o i. tt; making = λ w c k i. tt }
-  reads (Raw c) v h = record { untracked = λ r z. h; seated = λ r l. h; foreign = λ o. h; field = λ w b o i. h; making = λ w d k i. h }
-  reads a v h = h
+  reads Num v h = all_read Num v tt
+  reads (Raw c) v h = all_read (Raw c) v h
+  reads a v h = bound a v (in_own t s a v) refl (in_others t s a v) refl h
 
   object : (AllSilent s.run.control → ⊥) → (o : ObjectExpr) (a : Ty) → ObjectLeft t few gs g sc s o a → FindsObject t few gs g sc s o a
   object busy src.This a h = still busy
@@ -134,7 +159,7 @@ module _ (t : Table) (few : Few) (raws : RawsPass few) (gs : List Sig) (g : Sig)
   -- a new execution has its object, which stands there, or is at home there
   seat_lies : (n : Exec) (c : ℕ) → g.this ≡ Some c → (v : Value) → s.run.this ≡ v → HasSeat t few.home (Base few) n c v → ((o : ℕ) → v ≡ Object o → IsPlace (few.home o)) → LiesIn t few n (Base few n) (Obj c) s.run.this
   seat_lies n c i (Number z) e h f = subst (LiesIn t few n (Base few n) (Obj c)) (sym e) tt
-  seat_lies n c i (Place o p) e h f = subst (LiesIn t few n (Base few n) (Obj c)) (sym e) (inl (lies h itself))
+  seat_lies n c i (Place o p) e h f = subst (LiesIn t few n (Base few n) (Obj c)) (sym e) (inr (Place o p, c, h, itself))
   seat_lies n c i (Running x) e h f = subst (LiesIn t few n (Base few n) (Obj c)) (sym e) tt
   seat_lies n c i (Object o) e h f =
       subst (LiesIn t few n (Base few n) (Obj c)) (sym e) (inl (inside (this_mutex c o i e) (lies (h (f o refl)) itself) itself))
@@ -165,15 +190,15 @@ module _ (p : Program) (formed : IsFormed p) (ok : breaks_of p ≡ []) (within :
   t = table_of p
 
   -- what constructors have bound is known where they read it
-  finds_there : (few : Few) → RawsPass few → (s : State) (x : BuiltState t (heads_of p) few [] s) → ((AllSilent s.run.control → ⊥) → IsThere t few s) → Seats t few.home (Base few) s → ((r : ℕ) (todo : List Todo) → s.run.control ≡ piece.SpawnNow r ∷ todo → IsPlace (few.home (this_object s))) → ((o : ℕ) (m : Members) → find o s.env.hand ≡ Some m → IsPlace (few.home o)) → (reads_bound t (heads_of p) x.0.run.sig s ≡ false → FindsLeft t few x.0.sigs x.0.run.sig x.0.run.scope s s.run.control x.0.run.own) → Finds t few x.0.sigs x.0.run.sig x.0.run.scope s s.run.control x.0.run.own
-  finds_there few raws s x there seats placed homed h = by (reads_bound t (heads_of p) x.0.run.sig s) refl
+  finds_there : (few : Few) → RawsPass few → (s : State) (x : BuiltState t (heads_of p) few [] s) → ((AllSilent s.run.control → ⊥) → IsThere t few s) → HasOthers few → Seats t few.home (Base few) s → ((r : ℕ) (todo : List Todo) → s.run.control ≡ piece.SpawnNow r ∷ todo → IsPlace (few.home (this_object s))) → ((o : ℕ) (m : Members) → find o s.env.hand ≡ Some m → IsPlace (few.home o)) → (reads_bound t (heads_of p) x.0.run.sig s ≡ false → FindsLeft t few x.0.sigs x.0.run.sig x.0.run.scope s s.run.control x.0.run.own) → Finds t few x.0.sigs x.0.run.sig x.0.run.scope s s.run.control x.0.run.own
+  finds_there few raws s x there had seats placed homed h = by (reads_bound t (heads_of p) x.0.run.sig s) refl
     where
       by : (b : Bool) → reads_bound t (heads_of p) x.0.run.sig s ≡ b → Finds t few x.0.sigs x.0.run.sig x.0.run.scope s s.run.control x.0.run.own
       by true e = law_built_reads p formed ok few s x e
-      by false e = finds t few raws x.0.sigs x.0.run.sig x.0.run.scope s x.0.run.this there s.run.control refl x.0.run.own x.0.run.base x.0.run.ok seats placed homed (h e)
+      by false e = finds t few raws x.0.sigs x.0.run.sig x.0.run.scope s x.0.run.this there had (record { own = law_scoped_reads.own t (heads_of p) few s x; others = others_are t (heads_of p) few s x }) s.run.control refl x.0.run.own x.0.run.base x.0.run.ok seats placed homed (h e)
 
   -- who runs in a journal, told its answer
-  module _ (few : Few) (raws : RawsPass few) (j : Journal) (wholes : (c o : ℕ) → is_gone o j ≡ false → few.numbers (Raw c) o ≡ true → few.numbers (Obj c) o ≡ true) (w : World) (r : Runs source input opts j w) (f : RunFits source input opts j w r) (on : is_over j ≡ false) (clusters : (n : ℕ) → n < cluster_count j → few.numbers Clu n ≡ true) (homes : Few) (same : (o : ℕ) → few.home o ≡ homes.home o) (u processor : ℕ) (given : Answer) (runs_on : running processor j ≡ u ∷ []) (told : answer_to source.sites u j ≡ Some given) where
+  module _ (few : Few) (raws : RawsPass few) (j : Journal) (wholes : (c o : ℕ) → is_gone o j ≡ false → few.numbers (Raw c) o ≡ true → few.numbers (Obj c) o ≡ true) (w : World) (r : Runs source input opts j w) (f : RunFits source input opts j w r) (on : is_over j ≡ false) (clusters : (n : ℕ) → n < cluster_count j → few.numbers Clu n ≡ true) (homes : Few) (same : (o : ℕ) → few.home o ≡ homes.home o) (u processor : ℕ) (given : Answer) (runs_on : running processor j ≡ u ∷ []) (told : answer_to source.sites u j ≡ Some given) (had : HasOthers few) where
     abbrev start : State
     start = answered source given (drawn j w u)
 
@@ -206,6 +231,10 @@ module _ (p : Program) (formed : IsFormed p) (ok : breaks_of p ≡ []) (within :
       abbrev Holds_at : CleanUp → List Todo → ℕ → Ty → Type 0
       Holds_at c todo k a = Holds t few s.env.exec (Behind c todo) (Frame s.env.exec s.run.frame) (frame_at s.run.frame s.env.frames) (Place (Frame s.env.exec s.run.frame) (Slot k ∷ [])) a
 
+      -- what is told of others is known
+      others_behind : (c : CleanUp) (todo : List Todo) (v : Value) (b : Ty) → Base few s.env.exec v b → Behind c todo v b
+      others_behind c todo v b h = inl (inr (inl (base_things t few s.env.exec s.callers v b h)))
+
       -- what a scope is of is known
       there_is : (c : CleanUp) (todo : List Todo) (k : ℕ) (a : Ty) → CleansAt t a (src.Variable k) c → Behind c todo (variable_at k s) a
       there_is c todo k a y = inl (inl (inl (inl (k, y, refl))))
@@ -220,11 +249,11 @@ module _ (p : Program) (formed : IsFormed p) (ok : breaks_of p ≡ []) (within :
             each : (m : ℕ) → IsField t i m → (b : Bool) → heads_of p i m ≡ b → Holds t few s.env.exec (Behind c todo) (Frame s.env.exec s.run.frame) here (further (FieldAt (t.shape i) m) (variable_at k s)) (t.fields i m)
             each m f true q = law_kept.opens t (heads_of p) few s x c rest todo e k i d m f q
             each m f false q =
-                where_bound t few s.env.exec (Behind c todo) (Frame s.env.exec s.run.frame) here (further (FieldAt (t.shape i) m) (variable_at k s)) (t.fields i m) (λ bound. left_holds t few s.env.exec (Behind c todo) (owns_of p) (Frame s.env.exec s.run.frame) here (variable_at k s) (Obj i) (there_is c todo k (Obj i) d) (own.objects k i d) (further (FieldAt (t.shape i) m) (variable_at k s)) (t.fields i m) (h.1 k i d m f q bound))
+                where_bound t few s.env.exec (Behind c todo) (Frame s.env.exec s.run.frame) here (further (FieldAt (t.shape i) m) (variable_at k s)) (t.fields i m) (λ bound. left_holds t few s.env.exec (Behind c todo) had (others_behind c todo) (owns_of p) (Frame s.env.exec s.run.frame) here (variable_at k s) (Obj i) (there_is c todo k (Obj i) d) (own.objects k i d) (further (FieldAt (t.shape i) m) (variable_at k s)) (t.fields i m) (h.1 k i d m f q bound))
 
         array_holds : (k m i : ℕ) → CleansAt t (Row m (Obj i)) (src.Variable k) c → Holds_at c todo k (Row m (Obj i))
         array_holds k m i d =
-            where_bound t few s.env.exec (Behind c todo) (Frame s.env.exec s.run.frame) here (variable_at k s) (Row m (Obj i)) (λ bound. left_holds t few s.env.exec (Behind c todo) (owns_of p) (Frame s.env.exec s.run.frame) here (variable_at k s) (Row m (Obj i)) (there_is c todo k (Row m (Obj i)) d) (own.arrays k m i d) (variable_at k s) (Row m (Obj i)) (h.0 k m i d bound))
+            where_bound t few s.env.exec (Behind c todo) (Frame s.env.exec s.run.frame) here (variable_at k s) (Row m (Obj i)) (λ bound. left_holds t few s.env.exec (Behind c todo) had (others_behind c todo) (owns_of p) (Frame s.env.exec s.run.frame) here (variable_at k s) (Row m (Obj i)) (there_is c todo k (Row m (Obj i)) d) (own.arrays k m i d) (variable_at k s) (Row m (Obj i)) (h.0 k m i d bound))
 
         -- a mutex object holds what is at home there, and so does each element of an array of such; a processor, and what elements are of clusters and processors, is
         -- there behind that step
@@ -253,11 +282,18 @@ module _ (p : Program) (formed : IsFormed p) (ok : breaks_of p ≡ []) (within :
     calls : (s : State) → Leads source start s → IsCalled p source s
     calls s l = called.comes p formed ok input opts range j w r f on u s (comes s l)
 
+    -- what is bound leaves objects alone that are still to be built, and all cells have addresses
+    spares : (s : State) → Leads source start s → Sparing p s
+    spares s l = law_sparing.comes p formed ok input opts range j w r f on u s (comes s l)
+
+    addressed : (s : State) → Leads source start s → AreAddressed s
+    addressed s l = law_addresses.comes p within input opts j w r u s (comes s l)
+
     meets : (n : ℕ) (s : State) → Leads source start s → Opened s → LeftOutside t (owns_of p) (heads_of p) few n s → Seats t few.home (Base few) s → Present s → Owned t (owns_of p) few.home s → BuiltOutside p few n s
     meets zero s l o h seats there own = λ x.
         let z = h.finds x in
-        (z.0, finds_there few raws s z.0 (whole s there) seats there.placed there.in_hand z.1.0, opens s z.0 l o own s.run.control refl z.1.1, fair p formed ok few s (plain t few (Built t (heads_of p) few) [] s z.0.0) h.anew (calls s l))
-    meets (suc n) s l o h seats there own = calls s l
+        (z.0, finds_there few raws s z.0 (whole s there) had seats there.placed there.in_hand z.1.0, opens s z.0 l o own s.run.control refl z.1.1, fair p formed ok few s (plain t few (Built t (heads_of p) few) [] s z.0.0) (addressed s l) (spares s l) (calls s l))
+    meets (suc n) s l o h seats there own = (calls s l, addressed s l)
 
     ride_on : {s v : State} {q k : ℕ} {a : Asked} → Leads source start s → (n : ℕ) (d : Rides source s q v k a) → RideMeets Opened source s q v k a d → RideHolds (LeftOutside t (owns_of p) (heads_of p) few) source n s q v k a d → RideMeets (Seats t few.home (Base few)) source s q v k a d → RideHolds (λ n s. Present s → Owned t (owns_of p) few.home s → BuiltOutside p few n s) source n s q v k a d
     ride_on l n rides.slices o h i = tt
@@ -265,17 +301,17 @@ module _ (p : Program) (formed : IsFormed p) (ok : breaks_of p ≡ []) (within :
     ride_on l n (rides.ticks {s} e d) o h i = (meets n s l o.0 h.0 i.0, ride_on (ticks_on (λ v. Unit {0}) source l e) (still_reading n s.run.control) d o.1 h.1 i.1)
     ride_on l n (rides.asks {s} e) o h i = meets n s l o h i
 
-  pub ride_remains : (few : Few) → RawsPass few → (j : Journal) → ((c o : ℕ) → is_gone o j ≡ false → few.numbers (Raw c) o ≡ true → few.numbers (Obj c) o ≡ true) → (w : World) (r : Runs source input opts j w) → RunFits source input opts j w r → is_over j ≡ false → ((n : ℕ) → n < cluster_count j → few.numbers Clu n ≡ true) → (homes : Few) → ((o : ℕ) → few.home o ≡ homes.home o) → (q u k : ℕ) (s : State) (asked : Asked) (d : AsksIn source opts j w q u k s asked) → RideMeets (Opens t no_fields homes) source (answered source d.given (drawn j w u)) (left opts j u) s k asked d.rides → RideHolds (LeftOutside t (owns_of p) (heads_of p) few) source 0 (answered source d.given (drawn j w u)) (left opts j u) s k asked d.rides → RideMeets (Seats t few.home (Base few)) source (answered source d.given (drawn j w u)) (left opts j u) s k asked d.rides → RideHolds (λ n s. IsPresent few.home j s → Owned t (owns_of p) few.home s → BuiltOutside p few n s) source 0 (answered source d.given (drawn j w u)) (left opts j u) s k asked d.rides
-  ride_remains few raws j wholes w r f on clusters homes same q u k s asked d o h i = ride_on few raws j wholes w r f on clusters homes same u q d.given d.runs d.told rooms.stays 0 d.rides o h i
+  pub ride_remains : (few : Few) → RawsPass few → HasOthers few → (j : Journal) → ((c o : ℕ) → is_gone o j ≡ false → few.numbers (Raw c) o ≡ true → few.numbers (Obj c) o ≡ true) → (w : World) (r : Runs source input opts j w) → RunFits source input opts j w r → is_over j ≡ false → ((n : ℕ) → n < cluster_count j → few.numbers Clu n ≡ true) → (homes : Few) → ((o : ℕ) → few.home o ≡ homes.home o) → (q u k : ℕ) (s : State) (asked : Asked) (d : AsksIn source opts j w q u k s asked) → RideMeets (Opens t no_fields homes) source (answered source d.given (drawn j w u)) (left opts j u) s k asked d.rides → RideHolds (LeftOutside t (owns_of p) (heads_of p) few) source 0 (answered source d.given (drawn j w u)) (left opts j u) s k asked d.rides → RideMeets (Seats t few.home (Base few)) source (answered source d.given (drawn j w u)) (left opts j u) s k asked d.rides → RideHolds (λ n s. IsPresent few.home j s → Owned t (owns_of p) few.home s → BuiltOutside p few n s) source 0 (answered source d.given (drawn j w u)) (left opts j u) s k asked d.rides
+  ride_remains few raws had j wholes w r f on clusters homes same q u k s asked d o h i = ride_on few raws j wholes w r f on clusters homes same u q d.given d.runs d.told had rooms.stays 0 d.rides o h i
 
   -- what is not gone has its number still
   pub last_whole : (few : Few) → ((c o : ℕ) → few.numbers (Raw c) o ≡ true → few.numbers (Obj c) o ≡ true) → (i : Journal) (c o : ℕ) → is_gone o i ≡ false → (lasting few i).numbers (Raw c) o ≡ true → (lasting few i).numbers (Obj c) o ≡ true
   last_whole few whole i c o g h = subst (λ b. (if b then false else few.numbers (Obj c) o) ≡ true) (sym g) (whole c o h)
 
-  pub run_remains : (few : Few) → ((i : Journal) → RawsPass (lasting few i)) → ((c o : ℕ) → few.numbers (Raw c) o ≡ true → few.numbers (Obj c) o ≡ true) → {j : Journal} {w : World} (r : Runs source input opts j w) → RunFits source input opts j w r → PassesBelow few opts j → RunMeets (Opens t no_fields few) source input opts j w r → RunHoldsAt (λ i. LeftOutside t (owns_of p) (heads_of p) (lasting few i)) source input opts j w r → RunMeets (Seats t few.home (Base few)) source input opts j w r → RunHoldsAt (λ i n s. IsPresent few.home i s → Owned t (owns_of p) few.home s → BuiltOutside p (lasting few i) n s) source input opts j w r
-  run_remains few raws whole begun f below o h i = tt
-  run_remains few raws whole (more {j} {w} {a} r on (gives q n s le)) f below o h i = (run_remains few raws whole r f.0 (earlier few opts j a below) o.0 h.0 i.0, tt)
-  run_remains few raws whole (more {j} {w} {a} r on (no_room q n s le)) f below o h i = (run_remains few raws whole r f.0 (earlier few opts j a below) o.0 h.0 i.0, tt)
-  run_remains few raws whole (more {j} {w} {a} r on (acts q n k s asked d)) f below o h i =
+  pub run_remains : (few : Few) → ((i : Journal) → RawsPass (lasting few i)) → HasOthers few → ((c o : ℕ) → few.numbers (Raw c) o ≡ true → few.numbers (Obj c) o ≡ true) → {j : Journal} {w : World} (r : Runs source input opts j w) → RunFits source input opts j w r → PassesBelow few opts j → RunMeets (Opens t no_fields few) source input opts j w r → RunHoldsAt (λ i. LeftOutside t (owns_of p) (heads_of p) (lasting few i)) source input opts j w r → RunMeets (Seats t few.home (Base few)) source input opts j w r → RunHoldsAt (λ i n s. IsPresent few.home i s → Owned t (owns_of p) few.home s → BuiltOutside p (lasting few i) n s) source input opts j w r
+  run_remains few raws had whole begun f below o h i = tt
+  run_remains few raws had whole (more {j} {w} {a} r on (gives q n s le)) f below o h i = (run_remains few raws had whole r f.0 (earlier few opts j a below) o.0 h.0 i.0, tt)
+  run_remains few raws had whole (more {j} {w} {a} r on (no_room q n s le)) f below o h i = (run_remains few raws had whole r f.0 (earlier few opts j a below) o.0 h.0 i.0, tt)
+  run_remains few raws had whole (more {j} {w} {a} r on (acts q n k s asked d)) f below o h i =
       let before = earlier few opts j a below in
-      (run_remains few raws whole r f.0 before o.0 h.0 i.0, ride_remains (lasting few j) (raws j) j (last_whole few whole j) w r f.0 on before.clusters few (λ z. refl) q n k s asked d o.1 h.1 i.1)
+      (run_remains few raws had whole r f.0 before o.0 h.0 i.0, ride_remains (lasting few j) (raws j) had j (last_whole few whole j) w r f.0 on before.clusters few (λ z. refl) q n k s asked d o.1 h.1 i.1)

@@ -19,7 +19,7 @@ use Rattle.uc_machine.specs.Rides.{Rides, slices, goes_on, ticks, asks}
 use Rattle.uc_meaning.specs.Runs.{World, Runs, gives, no_room, acts, begun, more}
 use Rattle.uc_name_laws.proofs.Homes.{exec_self}
 use Rattle.uc_state_laws.specs.Opens.{RideMeets, RunMeets}
-use Rattle.uc_typing.specs.Typing.{Ty, Cell, Obj, Table}
+use Rattle.uc_typing.specs.Typing.{Ty, Cell, Obj, Raw, Table}
 use Rattle.uc_life_laws.specs.Knowing.{main_of}
 use Rattle.uc_life_laws.specs.Rooted.{IsPlace}
 use Rattle.uc_lasting_programs.specs.Seats.{same_shape, same_link, same_path, same_owner, is_place, is_seat, of_class, seat_by, ride_seats, run_seats}
@@ -69,10 +69,10 @@ place_self Nothing h = absurd h
 
 -- `B`: what is at hand of others, by execution
 module _ (t : Table) (homes : ℕ → Value) (B : Exec → Value → Ty → Type 0) where
-  -- an execution has an object of this class at hand, a mutex object where that is at home at a place
+  -- an execution has an object of this class at hand, as one that is not whole, and a mutex object where that is at home at a place
   abbrev pub HasSeat : Exec → ℕ → Value → Type 0
   HasSeat n c (Number z) = Unit {0}
-  HasSeat n c (Place o p) = B n (Place o p) (Obj c)
+  HasSeat n c (Place o p) = B n (Place o p) (Raw c)
   HasSeat n c (Running x) = Unit {0}
   HasSeat n c (Object o) = IsPlace (homes o) → B n (homes o) (Cell (Obj c))
   HasSeat n c Nothing = Unit {0}
@@ -92,7 +92,7 @@ module _ (t : Table) (homes : ℕ → Value) (B : Exec → Value → Ty → Type
   seat_has : (n : Exec) (x : Option ℕ) (c : ℕ) → x ≡ Some c → (v : Value) → ((w : Value) (a : Ty) → IsPlace w → of_class x (λ d. is_seat homes d v w a) ≡ true → B n w a) → HasSeat n c v
   seat_has n x c e (Number z) f = tt
   seat_has n x c e (Place o p) f =
-      f (Place o p) (Obj c) tt (class_self x (λ d. is_seat homes d (Place o p) (Place o p) (Obj c)) c e (both_true (nat_eq c c) (is_place (Place o p) (Place o p)) (eq-eqb c c refl) (place_self (Place o p) tt)))
+      f (Place o p) (Raw c) tt (class_self x (λ d. is_seat homes d (Place o p) (Place o p) (Raw c)) c e (both_true (nat_eq c c) (is_place (Place o p) (Place o p)) (eq-eqb c c refl) (place_self (Place o p) tt)))
   seat_has n x c e (Running m) f = tt
   seat_has n x c e (Object o) f = λ h.
       f (homes o) (Cell (Obj c)) h (class_self x (λ d. is_seat homes d (Object o) (homes o) (Cell (Obj c))) c e (both_true (nat_eq c c) (is_place (homes o) (homes o)) (eq-eqb c c refl) (place_self (homes o) h)))

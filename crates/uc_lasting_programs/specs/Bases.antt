@@ -1,6 +1,6 @@
 -- What executions have of others as a run tells it: each its seat, and each place around which nothing goes, is given up, is built or is entered to be destroyed
 -- as long as it lives; and what is left to show of ways where that is told, of seats alone.
-use Rattle.std.specs.Prelude.{◌≡◌, ℕ, zero, suc, ◌+◌, ◌&&◌, ◌||◌, Bool, true, false, not, List, [], ◌∷◌, Option, Some, None, nat_lt}
+use Rattle.std.specs.Prelude.{◌≡◌, ℕ, zero, suc, ◌<◌, ◌+◌, ◌&&◌, ◌||◌, Bool, true, false, not, List, [], ◌∷◌, Option, Some, None, nat_lt}
 use Rattle.uc_tree.specs.Programs.{Program}
 use Rattle.uc_tree.specs.Source.{Source}
 use Rattle.uc_entry.specs.declared.entry.Options.{Options}
@@ -11,28 +11,31 @@ use Rattle.uc_acts.specs.Known.{has_ended, is_gone, object_count, owner, task_co
 use Rattle.uc_machine.specs.declared.exec.Exec.{Exec}
 use Rattle.uc_machine.specs.declared.exec.Home.{Home}
 use Rattle.uc_machine.specs.declared.exec.Home.TheVariants.{Task, Object}
-use Rattle.uc_machine.specs.declared.exec.Owner.TheVariants.{Fields}
+use Rattle.uc_machine.specs.declared.exec.Owner.TheVariants.{Frame, Fields}
 use Rattle.uc_machine.specs.declared.exec.Stage.{Stage}
 use Rattle.uc_machine.specs.declared.exec.Stage.TheVariants.{Fresh, Started, Ended}
 use Rattle.uc_machine.specs.Executions.{exec_eq}
 use Rattle.uc_machine.specs.Monitors.{this_object}
 use Rattle.uc_machine.specs.Switches.{without}
 use Rattle.uc_machine.specs.Pieces as piece
-use Rattle.uc_machine.specs.Pieces.{Link, Value, Place, Todo, EnterNow, MadeNow, SpawnNow, GoneNow, GiveUpNow, RaiseAtNow, State, Env, Members, object_in, top}
+use Rattle.uc_machine.specs.Pieces.{Link, Value, Place, Todo, EnterNow, MadeNow, SpawnNow, GoneNow, GiveUpNow, RaiseAtNow, Active, State, Env, Members, object_in, top}
 use Rattle.uc_machine.specs.Rides.{Rides, slices, goes_on, ticks, asks}
 use Rattle.uc_meaning.specs.Runs.{World, May, Runs, AsksIn, gives, no_room, acts, begun, more}
 use Rattle.uc_resolve.specs.Resolve.{source_of}
-use Rattle.uc_typing.specs.Typing.{Ty, Table}
+use Rattle.uc_typing.specs.Typing.{Ty, Num, Cell, Obj, Raw, Row, Clu, Pro, Table}
 use Rattle.uc_depth_laws.specs.Entering.{is_ending}
 use Rattle.uc_depth_laws.specs.Owing.{Ex, entering, is_again}
 use Rattle.uc_life_laws.specs.Homes.{home_of}
-use Rattle.uc_life_laws.specs.Knowing.{KnowsState, main_of}
+use Rattle.uc_life_laws.specs.Knowing.{main_of}
 use Rattle.uc_life_laws.specs.KnownRuns.{made_by}
-use Rattle.uc_life_laws.specs.Things.{Few, Things, or_raw}
+use Rattle.uc_life_laws.specs.Things.{Few, Base, or_raw}
+use Rattle.uc_life_laws.specs.Belonging.{Belongs}
+use Rattle.uc_life_laws.specs.LifeStates.{EnvBy}
+use Rattle.uc_life_laws.specs.Rooted.{Lives}
+use Rattle.uc_apart_laws.specs.Clear.{IsNoHome}
 use Rattle.uc_apart_laws.specs.Before.{world_at}
-use Rattle.uc_apart_laws.specs.Clear.{NotMaking, IsNoHome}
-use Rattle.uc_making_laws.specs.BeforeRides.{HaveNoHome, LiveElsewhere, IsLone, ElsewhereOnWayBy}
-use Rattle.uc_lasting_programs.specs.Seats.{same_path, same_owner, seated}
+use Rattle.uc_making_laws.specs.BeforeRides.{IsLone}
+use Rattle.uc_lasting_programs.specs.Seats.{same_path, same_owner, seated, housed}
 
 -- a place lies at another, or in what is there
 
@@ -148,41 +151,86 @@ module _ (homes : ℕ → Value) where
     abbrev pub way_bars : {j : Journal} {w : World} → Runs source input opts j w → {p u k : ℕ} {s : State} {a : Asked} → AsksIn source opts j w p u k s a → Exec → Value → Bool
     way_bars {j} {w} r {p} {u} d n z = run_bars r n z || ride_bars source j w u d.rides n z
 
--- what is told of a run and of the way to what is asked next: seats, and all that nothing bars
+-- no mutex object is at home in what is of this type
+abbrev pub is_object : Ty → Bool
+is_object Num = false
+is_object (Cell a) = false
+is_object (Obj c) = true
+is_object (Raw c) = false
+is_object (Row n a) = false
+is_object Clu = false
+is_object Pro = false
+
+abbrev pub is_bare : Ty → Bool
+is_bare Num = true
+is_bare (Cell a) = not (is_object a)
+is_bare (Obj c) = false
+is_bare (Raw c) = true
+is_bare (Row n a) = is_bare a
+is_bare Clu = true
+is_bare Pro = true
+
+-- the place of a scalar
+abbrev pub is_scalar : Ty → Bool
+is_scalar (Cell Num) = true
+is_scalar a = false
+
+-- a place is another's: it lies in a frame of another execution, or in a mutex object
+abbrev pub of_others : Exec → Value → Bool
+of_others n (Place (Frame m d) p) = not (exec_eq m n)
+of_others n (Place (Fields o) p) = true
+of_others n v = false
+
+-- what is told of a run and of the way to what is asked next: seats, and all that nothing bars; each place that is another's, as what no mutex object is at home
+-- in; and each, as that of a scalar
 abbrev pub unbarred : (ℕ → Value) → (source : Source) (input : List ℕ) (opts : Options) {j : Journal} {w : World} → Runs source input opts j w → {p u k : ℕ} {s : State} {a : Asked} →
     AsksIn source opts j w p u k s a → Exec → Value → Bool
 unbarred homes source input opts r d n z = not (way_bars homes source input opts r d n z)
 
 abbrev pub based : (p : Program) (input : List ℕ) (opts : Options) {j : Journal} {w : World} → Runs (source_of p) input opts j w → {q t k : ℕ} {s : State} {a : Asked} →
     AsksIn (source_of p) opts j w q t k s a → Exec → Value → Ty → Bool
-based p input opts {j} {w} r d n z b = seated p input opts r d n z b || unbarred (λ o. home_of (source_of p) input opts j w r o) (source_of p) input opts r d n z
+based p input opts {j} {w} r d n z b = seated p input opts r d n z b ||
+    (unbarred (λ o. home_of (source_of p) input opts j w r o) (source_of p) input opts r d n z || ((of_others n z && is_bare b) || is_scalar b))
 
--- of others seats alone are told
+-- of others the homes alone of mutex objects for which executions were made are told
 abbrev pub seats_of : (p : Program) (input : List ℕ) (opts : Options) {j : Journal} {w : World} → Runs (source_of p) input opts j w → {q t k : ℕ} {s : State} {a : Asked} →
     AsksIn (source_of p) opts j w q t k s a → Few
 seats_of p input opts {j} {w} r d = record {
   numbers = or_raw (made_by opts j);
   home = λ o. home_of (source_of p) input opts j w r o;
-  base = seated p input opts r d;
+  base = housed p input opts r d;
 }
 
 -- what is left to show of ways
 
--- `seats`: seats, and the home of the program's main object; `made`: seats of those that were made
-module _ (t : Table) (few seats made : Few) (j : Journal) (w : World) (u : ℕ) (v : State) where
-  -- what `ElsewhereOnWay` asks, but of these alone
+-- `made`: seats of those that were made
+module _ (t : Table) (few made : Few) (j : Journal) (w : World) (u : ℕ) (v : State) where
+  -- of these, what is the own of who runs
+  abbrev pub OwnSeats : Exec → Value → Ty → Type 0
+  OwnSeats n z b = Base made n z b × Belongs few v.env.exec z
+
+  -- an object is not at home there: in that of one that lives; in that of one that does not run, in the task, but of those at home in the object
+  abbrev pub LiveApart : ℕ → Type 0
+  LiveApart o = (n : Exec) (cs : List Active) → Lives j (world_at w u v) n cs → IsNoHome t made o (OwnSeats n)
+
+  abbrev pub ApartBy : ℕ → Stage → Exec → Type 0
+  ApartBy o Fresh n = Unit {0}
+  ApartBy o Started n = IsNoHome t made o (OwnSeats n)
+  ApartBy o Ended n = Unit {0}
+
+  abbrev pub HaveApart : Type 0
+  HaveApart = EnvBy (λ n y. ApartBy (this_object v) y.links.stage n) (record v.env { hand = without (this_object v) v.env.hand })
+
+  -- what `ElsewhereOnWay` asks, but of these alone; and where who runs is at home in an older mutex object than the own one of the task, what is entered again
+  -- to be destroyed is not that
   abbrev pub SeatsElsewhereBy : Source → List Todo → Type 0
-  SeatsElsewhereBy source (GoneNow ∷ todo) = IsLone t few j w u v (this_object v) → LiveElsewhere t made j w u v (this_object v)
-  SeatsElsewhereBy source (GiveUpNow ∷ todo) = IsLone t few j w u v (this_object v) → LiveElsewhere t made j w u v (this_object v)
-  SeatsElsewhereBy source (MadeNow ∷ todo) = IsLone t few j w u v (this_object v) → HaveNoHome t made v
-  SeatsElsewhereBy source (SpawnNow r ∷ todo) = IsLone t few j w u v (this_object v) → HaveNoHome t made v
-  SeatsElsewhereBy source (EnterNow m r ∷ todo) = (k : KnowsState t few [] v) →
-      is_ending source r ≡ true → is_again source r v ≡ true →
-      (v.env.exec.home ≡ Object (entering source r v) → ⊥) ×
-      (NotMaking t few (entering source r v) k.sigs (v.run ∷ v.callers) ×
-      IsNoHome t seats (entering source r v) (Things t seats v.env.exec (v.run ∷ v.callers))) ×
-      (v.env.own ≡ entering source r v → ⊥)
-  SeatsElsewhereBy source todo = ElsewhereOnWayBy t few j w u v source todo
+  SeatsElsewhereBy source (GoneNow ∷ todo) = IsLone t few j w u v (this_object v) → LiveApart (this_object v)
+  SeatsElsewhereBy source (GiveUpNow ∷ todo) = IsLone t few j w u v (this_object v) → LiveApart (this_object v)
+  SeatsElsewhereBy source (MadeNow ∷ todo) = IsLone t few j w u v (this_object v) → HaveApart
+  SeatsElsewhereBy source (SpawnNow r ∷ todo) = IsLone t few j w u v (this_object v) → HaveApart
+  SeatsElsewhereBy source (EnterNow m r ∷ todo) = is_ending source r ≡ true → is_again source r v ≡ true → IsLone t few j w u v (entering source r v) →
+      (q : ℕ) → v.env.exec.home ≡ Object q → q < v.env.own → v.env.own ≡ entering source r v → ⊥
+  SeatsElsewhereBy source todo = Unit {0}
 
   abbrev pub SeatsElsewhere : Source → Type 0
   SeatsElsewhere source = SeatsElsewhereBy source v.run.control

@@ -5,8 +5,11 @@ pub mod Sparing
 pub mod Forgetting
 pub mod Ways
 pub mod Bases
+pub mod OfOthers
+pub mod Lying
 pub mod Telling
 pub mod Seats
 pub mod Meeting
 pub mod Remaining
 pub mod LastingPrograms
+pub mod UnderWay

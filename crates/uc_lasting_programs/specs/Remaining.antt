@@ -1,6 +1,6 @@
 -- What a step is still to find where all is known, but what a state in order tells; of the object at hand nothing is asked, and a task that is spawned has its
 -- object, as the run tells it, and so has an execution that is made.
-use Rattle.std.specs.Prelude.{◌≡◌, ◌⊎◌, ℕ, zero, suc, Bool, false, List, [], ◌∷◌, slice_index_or}
+use Rattle.std.specs.Prelude.{◌≡◌, ◌⊎◌, ℕ, zero, suc, Bool, false, true, List, [], ◌∷◌, slice_index_or}
 use Rattle.uc_tree.specs.Source.{Expr, ObjectExpr, Variable, OfObject, GetOwn, Scoped}
 use Rattle.uc_machine.specs.declared.exec.Exec.{Exec}
 use Rattle.uc_machine.specs.declared.exec.Owner.{Owner}
@@ -14,15 +14,25 @@ use Rattle.uc_life_laws.specs.LifeStates.{BehindMark, Outwards, frame_at}
 use Rattle.uc_life_laws.specs.Lives.{OutwardsOrMade}
 use Rattle.uc_life_laws.specs.Knowing.{ReadsKnown}
 use Rattle.uc_building_laws.specs.BuildingStates.{BuiltState}
-use Rattle.uc_building_laws.specs.BuildingRuns.{BindsAnew, IsByNumber}
+use Rattle.uc_building_laws.specs.BuildingRuns.{IsByNumber}
 use Rattle.uc_building_laws.specs.BuiltReads.{reads_bound}
+use Rattle.uc_building_laws.specs.ScopedReads.{in_own, in_others}
+use Rattle.uc_lasting_programs.specs.Lying.{LiesLeft, IsSeen}
+use Rattle.uc_lasting_programs.specs.OfOthers.{IsOfOthers}
 
 module _ (t : Table) (few : Few) (gs : List Sig) (g : Sig) (sc : List Name) (s : State) where
+  -- a binding is read in a variable in scope, of the running execution or of another one, or elsewhere: it is known, in the first case by what is in scope, in the
+  -- second as far as it lies in what is at hand, and so it is in the third if it is of its type, with such a number
+  abbrev pub BoundLeft : (own others : Bool) → Ty → Value → Type 0
+  BoundLeft true others a v = Unit {0}
+  BoundLeft false true a v = LiesLeft t few gs g s a (loaded v s.env)
+  BoundLeft false false a v = ReadsKnown t few gs s a v ⊎ IsSeen t few gs g s a (loaded v s.env)
+
   -- what is read at a place is known: of a number nothing is asked, and of what is to be destroyed only that it is one with such a number
   abbrev pub ReadsLeft : Ty → Value → Type 0
   ReadsLeft Num v = Unit {0}
   ReadsLeft (Raw c) v = IsMade t few s.env.exec c (loaded v s.env)
-  ReadsLeft a v = ReadsKnown t few gs s a v
+  ReadsLeft a v = BoundLeft (in_own t s a v) (in_others t s a v) a v
 
   abbrev pub ObjectLeft : ObjectExpr → Ty → Type 0
   ObjectLeft (GetOwn k i) a = ReadsLeft a (further (FieldAt k i) s.run.this)
@@ -48,12 +58,13 @@ module _ (t : Table) (owns : Owns) (few : Few) (n : Exec) (K : Value → Ty → 
   abbrev pub IsOne : Ty → Value → Type 0
   IsOne b v = IsNumbered v × IsFew t few n b v
 
-  -- each binding within a thing holds what is known, or is an own mutex object of the variable u of the type c, in which the thing lies, and holds one that has
-  -- such a number
+  -- each binding within a thing is to a scalar's place or a plain object that is another's, or holds what is known, or is an own mutex object of the variable u
+  -- of the type c, in which the thing lies, and holds one that has such a number
   abbrev pub HoldsLeft : Value → Ty → Value → Ty → Type 0
   HoldsLeft u c w a = (p : List Link) (b : Ty) → Within t w a (Place o p) (Cell b) → IsBinding b →
-      Known t few n K b (slice_index_or vs (address p) nought) ⊎
-      (IsMutex t b × Inside t owns u c (Place o p) (Cell b) × IsOne b (slice_index_or vs (address p) nought))
+      IsOfOthers t n b (slice_index_or vs (address p) nought) ⊎
+      (Known t few n K b (slice_index_or vs (address p) nought) ⊎
+      (IsMutex t b × Inside t owns u c (Place o p) (Cell b) × IsOne b (slice_index_or vs (address p) nought)))
 
 -- where the scope of an array of plain objects opens that is a variable, and where that of a plain object does, of the fields of which `heads` does not tell, that
 -- holds what is left, if something is bound in it; and what is known by its number has such a number, but for a cluster that is a variable
@@ -69,11 +80,9 @@ OpensLeftAt t owns heads few K (Rest (Scoped c rest) ∷ todo) s =
     IsFew t few s.env.exec b (slice_index_or (frame_at s.run.frame s.env.frames) (address p) nought))
 OpensLeftAt t owns heads few K todo s = Unit {0}
 
--- a step finds what it is to find: nothing is bound yet at a field of the object at hand where that is to be bound; and in a state in which all is known by
--- kinds by which variables in scope hold what is known, and so do objects that are built: by some such kinds it finds what is left, but of what
--- constructors have bound where they read it, and where a scope opens, what that is of holds what is known
+-- a step finds what it is to find: in a state in which all is known by kinds by which variables in scope hold what is known, and so do objects that are built:
+-- by some such kinds it finds what is left, but of what constructors have bound where they read it, and where a scope opens, what that is of holds what is known
 pub record MeetsLeft (t : Table) (owns : Owns) (heads : ℕ → ℕ → Bool) (few : Few) (s : State) : Type 0 where
-  pub anew : BindsAnew t heads s s.run.control
   pub finds : BuiltState t heads few [] s → (x : BuiltState t heads few [] s) ×
       ((reads_bound t heads x.0.run.sig s ≡ false → FindsLeft t few x.0.sigs x.0.run.sig x.0.run.scope s s.run.control x.0.run.own) ×
       OpensLeftAt t owns heads few (OutwardsOrMade x.0.sigs) s.run.control s)

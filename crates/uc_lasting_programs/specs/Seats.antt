@@ -18,7 +18,7 @@ use Rattle.uc_machine.specs.Rides.{Rides, slices, goes_on, ticks, asks}
 use Rattle.uc_meaning.specs.Runs.{World, May, Runs, AsksIn, gives, no_room, acts, begun, more}
 use Rattle.uc_resolve.specs.Resolve.{source_of}
 use Rattle.uc_sound.specs.Tables.{table_of}
-use Rattle.uc_typing.specs.Typing.{Ty, Cell, Obj, Table}
+use Rattle.uc_typing.specs.Typing.{Ty, Cell, Obj, Raw, Table}
 use Rattle.uc_life_laws.specs.Homes.{home_of}
 use Rattle.uc_life_laws.specs.Knowing.{main_of}
 
@@ -54,9 +54,10 @@ abbrev pub is_place : Value → Value → Bool
 is_place (Place o p) (Place u q) = same_owner o u && same_path p q
 is_place v w = false
 
--- `homes`: where mutex objects are at home. What has this object of this class, has this at hand
+-- `homes`: where mutex objects are at home. What has this object of this class, has this at hand: of a mutex object the place at which that is at home; any other
+-- one is had as one that is not whole, so that nothing is had which stands in it
 abbrev pub is_seat : (ℕ → Value) → ℕ → Value → Value → Ty → Bool
-is_seat homes c (Place o p) w (Obj d) = nat_eq c d && is_place (Place o p) w
+is_seat homes c (Place o p) w (Raw d) = nat_eq c d && is_place (Place o p) w
 is_seat homes c (Object o) w (Cell (Obj d)) = nat_eq c d && is_place (homes o) w
 is_seat homes c v w a = false
 
@@ -96,3 +97,12 @@ abbrev pub seated : (p : Program) (input : List ℕ) (opts : Options) {j : Journ
 seated p input opts {j} {w} r d n v b =
     run_seats (table_of p) (λ o. home_of (source_of p) input opts j w r o) (source_of p) input opts r n v b ||
     ride_seats (table_of p) (λ o. home_of (source_of p) input opts j w r o) d.rides n v b
+
+-- those of them that are whole: places at which mutex objects are at home
+abbrev pub but_raw : (Exec → Value → Ty → Bool) → Exec → Value → Ty → Bool
+but_raw f n v (Raw c) = false
+but_raw f n v b = f n v b
+
+abbrev pub housed : (p : Program) (input : List ℕ) (opts : Options) {j : Journal} {w : World} → Runs (source_of p) input opts j w → {q t k : ℕ} {s : State} {a : Asked} →
+    AsksIn (source_of p) opts j w q t k s a → Exec → Value → Ty → Bool
+housed p input opts r d n v b = but_raw (seated p input opts r d) n v b

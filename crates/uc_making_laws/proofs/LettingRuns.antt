@@ -88,7 +88,7 @@ module _ (t : Table) (few : Few) where
 
     lets_begun : LetsWorld t few (first_world source)
     lets_begun = record {
-      tasks = λ n. law_letting.begins t few source source.main 0 (inl refl);
+      tasks = λ n. law_letting.begins t few source source.main 0 (inl (refl, refl));
       homes = λ o. either (LetsMembers t few (home.Object o)) (o == 0) (Some no_members) None tt tt;
     }
 

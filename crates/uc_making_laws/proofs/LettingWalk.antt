@@ -179,7 +179,7 @@ module _ (t : Table) (few : Few) where
     none_one a older h f k e = by (subst (Told t few n (a ∷ older)) e h)
       where
         by : IsTold t few n (a ∷ older) o → ⊥
-        by (inl z) = zero z
+        by (inl z) = zero z.0
         by (inr (inl x)) = f x.0 x.1
         by (inr (inr l)) = omega (arith, k, l)
 

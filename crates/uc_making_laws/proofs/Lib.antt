@@ -8,6 +8,12 @@ pub mod LettingLists
 pub mod LettingSteps
 pub mod LettingWalk
 pub mod LettingRuns
+pub mod BuilderKeeping
+pub mod BuilderLists
+pub mod BuilderSteps
+pub mod BuilderWalk
+pub mod BuilderNear
+pub mod BuilderRuns
 pub mod ForgetsThis
 pub mod Nobodys
 pub mod Upheld

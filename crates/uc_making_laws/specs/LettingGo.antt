@@ -101,9 +101,9 @@ LeavesAt todo = Unit {0}
 
 module _ (t : Table) (few : Few) where
   -- the place where a mutex object is at home stands in what these activations have at hand, or one of them is to let go of the object; object 0 is that
-  -- of the program's main
+  -- of the program's main, which the main of task 0 has
   abbrev pub IsTold : Exec → List Active → ℕ → Type 0
-  IsTold n older o = (o ≡ 0) ⊎
+  IsTold n older o = ((o ≡ 0) × (n ≡ main_of 0)) ⊎
       (((c : ℕ) × Stands t few (Things t few n older) (Cell (Obj c)) (few.home o)) ⊎
       (0 < owed_waiting o older))
 

@@ -4,6 +4,8 @@ pub mod NoOthers
 pub mod LettingGo
 pub mod ForgetsThis
 pub mod LettingRuns
+pub mod Builders
+pub mod BuilderRuns
 pub mod RideWhile
 pub mod Upheld
 pub mod BeforeRides

@@ -1,5 +1,7 @@
 // The laws: each is a function whose contract is the law.
 
+ghost use Rattle.uc_making_laws.specs.BuilderRuns.{LawBuilderRuns};
+ghost use Rattle.uc_making_laws.specs.Builders.{LawBuilders};
 ghost use Rattle.uc_making_laws.specs.BeforeRides.{LawBeforeRides};
 ghost use Rattle.uc_making_laws.specs.ForgetsThis.{LawForgetsThis};
 ghost use Rattle.uc_making_laws.specs.LettingGo.{LawLetting};
@@ -34,6 +36,18 @@ pub fn law_letting()
 /// So it is in each run in which what is called is told of its object, or lets go of it.
 pub fn law_letting_runs()
     ensures { LawLettingRuns }
+{}
+
+/// An execution that builds or destroys an object goes on to do so until it asks that the object is let go of:
+/// until then one of its activations is of the object.
+pub fn law_builders()
+    ensures { LawBuilders }
+{}
+
+/// So in each run in which all that was asked so far fits who made an object builds it, or is about to, until it
+/// is asked that the object is let go of.
+pub fn law_builder_runs()
+    ensures { LawBuilderRuns }
 {}
 
 /// So nobody has at hand what has gone, in runs in which behind each act by which an object goes nobody has at

@@ -25,3 +25,14 @@ pub mod FieldSteps
 pub mod FieldWalk
 pub mod FieldNames
 pub mod Naming
+pub mod ReturnLists
+pub mod ReturnKeeping
+pub mod ReturnSteps
+pub mod ReturnWalk
+pub mod ReturnRuns
+pub mod StandingCells
+pub mod StandingKeeping
+pub mod StandingSteps
+pub mod StandingWalk
+pub mod StandingRuns
+pub mod LoneSweeps

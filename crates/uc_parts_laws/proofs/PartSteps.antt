@@ -35,11 +35,11 @@ use Rattle.uc_parts_laws.proofs.PartTodos.{inner_more, inner_any, clear_free, Be
 
 -- handlers
 
-abbrev OfHandler : Option Handler → Type 0
+abbrev pub OfHandler : Option Handler → Type 0
 OfHandler None = Unit {0}
 OfHandler (Some x) = InnerStmts x.body
 
-abbrev OfHit : Option Hit → Type 0
+abbrev pub OfHit : Option Hit → Type 0
 OfHit None = Unit {0}
 OfHit (Some x) = InnerStmts x.handler.body
 
@@ -47,7 +47,7 @@ abbrev OfFound : Option Found → Type 0
 OfFound None = Unit {0}
 OfFound (Some x) = InnerStmts x.handler.body
 
-handler_for : (kind : Bool) (e : raising.Event) (hs : Handlers) → InnerHandlers hs → OfHandler (raising.handler_for kind e hs)
+pub handler_for : (kind : Bool) (e : raising.Event) (hs : Handlers) → InnerHandlers hs → OfHandler (raising.handler_for kind e hs)
 handler_for kind e src.NoHandlers h = tt
 handler_for kind e (src.MoreHandlers resumes event cell line body others) h =
     either OfHandler (raising.same_kind kind resumes && raising.takes event e) (Some (record { cell = cell; line = line; body = body })) (raising.handler_for kind e others) h.0 (handler_for kind e others h.1)
@@ -63,15 +63,15 @@ found_or (Some x) a cs other h k = h
 -- to-do lists of one activation
 
 module _ (special : ℕ → Bool) (P : CleanUp → Type 0) (count : ℕ) where
-  abbrev Ok : List Todo → Type 0
+  abbrev pub Ok : List Todo → Type 0
   Ok todo = IsOrderly special P count todo
 
-  hit_in : (e : raising.Event) (todo : List Todo) → Ok todo → OfHit (raising.hit_in e todo)
+  pub hit_in : (e : raising.Event) (todo : List Todo) → Ok todo → OfHit (raising.hit_in e todo)
   hit_in e [] h = tt
   hit_in e (piece.Guard hs ∷ ps) h = hit_or (raising.handler_for true e hs) (raising.count_round ps) (raising.hit_in e ps) (handler_for true e hs h.0) (hit_in e ps h.2)
   hit_in e (p ∷ ps) h = hit_in e ps (todos.tail special P count p ps h)
 
-  within : (n : ℕ) (todo : List Todo) → Ok todo → Ok (raising.within n todo)
+  pub within : (n : ℕ) (todo : List Todo) → Ok todo → Ok (raising.within n todo)
   within n [] h = tt
   within n (p ∷ ps) h =
       either Ok (nat_eq (raising.count_round (p ∷ ps)) n) (p ∷ ps) (raising.within n ps) h (within n ps (todos.tail special P count p ps h))

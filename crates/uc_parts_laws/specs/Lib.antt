@@ -11,3 +11,7 @@ pub mod Undoing
 pub mod UndoingTodos
 pub mod UndoingStates
 pub mod UndoingLaws
+pub mod Returning
+pub mod Standing
+pub mod StandingRuns
+pub mod LoneSweeps

@@ -4,10 +4,14 @@ ghost use Rattle.uc_parts_laws.specs.ClearedFrames.{LawClearedFrames};
 ghost use Rattle.uc_parts_laws.specs.FramesStay.{LawFramesStay};
 ghost use Rattle.uc_parts_laws.specs.Leaving.{LawLeaving};
 ghost use Rattle.uc_parts_laws.specs.Lodging.{LawLodging};
+ghost use Rattle.uc_parts_laws.specs.LoneSweeps.{LawLoneSweeps};
 ghost use Rattle.uc_parts_laws.specs.Naming.{LawNaming};
 ghost use Rattle.uc_parts_laws.specs.PartsLaws.{LawParts, LawPartsSources};
 ghost use Rattle.uc_parts_laws.specs.PartsRuns.{LawKeptParts, LawPartsRuns};
 ghost use Rattle.uc_parts_laws.specs.UndoingLaws.{LawTaking, LawUndoing};
+ghost use Rattle.uc_parts_laws.specs.Returning.{LawReturns, LawReturnsRuns};
+ghost use Rattle.uc_parts_laws.specs.Standing.{LawStanding};
+ghost use Rattle.uc_parts_laws.specs.StandingRuns.{LawStandingRuns};
 
 /// In the source of every program that breaks no rule parts of objects are built by constructors alone, outside all
 /// other statements, and where elements of an array are built their clean-up stands next.
@@ -73,4 +77,33 @@ pub fn law_cleared_frames()
 /// for.
 pub fn law_lodging()
     ensures { LawLodging }
+{}
+
+/// A return of a handler that unwinds an activation is over before what that builds is left: of every source, where
+/// parts are taken over, in steps and answers.
+pub fn law_returns()
+    ensures { LawReturns }
+{}
+
+/// So in each run of a program that breaks no rule nothing that is built is left by a return of a handler to the
+/// activation that builds it.
+pub fn law_returns_runs()
+    ensures { LawReturnsRuns }
+{}
+
+/// Elements that stand of arrays of mutex objects that are variables are not gone: in steps and answers, where none is as
+/// it is built, as the clean-up of its array begins, and as something is bound.
+pub fn law_standing()
+    ensures { LawStanding }
+{}
+
+/// So in each run, by what is gone behind each act, as far as what goes is no element that stands.
+pub fn law_standing_runs()
+    ensures { LawStandingRuns }
+{}
+
+/// Where an activation destroys the elements of an array of mutex objects that is a variable, older activations build and
+/// destroy nothing that is at home in that array.
+pub fn law_lone_sweeps()
+    ensures { LawLoneSweeps }
 {}

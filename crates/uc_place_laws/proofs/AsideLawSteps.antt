@@ -6,7 +6,7 @@ use Rattle.uc_place_laws.proofs.AsideWorlds.{code}
 
 pub law_steps : LawSteps
 law_steps = record {
-  begins = λ makes source known sited r o. first_aside makes source (code makes source known sited) r o;
+  begins = λ p makes source known sited r o. first_aside (Sized p) makes source (code makes source known sited) r o;
   steps = λ p makes source known sited s h st. walk (Sized p) makes source (code makes source known sited) s h st;
-  told = λ makes source form given s k f c e. answered_aside makes source form given s k f c e;
+  told = λ p makes source form given s k f c e. answered_aside (Sized p) makes source form given s k f c e;
 }

@@ -11,41 +11,44 @@ use Rattle.uc_machine.specs.Pieces as piece
 use Rattle.uc_machine.specs.Pieces.{Link, Slot, At, Value, Number, Place, Running, Object, Nothing, LAST_ADDRESS, link_cells, address, further, Todo, Sort, Active, sort, top, below}
 use Rattle.uc_state_laws.specs.There.{IsLoose, OfVariable, OfElements, OfEach, EachNext, IsBefore, OfBound, OpensBound, NextRest, NextDrop, NextCall, Pends}
 use Rattle.uc_state_laws.specs.Counted.{params}
+use Rattle.uc_place_laws.specs.OpeningLaws.{Awaited, AwaitedRest}
+use Rattle.uc_place_laws.specs.Calling.{Calling, NoneCalled, EndsBefore}
 use Rattle.uc_place_laws.specs.OlderResting.{AllWait}
+use Rattle.uc_place_laws.proofs.OpeningMarks.{opens_more as plains_more}
 use Rattle.uc_place_laws.specs.Siting.{Everywhere, PlainSingle, SitedAt, BuildsAt, Singly, SitedExpr, SitedStmt}
 use Rattle.uc_place_laws.specs.Asides.{IsNearer, PendsBefore, OwnerAside, LiesAside, IsNear, Mark, Any, Aside, Loose, Meets, Holds, rest, rests, anys, FirstAside, FirstLoose, IsTold, Free, Calm, after, Ok, Left, OkNow, Runs, Waits}
 
 -- operands
 
-module _ (n : Exec) (older : List Active) where
-  pub holds_below : (ms : List Mark) (vs : List Value) → Holds n older ms vs → Holds n older (rest ms) (below vs)
+module _ (Z : ℕ → ℕ → Type 0) (n : Exec) (older : List Active) where
+  pub holds_below : (ms : List Mark) (vs : List Value) → Holds Z n older ms vs → Holds Z n older (rest ms) (below vs)
   holds_below [] vs h = tt
   holds_below (m ∷ ms) vs h = h.1
 
-  pub holds_spread : (ms : List Mark) (vs : List Value) → Holds n older ms vs → Holds n older ms (top vs ∷ below vs)
+  pub holds_spread : (ms : List Mark) (vs : List Value) → Holds Z n older ms vs → Holds Z n older ms (top vs ∷ below vs)
   holds_spread [] vs h = tt
   holds_spread (m ∷ ms) vs h = h
 
   -- the number of a new object is what is known of it
-  pub holds_told : (m : Mark) (k : ℕ) → IsTold m → Meets n older m (Object k)
+  pub holds_told : (m : Mark) (k : ℕ) → IsTold m → Meets Z n older m (Object k)
   holds_told Any k h = tt
   holds_told Aside k h = absurd h
   holds_told Loose k h = tt
 
-  pub holds_loose : (ms : List Mark) (vs : List Value) → Holds n older ms vs → FirstLoose ms → IsLoose (top vs)
+  pub holds_loose : (ms : List Mark) (vs : List Value) → Holds Z n older ms vs → FirstLoose ms → IsLoose (top vs)
   holds_loose [] vs h k = absurd k
   holds_loose (Any ∷ ms) vs h k = absurd k
   holds_loose (Aside ∷ ms) vs h k = absurd k
   holds_loose (Loose ∷ ms) vs h k = h.0
 
-  pub loose_aside : (v : Value) → IsLoose v → LiesAside n older v
+  pub loose_aside : (v : Value) → IsLoose v → LiesAside Z n older v
   loose_aside (Number z) h = tt
   loose_aside (Place o p) h = absurd h
   loose_aside (Running e) h = tt
   loose_aside (Object o) h = tt
   loose_aside Nothing h = tt
 
-  pub holds_aside : (ms : List Mark) (vs : List Value) → Holds n older ms vs → FirstAside ms → LiesAside n older (top vs)
+  pub holds_aside : (ms : List Mark) (vs : List Value) → Holds Z n older ms vs → FirstAside ms → LiesAside Z n older (top vs)
   holds_aside [] vs h k = absurd k
   holds_aside (Any ∷ ms) vs h k = absurd k
   holds_aside (Aside ∷ ms) vs h k = h.0
@@ -57,18 +60,18 @@ drop_below zero (v ∷ vs) = refl
 drop_below (suc n) [] = refl
 drop_below (suc n) (v ∷ vs) = drop_below n vs
 
-module _ (n : Exec) (older : List Active) where
-  pub holds_drop : (k : ℕ) (ms : List Mark) (vs : List Value) → Holds n older ms vs → Holds n older (rests k ms) (drop k vs)
+module _ (Z : ℕ → ℕ → Type 0) (n : Exec) (older : List Active) where
+  pub holds_drop : (k : ℕ) (ms : List Mark) (vs : List Value) → Holds Z n older ms vs → Holds Z n older (rests k ms) (drop k vs)
   holds_drop zero ms [] h = h
   holds_drop zero ms (v ∷ vs) h = h
   holds_drop (suc k) ms vs h =
-      subst (Holds n older (rest (rests k ms))) (sym (drop_below k vs)) (holds_below n older (rests k ms) (drop k vs) (holds_drop k ms vs h))
+      subst (Holds Z n older (rest (rests k ms))) (sym (drop_below k vs)) (holds_below Z n older (rests k ms) (drop k vs) (holds_drop k ms vs h))
 
   -- so many operands of which nothing is known
-  pub holds_anys : (k : ℕ) (ms : List Mark) (vs : List Value) → Holds n older ms (drop k vs) → Holds n older (anys k ms) vs
+  pub holds_anys : (k : ℕ) (ms : List Mark) (vs : List Value) → Holds Z n older ms (drop k vs) → Holds Z n older (anys k ms) vs
   holds_anys zero ms [] h = h
   holds_anys zero ms (v ∷ vs) h = h
-  holds_anys (suc k) ms vs h = holds_anys k (Any ∷ ms) vs (tt, subst (Holds n older ms) (drop_below k vs) h)
+  holds_anys (suc k) ms vs h = holds_anys k (Any ∷ ms) vs (tt, subst (Holds Z n older ms) (drop_below k vs) h)
 
 -- an object that is written to an operand is there; where there is none nothing is found
 pub set_loose : (k : ℕ) (v : Value) (vs : List Value) → IsLoose v → IsLoose (top (drop k (slice_set vs k v)))
@@ -154,14 +157,47 @@ module _ (P Q : List Link → Type 0) (f : (p : List Link) → P p → Q p) wher
   each_next_more (piece.DropNow ∷ (piece.MoreNow ∷ (piece.FillNow n b d ∷ (piece.Within line ∷ (piece.Rest (src.Scoped c rest) ∷ todo))))) h = each_more c h
   each_next_more todo h = tt
 
-older_more : (a b : ℕ) → a ≤ b → (d : ℕ) (cs : List Active) → PendsBefore a d cs → PendsBefore b d cs
-older_more a b le d [] h = tt
-older_more a b le d (c ∷ cs) h = (here, older_more a b le d cs h.1)
+-- what is said of constructors that are still to be called may be said otherwise
+module _ (P Q : ℕ → ℕ → Type 0) (f : (d k : ℕ) → P d k → Q d k) where
+  pub awaited_more : (todo : List Todo) → Awaited P todo → Awaited Q todo
+  awaited_more (piece.DropNow ∷ (piece.Within line ∷ (piece.Rest ss ∷ todo))) h = plains_more P Q f ss h
+  awaited_more todo h = tt
+
+  rest_awaited : (todo : List Todo) → AwaitedRest P todo → AwaitedRest Q todo
+  rest_awaited (piece.Rest ss ∷ todo) h = plains_more P Q f ss h
+  rest_awaited todo h = tt
+
+  pub calling_more : (todo : List Todo) → Calling P todo → Calling Q todo
+  calling_more [] h = tt
+  calling_more (piece.Eval e ∷ todo) h = (awaited_more todo h.0, calling_more todo h.1)
+  calling_more (piece.Do a ∷ todo) h = (rest_awaited todo h.0, calling_more todo h.1)
+  calling_more (piece.CallOnNow r ∷ todo) h = (awaited_more todo h.0, calling_more todo h.1)
+  calling_more (piece.CallUnwrittenNow r ∷ todo) h = (awaited_more todo h.0, calling_more todo h.1)
+  calling_more (p ∷ todo) h = calling_more todo h
+
+pub none_calling : (P : ℕ → ℕ → Type 0) (todo : List Todo) → NoneCalled todo → Calling P todo
+none_calling P todo h = calling_more (λ d k. ⊥) P (λ d k z. absurd z) todo h
+
+older_more : (Z : ℕ → ℕ → Type 0) (a b : ℕ) → a ≤ b → (d : ℕ) (cs : List Active) → PendsBefore Z a d cs → PendsBefore Z b d cs
+older_more Z a b le d [] h = tt
+older_more Z a b le d (c ∷ cs) h = (here, older_more Z a b le d cs h.1)
   where
-    here : c.frame ≡ d → Pends (IsBefore b) c.control × EachNext (IsNearer b) c.control
+    here : c.frame ≡ d → Pends (IsBefore b) c.control × EachNext (IsNearer b) c.control × Calling (EndsBefore Z b) c.control
     here e =
         let k = h.0 e in
-        (pends_more (IsBefore a) (IsBefore b) (λ p z. omega (arith, z, le)) c.control k.0, each_next_more (IsNearer a) (IsNearer b) (λ p z near. let y = z near in omega (arith, y, le)) c.control k.1)
+        (pends_more (IsBefore a) (IsBefore b) (λ p z. omega (arith, z, le)) c.control k.0, each_next_more (IsNearer a) (IsNearer b) (λ p z near. let y = z near in omega (arith, y, le)) c.control k.1, calling_more (EndsBefore Z a) (EndsBefore Z b) (λ m j z. let y = z.2 in (z.0, z.1, omega (arith, y, le))) c.control k.2)
+
+-- no constructor is to be called where nothing is
+pub calm_none : (todo : List Todo) → Calm todo → NoneCalled todo
+calm_none [] h = tt
+calm_none (piece.CallOnNow r ∷ todo) h = absurd h
+calm_none (piece.CallUnwrittenNow r ∷ todo) h = absurd h
+calm_none (piece.Eval e ∷ todo) h = absurd h
+calm_none (piece.Do x ∷ todo) h = absurd h
+calm_none (piece.BindNow ∷ todo) h = absurd h
+calm_none (piece.MakeNow c r ∷ todo) h = absurd h
+calm_none (piece.BindMadeNow c r ∷ todo) h = absurd h
+calm_none (p ∷ todo) h = calm_none todo h
 
 -- nothing is to be bound where nothing is to be evaluated or done
 pub calm_pends : (P : List Link → Type 0) (todo : List Todo) → Calm todo → Pends P todo
@@ -171,6 +207,8 @@ calm_pends P (piece.Do x ∷ todo) h = absurd h
 calm_pends P (piece.BindNow ∷ todo) h = absurd h
 calm_pends P (piece.MakeNow c r ∷ todo) h = absurd h
 calm_pends P (piece.BindMadeNow c r ∷ todo) h = absurd h
+calm_pends P (piece.CallOnNow r ∷ todo) h = absurd h
+calm_pends P (piece.CallUnwrittenNow r ∷ todo) h = absurd h
 calm_pends P (p ∷ todo) h = calm_pends P todo h
 
 pub calm_free : (todo : List Todo) → Calm todo → Free todo
@@ -179,13 +217,13 @@ calm_free todo h = calm_pends (λ p. ⊥) todo h
 pub free_pends : (P : List Link → Type 0) (todo : List Todo) → Free todo → Pends P todo
 free_pends P todo h = pends_more (λ p. ⊥) P (λ p z. absurd z) todo h
 
-module _ (n : Exec) where
+module _ (Z : ℕ → ℕ → Type 0) (n : Exec) where
   -- a step further than what lies aside lies so too
-  owner_further : (older : List Active) (l : Link) (o : Owner) (p : List Link) → OwnerAside n older o (address p) → OwnerAside n older o (address (l ∷ p))
-  owner_further older l (Frame m d) p h = (h.0, older_more (address p) (address (l ∷ p)) (address_more l p) d older h.1)
+  owner_further : (older : List Active) (l : Link) (o : Owner) (p : List Link) → OwnerAside Z n older o (address p) → OwnerAside Z n older o (address (l ∷ p))
+  owner_further older l (Frame m d) p h = (h.0, older_more Z (address p) (address (l ∷ p)) (address_more l p) d older h.1)
   owner_further older l (Fields o) p h = tt
 
-  pub further_aside : (older : List Active) (l : Link) (v : Value) → LiesAside n older v → LiesAside n older (further l v)
+  pub further_aside : (older : List Active) (l : Link) (v : Value) → LiesAside Z n older v → LiesAside Z n older (further l v)
   further_aside older l (Number z) h = tt
   further_aside older l (Place o p) h = owner_further older l o p h
   further_aside older l (Running e) h = tt
@@ -193,17 +231,17 @@ module _ (n : Exec) where
   further_aside older l Nothing h = tt
 
   -- so does what lies aside of what waits with nothing to bind
-  owner_waits : (older : List Active) (c : Active) (o : Owner) (cell : ℕ) → Free c.control → EachNext (λ p. ⊥) c.control → OwnerAside n older o cell → OwnerAside n (c ∷ older) o cell
-  owner_waits older c (Frame m d) cell q r h =
-      (h.0, ((λ e. (free_pends (IsBefore cell) c.control q, each_next_more (λ p. ⊥) (IsNearer cell) (λ p z. absurd z) c.control r)), h.1))
-  owner_waits older c (Fields o) cell q r h = tt
+  owner_waits : (older : List Active) (c : Active) (o : Owner) (cell : ℕ) → Free c.control → EachNext (λ p. ⊥) c.control → NoneCalled c.control → OwnerAside Z n older o cell → OwnerAside Z n (c ∷ older) o cell
+  owner_waits older c (Frame m d) cell q r u h =
+      (h.0, ((λ e. (free_pends (IsBefore cell) c.control q, each_next_more (λ p. ⊥) (IsNearer cell) (λ p z. absurd z) c.control r, none_calling (EndsBefore Z cell) c.control u)), h.1))
+  owner_waits older c (Fields o) cell q r u h = tt
 
-  pub waits_aside : (older : List Active) (c : Active) (v : Value) → Free c.control → EachNext (λ p. ⊥) c.control → LiesAside n older v → LiesAside n (c ∷ older) v
-  waits_aside older c (Number z) q r h = tt
-  waits_aside older c (Place o p) q r h = owner_waits older c o (address p) q r h
-  waits_aside older c (Running e) q r h = tt
-  waits_aside older c (Object o) q r h = tt
-  waits_aside older c Nothing q r h = tt
+  pub waits_aside : (older : List Active) (c : Active) (v : Value) → Free c.control → EachNext (λ p. ⊥) c.control → NoneCalled c.control → LiesAside Z n older v → LiesAside Z n (c ∷ older) v
+  waits_aside older c (Number z) q r u h = tt
+  waits_aside older c (Place o p) q r u h = owner_waits older c o (address p) q r u h
+  waits_aside older c (Running e) q r u h = tt
+  waits_aside older c (Object o) q r u h = tt
+  waits_aside older c Nothing q r u h = tt
 
 -- what may be built where less may be
 
@@ -315,15 +353,15 @@ module _ (makes : ℕ → Bool) (source : Source) (Near : ℕ → Type 0) (made 
   now ms todo h = h
 
 -- of activations that wait, each before older ones
-module _ (makes : ℕ → Bool) (source : Source) where
+module _ (Z : ℕ → ℕ → Type 0) (makes : ℕ → Bool) (source : Source) where
   pub record ActiveLeft (older : List Active) (a : Active) : Type 0 where
     pub made : Bool
-    pub rest : Left makes source (IsNear a.frame older) made a.control
+    pub rest : Left makes source (IsNear Z a.frame older) made a.control
 
   abbrev pub AllLeft : List Active → Type 0
   AllLeft [] = Unit {0}
   AllLeft (a ∷ cs) = ActiveLeft cs a × AllLeft cs
 
-  pub waits_left : (n : Exec) (cs : List Active) → AllWait (Runs makes source) (Waits makes source) n cs → AllLeft cs
+  pub waits_left : (n : Exec) (cs : List Active) → AllWait (Runs Z makes source) (Waits Z makes source) n cs → AllLeft cs
   waits_left n [] h = tt
-  waits_left n (a ∷ cs) h = (record { made = h.0.made; rest = left makes source (IsNear a.frame cs) h.0.made (Any ∷ h.0.marks) a.control h.0.ok }, waits_left n cs h.1)
+  waits_left n (a ∷ cs) h = (record { made = h.0.made; rest = left makes source (IsNear Z a.frame cs) h.0.made (Any ∷ h.0.marks) a.control h.0.ok }, waits_left n cs h.1)

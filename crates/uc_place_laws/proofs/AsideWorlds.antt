@@ -93,30 +93,30 @@ spawns_none j (e ∷ a) u l lt =
     ap (λ b. b || spawns a u) (born_late e.kind e j u l.0.next lt) ∙ spawns_none (j ++ e ∷ []) a u l.1 (more_tasks j e u lt)
 
 -- a task at rest
-record TaskAside (makes : ℕ → Bool) (source : Source) (j : Journal) (t : ℕ) (s : State) : Type 0 where
-  run : has_ended t j ≡ false → FindsFor makes source (asked_form t j) s.env.exec s.callers s.run
-  callers : AllWait (Runs makes source) (Waits makes source) s.env.exec s.callers
-  house : NamedParked (Runs makes source) (Waits makes source) (home.Task s.env.own) s.env.house.parked
+record TaskAside (Z : ℕ → ℕ → Type 0) (makes : ℕ → Bool) (source : Source) (j : Journal) (t : ℕ) (s : State) : Type 0 where
+  run : has_ended t j ≡ false → FindsFor Z makes source (asked_form t j) s.env.exec s.callers s.run
+  callers : AllWait (Runs Z makes source) (Waits Z makes source) s.env.exec s.callers
+  house : NamedParked (Runs Z makes source) (Waits Z makes source) (home.Task s.env.own) s.env.house.parked
 
-record AsideWorld (makes : ℕ → Bool) (source : Source) (j : Journal) (w : World) : Type 0 where
-  tasks : (t : ℕ) → TaskAside makes source j t (w.tasks t)
-  homes : (o : ℕ) → AsideMembers makes source (home.Object o) (w.homes o)
+record AsideWorld (Z : ℕ → ℕ → Type 0) (makes : ℕ → Bool) (source : Source) (j : Journal) (w : World) : Type 0 where
+  tasks : (t : ℕ) → TaskAside Z makes source j t (w.tasks t)
+  homes : (o : ℕ) → AsideMembers Z makes source (home.Object o) (w.homes o)
 
-module _ (makes : ℕ → Bool) (source : Source) where
-  home_aside : (o : ℕ) (x : Option Members) (hand : List (ℕ × Members)) → AsideMembers makes source (home.Object o) x → NamedHand (Runs makes source) (Waits makes source) hand → NamedHand (Runs makes source) (Waits makes source) (with_home o x hand)
+module _ (Z : ℕ → ℕ → Type 0) (makes : ℕ → Bool) (source : Source) where
+  home_aside : (o : ℕ) (x : Option Members) (hand : List (ℕ × Members)) → AsideMembers Z makes source (home.Object o) x → NamedHand (Runs Z makes source) (Waits Z makes source) hand → NamedHand (Runs Z makes source) (Waits Z makes source) (with_home o x hand)
   home_aside o None hand h k = k
   home_aside o (Some m) hand h k = (h, k)
 
-  hand_aside : (os : List ℕ) (homes : ℕ → Option Members) → ((o : ℕ) → AsideMembers makes source (home.Object o) (homes o)) → NamedHand (Runs makes source) (Waits makes source) (hand_of os homes)
+  hand_aside : (os : List ℕ) (homes : ℕ → Option Members) → ((o : ℕ) → AsideMembers Z makes source (home.Object o) (homes o)) → NamedHand (Runs Z makes source) (Waits Z makes source) (hand_of os homes)
   hand_aside [] homes h = tt
   hand_aside (o ∷ os) homes h = home_aside o (homes o) (hand_of os homes) (h o) (hand_aside os homes h)
 
-  or_aside : (o : ℕ) (x y : Option Members) → AsideMembers makes source (home.Object o) x → AsideMembers makes source (home.Object o) y → AsideMembers makes source (home.Object o) (or_else x y)
+  or_aside : (o : ℕ) (x y : Option Members) → AsideMembers Z makes source (home.Object o) x → AsideMembers Z makes source (home.Object o) y → AsideMembers Z makes source (home.Object o) (or_else x y)
   or_aside o None y h k = k
   or_aside o (Some m) y h k = h
 
   -- where a task goes on it finds what its request brings
-  behind : (r : Request) (s : State) → (r ≡ ask.End → ⊥) → ((n : ℕ) → r ≡ ask.Fault n → ⊥) → FindsBehind makes source r s.env.exec s.callers s.run → FindsFor makes source (form_of_request r) s.env.exec s.callers s.run
+  behind : (r : Request) (s : State) → (r ≡ ask.End → ⊥) → ((n : ℕ) → r ≡ ask.Fault n → ⊥) → FindsBehind Z makes source r s.env.exec s.callers s.run → FindsFor Z makes source (form_of_request r) s.env.exec s.callers s.run
   behind ask.End s e f h = absurd (e refl)
   behind (ask.Fault n) s e f h = absurd (f n refl)
   behind r s e f h = h
@@ -124,20 +124,20 @@ module _ (makes : ℕ → Bool) (source : Source) where
 -- rides of a task that keeps to its rooms
 
 module _ (Z : ℕ → ℕ → Type 0) (makes : ℕ → Bool) (source : Source) (in_rooms : SourceIn Z source) (known : (n : ℕ) → CodeRoutine makes source (makes n) (slice_get source.routines n)) where
-  ridden : {s u : State} {q k : ℕ} {a : Asked} → Rides source s q u k a → StackState Z s → AsideState makes source s → AsideAsk makes source a.request u
+  ridden : {s u : State} {q k : ℕ} {a : Asked} → Rides source s q u k a → StackState Z s → AsideState Z makes source s → AsideAsk Z makes source a.request u
   ridden rides.slices n h = record { run = h.run; callers = h.callers; env = h.env }
   ridden (rides.goes_on {s} {t} e r) n h =
-      ridden r (subst (StackStep Z) e (walk_stack Z source in_rooms s n)) (subst (AsideStep makes source) e (walk Z makes source known s h n))
+      ridden r (subst (StackStep Z) e (walk_stack Z source in_rooms s n)) (subst (AsideStep Z makes source) e (walk Z makes source known s h n))
   ridden (rides.ticks {s} {t} e r) n h =
-      ridden r (subst (StackStep Z) e (walk_stack Z source in_rooms s n)) (subst (AsideStep makes source) e (walk Z makes source known s h n))
-  ridden (rides.asks {s} {t} e) n h = subst (AsideStep makes source) e (walk Z makes source known s h n)
+      ridden r (subst (StackStep Z) e (walk_stack Z source in_rooms s n)) (subst (AsideStep Z makes source) e (walk Z makes source known s h n))
+  ridden (rides.asks {s} {t} e) n h = subst (AsideStep Z makes source) e (walk Z makes source known s h n)
 
-  led : {s u : State} → Leads source s u → StackState Z s → AsideState makes source s → AsideState makes source u
+  led : {s u : State} → Leads source s u → StackState Z s → AsideState Z makes source s → AsideState Z makes source u
   led rooms.stays n h = h
   led (rooms.goes {s} e l) n h =
-      led l (subst (StackStep Z) e (walk_stack Z source in_rooms s n)) (subst (AsideStep makes source) e (walk Z makes source known s h n))
+      led l (subst (StackStep Z) e (walk_stack Z source in_rooms s n)) (subst (AsideStep Z makes source) e (walk Z makes source known s h n))
   led (rooms.ticks {s} e l) n h =
-      led l (subst (StackStep Z) e (walk_stack Z source in_rooms s n)) (subst (AsideStep makes source) e (walk Z makes source known s h n))
+      led l (subst (StackStep Z) e (walk_stack Z source in_rooms s n)) (subst (AsideStep Z makes source) e (walk Z makes source known s h n))
 
 module _ (p : Program) (accepted : breaks_of p ≡ []) (known : (n : ℕ) → CodeRoutine (makes_of p) (source_of p) (makes_of p n) (slice_get (source_of p).routines n)) (input : List ℕ) (opts : Options) (range : InRange opts) where
   abbrev source : Source
@@ -149,22 +149,22 @@ module _ (p : Program) (accepted : breaks_of p ≡ []) (known : (n : ℕ) → Co
   abbrev makes : ℕ → Bool
   makes = makes_of p
 
-  module _ {j : Journal} {w : World} (r : RunRests source input opts j w) (going : is_over j ≡ false) (x : AsideWorld makes source j w) (told_rooms : KeepsFrames p j w) where
+  module _ {j : Journal} {w : World} (r : RunRests source input opts j w) (going : is_over j ≡ false) (x : AsideWorld Z makes source j w) (told_rooms : KeepsFrames p j w) where
     sound : Sound j
     sound = (good_whole opts source.sites input r.kernel).sound
 
     -- whoever runs is told what it has asked for
-    goes_on : (p t : ℕ) (a : Answer) → running p j ≡ t ∷ [] → answer_to source.sites t j ≡ Some a → AsideState makes source (answered source a (drawn j w t))
+    goes_on : (p t : ℕ) (a : Answer) → running p j ≡ t ∷ [] → answer_to source.sites t j ≡ Some a → AsideState Z makes source (answered source a (drawn j w t))
     goes_on p t a runs told =
         let m = x.tasks t in
-        let finds : FindsFor makes source (asked_form t j) (drawn j w t).env.exec (drawn j w t).callers (drawn j w t).run = m.run (law_alive opts source.sites input j r.kernel going p t runs) in
-        answered_aside makes source (asked_form t j) a (drawn j w t) (law_suiting opts source.sites input j r.kernel going t a told) finds m.callers (record { house = m.house; hand = hand_aside makes source (held t j) w.homes x.homes })
+        let finds : FindsFor Z makes source (asked_form t j) (drawn j w t).env.exec (drawn j w t).callers (drawn j w t).run = m.run (law_alive opts source.sites input j r.kernel going p t runs) in
+        answered_aside Z makes source (asked_form t j) a (drawn j w t) (law_suiting opts source.sites input j r.kernel going t a told) finds m.callers (record { house = m.house; hand = hand_aside Z makes source (held t j) w.homes x.homes })
 
-    asks_aside : (p t n : ℕ) (s : State) (asked : Asked) → AsksIn source opts j w p t n s asked → AsideAsk makes source asked.request s
+    asks_aside : (p t n : ℕ) (s : State) (asked : Asked) → AsksIn source opts j w p t n s asked → AsideAsk Z makes source asked.request s
     asks_aside q t n s asked d =
         ridden Z makes source (law_accepted p accepted) known d.rides (told_rooms.comes t _ (record { given = d.given; processor = q; runs = d.runs; told = d.told; leads = rooms.stays })) (goes_on q t d.given d.runs d.told)
 
-    state : (t : ℕ) (s : State) → Comes source j w t s → AsideState makes source s
+    state : (t : ℕ) (s : State) → Comes source j w t s → AsideState Z makes source s
     state t s c =
         led Z makes source (law_accepted p accepted) known c.leads (told_rooms.comes t _ (record { given = c.given; processor = c.processor; runs = c.runs; told = c.told; leads = rooms.stays })) (goes_on c.processor t c.given c.runs c.told)
 
@@ -172,14 +172,14 @@ module _ (p : Program) (accepted : breaks_of p ≡ []) (known : (n : ℕ) → Co
       abbrev a : List Entry
       a = act opts source.sites input j q t n asked
 
-      asks : AsideAsk makes source asked.request s
+      asks : AsideAsk Z makes source asked.request s
       asks = asks_aside q t n s asked d
 
-      own_after : TaskAside makes source (j ++ a) t (bare s)
+      own_after : TaskAside Z makes source (j ++ a) t (bare s)
       own_after = record {
         run = λ h.
             let k = law_ends opts source.sites input j q t n asked on h in
-            subst (λ f. FindsFor makes source f s.env.exec s.callers s.run) (sym (law_asking opts source.sites input j q t n asked r.kernel m on).own) (behind makes source asked.request s k.no_end k.no_fault asks.run);
+            subst (λ f. FindsFor Z makes source f s.env.exec s.callers s.run) (sym (law_asking opts source.sites input j q t n asked r.kernel m on).own) (behind Z makes source asked.request s k.no_end k.no_fault asks.run);
         callers = asks.callers;
         house = asks.env.house;
       }
@@ -198,41 +198,41 @@ module _ (p : Program) (accepted : breaks_of p ≡ []) (known : (n : ℕ) → Co
           late = ⊎_elim (λ lt. absurd (not_before lt)) (λ le. le) (cases_lt u (task_count j))
 
       -- a task that begins has asked nothing
-      tasks_after : (u : ℕ) → TaskAside makes source (j ++ a) u (if u == t then bare s else if spawns a u then child_of source (own_object u a) s else w.tasks u)
+      tasks_after : (u : ℕ) → TaskAside Z makes source (j ++ a) u (if u == t then bare s else if spawns a u then child_of source (own_object u a) s else w.tasks u)
       tasks_after u = by (u == t) refl
         where
-          stays : (u == t) ≡ false → TaskAside makes source (j ++ a) u (w.tasks u)
+          stays : (u == t) ≡ false → TaskAside Z makes source (j ++ a) u (w.tasks u)
           stays e = record {
-            run = λ h. subst (λ f. FindsFor makes source f (w.tasks u).env.exec (w.tasks u).callers (w.tasks u).run) (sym (others u e)) ((x.tasks u).run (ended_before j a u h));
+            run = λ h. subst (λ f. FindsFor Z makes source f (w.tasks u).env.exec (w.tasks u).callers (w.tasks u).run) (sym (others u e)) ((x.tasks u).run (ended_before j a u h));
             callers = (x.tasks u).callers;
             house = (x.tasks u).house;
           }
 
-          born : (b : Bool) → (u == t) ≡ false → spawns a u ≡ b → TaskAside makes source (j ++ a) u (if b then child_of source (own_object u a) s else w.tasks u)
+          born : (b : Bool) → (u == t) ≡ false → spawns a u ≡ b → TaskAside Z makes source (j ++ a) u (if b then child_of source (own_object u a) s else w.tasks u)
           born true e f =
-              let first = first_aside makes source known (child_main source s.run.control) (own_object u a) in
+              let first = first_aside Z makes source known (child_main source s.run.control) (own_object u a) in
               record {
-                run = λ h. subst (λ f. FindsFor makes source f (child_of source (own_object u a) s).env.exec (child_of source (own_object u a) s).callers (child_of source (own_object u a) s).run) (sym (child_form u e f)) first.run;
+                run = λ h. subst (λ f. FindsFor Z makes source f (child_of source (own_object u a) s).env.exec (child_of source (own_object u a) s).callers (child_of source (own_object u a) s).run) (sym (child_form u e f)) first.run;
                 callers = first.callers;
                 house = first.env.house;
               }
           born false e f = stays e
 
-          by : (b : Bool) → (u == t) ≡ b → TaskAside makes source (j ++ a) u (if b then bare s else if spawns a u then child_of source (own_object u a) s else w.tasks u)
-          by true e = subst (λ v. TaskAside makes source (j ++ a) v (bare s)) (sym (eqb-true u t e)) own_after
+          by : (b : Bool) → (u == t) ≡ b → TaskAside Z makes source (j ++ a) u (if b then bare s else if spawns a u then child_of source (own_object u a) s else w.tasks u)
+          by true e = subst (λ v. TaskAside Z makes source (j ++ a) v (bare s)) (sym (eqb-true u t e)) own_after
           by false e = born (spawns a u) e refl
 
-      homes_after : (o : ℕ) → AsideMembers makes source (home.Object o) (if takes_out a o then None else or_else (find o s.env.hand) (w.homes o))
+      homes_after : (o : ℕ) → AsideMembers Z makes source (home.Object o) (if takes_out a o then None else or_else (find o s.env.hand) (w.homes o))
       homes_after o =
-          either (AsideMembers makes source (home.Object o)) (takes_out a o) None (or_else (find o s.env.hand) (w.homes o)) tt (or_aside makes source o (find o s.env.hand) (w.homes o) (kept.found_hand (Runs makes source) (Waits makes source) (calm makes source) o s.env.hand asks.env.hand) (x.homes o))
+          either (AsideMembers Z makes source (home.Object o)) (takes_out a o) None (or_else (find o s.env.hand) (w.homes o)) tt (or_aside Z makes source o (find o s.env.hand) (w.homes o) (kept.found_hand (Runs Z makes source) (Waits Z makes source) (calm Z makes source) o s.env.hand asks.env.hand) (x.homes o))
 
   given_form : (j : Journal) (q t u : ℕ) → asked_form u (j ++ dispatch q t ∷ []) ≡ asked_form u j
   given_form j q t u = form_push u j (dispatch q t)
 
-  aside_may : {j : Journal} {w : World} {a : List Entry} {v : World} → RunRests source input opts j w → is_over j ≡ false → AsideWorld makes source j w → KeepsFrames p j w → (m : May source opts input j w a v) → MayFit source opts input j w a v m → is_over (j ++ a) ≡ false → AsideWorld makes source (j ++ a) v
+  aside_may : {j : Journal} {w : World} {a : List Entry} {v : World} → RunRests source input opts j w → is_over j ≡ false → AsideWorld Z makes source j w → KeepsFrames p j w → (m : May source opts input j w a v) → MayFit source opts input j w a v m → is_over (j ++ a) ≡ false → AsideWorld Z makes source (j ++ a) v
   aside_may {j} {w} r o x i (gives q t s le) f on = record {
     tasks = λ u. record {
-      run = λ h. subst (λ f. FindsFor makes source f (w.tasks u).env.exec (w.tasks u).callers (w.tasks u).run) (sym (given_form j q t u)) ((x.tasks u).run (ended_before j (dispatch q t ∷ []) u h));
+      run = λ h. subst (λ f. FindsFor Z makes source f (w.tasks u).env.exec (w.tasks u).callers (w.tasks u).run) (sym (given_form j q t u)) ((x.tasks u).run (ended_before j (dispatch q t ∷ []) u h));
       callers = (x.tasks u).callers;
       house = (x.tasks u).house;
     };
@@ -247,12 +247,12 @@ module _ (p : Program) (accepted : breaks_of p ≡ []) (known : (n : ℕ) → Co
   unfolding asked_form
   begin_form u = refl
 
-  aside_run : {j : Journal} {w : World} → (r : RunsIn source input opts j w) → RunFits source input opts j w r → is_over j ≡ false → AsideWorld makes source j w
+  aside_run : {j : Journal} {w : World} → (r : RunsIn source input opts j w) → RunFits source input opts j w r → is_over j ≡ false → AsideWorld Z makes source j w
   aside_run begun f on =
-      let first = first_aside makes source known source.main 0 in
+      let first = first_aside Z makes source known source.main 0 in
       record {
-        tasks = λ u. record { run = λ h. subst (λ f. FindsFor makes source f (first_state (routine_of source source.main) 0).env.exec (first_state (routine_of source source.main) 0).callers (first_state (routine_of source source.main) 0).run) (sym (begin_form u)) first.run; callers = first.callers; house = first.env.house };
-        homes = λ o. either (AsideMembers makes source (home.Object o)) (o == 0) (Some no_members) None tt tt;
+        tasks = λ u. record { run = λ h. subst (λ f. FindsFor Z makes source f (first_state (routine_of source source.main) 0).env.exec (first_state (routine_of source source.main) 0).callers (first_state (routine_of source source.main) 0).run) (sym (begin_form u)) first.run; callers = first.callers; house = first.env.house };
+        homes = λ o. either (AsideMembers Z makes source (home.Object o)) (o == 0) (Some no_members) None tt tt;
       }
   aside_run (more {j} {w} r o m) f on =
       aside_may (run_rests source input opts range r f.0 o) o (aside_run r f.0 o) (law_frame_runs p accepted input opts j w r) m f.1 on
@@ -270,7 +270,7 @@ pub code_of : (p : Program) → IsFormed p → breaks_of p ≡ [] → (n : ℕ) 
 code_of p formed accepted =
     code (makes_of p) (source_of p) (counted_source (sites_of p) (source_of p) (table_of p) (law_sound p formed accepted) (source_named p)) (law_sited p formed accepted)
 
-pub aside_in : (p : Program) → IsFormed p → breaks_of p ≡ [] → (input : List ℕ) (opts : Options) → InRange opts → (j : Journal) (w : World) (r : RunsIn (source_of p) input opts j w) → RunFits (source_of p) input opts j w r → is_over j ≡ false → (t : ℕ) (s : State) → Comes (source_of p) j w t s → AsideState (makes_of p) (source_of p) s
+pub aside_in : (p : Program) → IsFormed p → breaks_of p ≡ [] → (input : List ℕ) (opts : Options) → InRange opts → (j : Journal) (w : World) (r : RunsIn (source_of p) input opts j w) → RunFits (source_of p) input opts j w r → is_over j ≡ false → (t : ℕ) (s : State) → Comes (source_of p) j w t s → AsideState (Sized p) (makes_of p) (source_of p) s
 aside_in p formed accepted input opts range j w r f on t s c =
     let known : (n : ℕ) → CodeRoutine (makes_of p) (source_of p) (makes_of p n) (slice_get (source_of p).routines n) = code_of p formed accepted in
     state p accepted known input opts range (run_rests (source_of p) input opts range r f on) on (aside_run p accepted known input opts range r f on) (law_frame_runs p accepted input opts j w r) t s c

@@ -25,3 +25,6 @@ pub mod Openings
 pub mod OpeningLawSteps
 pub mod OpeningWorlds
 pub mod OpeningRuns
+pub mod Sparing
+pub mod SparingRuns
+pub mod Addresses

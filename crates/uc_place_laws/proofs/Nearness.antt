@@ -1,7 +1,7 @@
 -- What is built in a room lies behind all that older activations have still to bind in the frame.
 use Rattle.std.proofs.Common.{◌≡◌, ℕ, suc, ◌+◌, ◌*◌, ◌≤◌, ◌<◌, inl, inr, Bool, List, [], ◌∷◌, Option, sym, arith}
 use Rattle.std.specs.Prelude.{min}
-use Rattle.std.proofs.Math.Nat.{min-le_left, le-min}
+use Rattle.std.proofs.Math.Nat.{min-le_left, min-le_right, le-min}
 use Rattle.uc_tree.specs.Source as src
 use Rattle.uc_tree.specs.Source.{Expr, CleanUp, Stmts, Stmt, Raised, Source}
 use Rattle.uc_machine.specs.declared.exec.Exec.{Exec}
@@ -15,9 +15,12 @@ use Rattle.uc_state_laws.proofs.Stacks.{room_to}
 use Rattle.uc_state_laws.specs.There.{OfVariable, OfElements, OfEach, EachNext, IsBefore, OfBound, OpensBound, NextRest, NextDrop, NextCall, Pends}
 use Rattle.uc_state_laws.specs.Counted.{params}
 use Rattle.uc_place_laws.specs.OlderResting.{AllWait}
+use Rattle.uc_place_laws.specs.Opened.{OfPlain}
+use Rattle.uc_place_laws.specs.OpeningLaws.{Awaited, AwaitedRest}
+use Rattle.uc_place_laws.specs.Calling.{Calling, EndsBefore}
 use Rattle.uc_place_laws.specs.Siting.{OpensAt}
-use Rattle.uc_place_laws.specs.Asides.{IsNearer, IsNear, Mark, Any, Aside, Loose, rest, rests, anys, Ok, Runs, Waits, after}
-use Rattle.uc_place_laws.proofs.AsideMarks.{calm_pends}
+use Rattle.uc_place_laws.specs.Asides.{IsNearer, IsNear, Mark, Any, Aside, Loose, rest, rests, anys, Calm, Ok, Runs, Waits, after}
+use Rattle.uc_place_laws.proofs.AsideMarks.{calm_pends, calm_none, none_calling}
 
 -- a variable before a cell, at an address of its own
 slot_before : (m k : ℕ) → m < k → m < LAST_ADDRESS → IsBefore (address (Slot k ∷ [])) (Slot m ∷ [])
@@ -31,6 +34,13 @@ slot_nearer m k h near =
     let a : min (0 + m) LAST_ADDRESS ≤ 0 + m = min-le_left (0 + m) LAST_ADDRESS in
     let z : suc (min (0 + m) LAST_ADDRESS) ≤ min (0 + k) LAST_ADDRESS = le-min (omega (arith, a, h)) (omega (arith, near)) in
     omega (arith, z)
+
+-- the cells from the last address on are told by that
+min_more : (a k : ℕ) → a ≤ k → min a LAST_ADDRESS ≤ address (Slot k ∷ [])
+min_more a k h =
+    let x : min a LAST_ADDRESS ≤ a = min-le_left a LAST_ADDRESS in
+    let y : min a LAST_ADDRESS ≤ LAST_ADDRESS = min-le_right a LAST_ADDRESS in
+    le-min (omega (arith, x, h)) (omega (arith, y))
 
 element_nearer : (m j k : ℕ) → m + j < k → IsNearer (address (Slot k ∷ [])) (At src.Binding j ∷ (Slot m ∷ []))
 element_nearer m j k h near =
@@ -85,6 +95,9 @@ module _ (Z : ℕ → ℕ → Type 0) where
   -- what is still to be bound in a room that ends before a variable lies before that
 
   module _ (k : ℕ) where
+    ends_near : (m n : ℕ) → m + n ≤ k → min (m + n) LAST_ADDRESS ≤ address (Slot k ∷ [])
+    ends_near m n h = min_more (m + n) k h
+
     bound_near : (low high : ℕ) (c : CleanUp) → high ≤ k → Lies Z low high c → OfBound (IsBefore (address (Slot k ∷ []))) c
     bound_near low high (src.Destroys (src.OfObject (src.EndProcessor (src.Load (src.Variable m))))) le h = λ near. let l = h.1 in slot_before m k (omega (arith, l, le)) near
     bound_near low high (src.Destroys (src.OfObject (src.EndOn r written (src.Load (src.Variable m))))) le h = λ near. let l = h.1 in slot_before m k (omega (arith, l, le)) near
@@ -139,6 +152,27 @@ module _ (Z : ℕ → ℕ → Type 0) where
         each_nearer o.low s.0.low c (scope_high o s.0 s.1 le) s.2.0
     each_near o todo le h = tt
 
+    -- an object ends before that, and where nothing is to be called none is still to be built
+    plain_near : (low high : ℕ) (c : CleanUp) → high ≤ k → Lies Z low high c → OfPlain (EndsBefore Z (address (Slot k ∷ []))) c
+    plain_near low high (src.Destroys (src.OfObject (src.CallOn d (src.Variable m) args))) le h = (h.0, h.1, ends_near m h.0 (let l = h.2.1 in omega (arith, l, le)))
+    plain_near low high (src.Destroys (src.OfObject (src.CallUnwritten d (src.Variable m)))) le h = (h.0, h.1, ends_near m h.0 (let l = h.2.1 in omega (arith, l, le)))
+    plain_near low high c le h = tt
+
+    called_near : (o : Room) (todo : List Todo) → o.high ≤ k → TodoIn Z o todo → Awaited (EndsBefore Z (address (Slot k ∷ []))) todo
+    called_near o (piece.DropNow ∷ (piece.Within line ∷ (piece.Rest (src.Scoped c ss) ∷ todo))) le h =
+        let s : StmtsIn Z o (src.Scoped c ss) = h.1.1.0 in
+        plain_near o.low s.0.low c (scope_high o s.0 s.1 le) s.2.0
+    called_near o todo le h = tt
+
+    rest_called : (o : Room) (todo : List Todo) → o.high ≤ k → TodoIn Z o todo → AwaitedRest (EndsBefore Z (address (Slot k ∷ []))) todo
+    rest_called o (piece.Rest (src.Scoped c ss) ∷ todo) le h =
+        let s : StmtsIn Z o (src.Scoped c ss) = h.0 in
+        plain_near o.low s.0.low c (scope_high o s.0 s.1 le) s.2.0
+    rest_called o todo le h = tt
+
+    calm_calling : (todo : List Todo) → Calm todo → Calling (EndsBefore Z (address (Slot k ∷ []))) todo
+    calm_calling todo h = none_calling (EndsBefore Z (address (Slot k ∷ []))) todo (calm_none todo h)
+
     module _ (makes : ℕ → Bool) (source : Source) (Near : ℕ → Type 0) (made : Bool) where
       pends_near : (o : Room) (ms : List Mark) (todo : List Todo) → o.high ≤ k → TodoIn Z o todo → Ok makes source Near made ms todo → Pends (IsBefore (address (Slot k ∷ []))) todo
       pends_near o ms [] le r h = tt
@@ -171,21 +205,55 @@ module _ (Z : ℕ → ℕ → Type 0) where
       pends_near o ms (piece.FinishCoroutine ∷ todo) le r h = pends_near o [] todo le r h.1
       pends_near o ms (p ∷ todo) le r h = pends_near o (after source p ms) todo le r.1 h.1
 
+      -- so do objects whose constructors are still to be called
+      calling_near : (o : Room) (ms : List Mark) (todo : List Todo) → o.high ≤ k → TodoIn Z o todo → Ok makes source Near made ms todo → Calling (EndsBefore Z (address (Slot k ∷ []))) todo
+      calling_near o ms [] le r h = tt
+      calling_near o ms (piece.Eval e ∷ todo) le r (n, inl h) = (called_near o todo le r.1, calling_near o (Any ∷ ms) todo le r.1 h.1)
+      calling_near o ms (piece.Eval e ∷ todo) le r (n, inr (inl h)) = (called_near o todo le r.1, calling_near o (Any ∷ ms) todo le r.1 h.2)
+      calling_near o ms (piece.Eval e ∷ todo) le r (n, inr (inr (inl h))) = (called_near o todo le r.1, calling_near o (Any ∷ ms) todo le r.1 h.3)
+      calling_near o ms (piece.Eval e ∷ todo) le r (n, inr (inr (inr (inl h)))) = (called_near o todo le r.1, calling_near o (Aside ∷ ms) todo le r.1 h.1)
+      calling_near o ms (piece.Eval e ∷ todo) le r (n, inr (inr (inr (inr h)))) = (called_near o todo le r.1, calling_near o (Loose ∷ ms) todo le r.1 h.1)
+      calling_near o ms (piece.Do a ∷ todo) le r h = (rest_called o todo le r.1, calm_calling todo h.1)
+      calling_near o ms (piece.ElementNow n s ∷ todo) le r (inl h) = calling_near o (Any ∷ rest (rest ms)) todo le r.1 h
+      calling_near o ms (piece.ElementNow n s ∷ todo) le r (inr h) = calling_near o (Aside ∷ rest (rest ms)) todo le r.1 h.1
+      calling_near o ms (piece.BindNow ∷ todo) le r h = calling_near o (Any ∷ rest (rest ms)) todo le r.1 h.1
+      calling_near o ms (piece.MakeNow c q ∷ todo) le r h = calling_near o (anys (params source q) (Loose ∷ rests (suc (params source q)) ms)) todo le r.1 h.1
+      calling_near o ms (piece.BindMadeNow c q ∷ todo) le r h = calling_near o (anys (params source q) (Loose ∷ rests (suc (params source q)) (rest ms))) todo le r.1 h.1
+      calling_near o ms (piece.ClusterNow ∷ todo) le r h = calling_near o (h.0 ∷ ms) todo le r.1 h.2
+      calling_near o ms (piece.ProcessorNow ∷ todo) le r h = calling_near o (h.0 ∷ rest ms) todo le r.1 h.2
+      calling_near o ms (piece.Branch a b ∷ todo) le r h = calm_calling todo h.1
+      calling_near o ms (piece.ChooseNow cs ∷ todo) le r h = calm_calling todo h.1
+      calling_near o ms (piece.Exit w ∷ todo) le r h = calm_calling todo h.0
+      calling_near o ms (piece.Unwind ∷ todo) le r h = calm_calling todo h.0
+      calling_near o ms (piece.Rest ss ∷ todo) le r h = calm_calling todo h.0.1
+      calling_near o ms (piece.InLoop order t e b ∷ todo) le r h = calm_calling todo h.0.1
+      calling_near o ms (piece.InWhole ∷ todo) le r h = calling_near o [] todo le r h.1
+      calling_near o ms (piece.Clean c ∷ todo) le r h = calm_calling todo h.0.1
+      calling_near o ms (piece.FillNow n b d ∷ todo) le r h = calm_calling todo h.0.2
+      calling_near o ms (piece.Sweep e ∷ todo) le r h = calm_calling todo h.0.1
+      calling_near o ms (piece.Part c ∷ todo) le r h = calm_calling todo h.0.1
+      calling_near o ms (piece.Guard hs ∷ todo) le r h = calm_calling todo h.0.1
+      calling_near o ms (piece.Finish ∷ todo) le r h = calling_near o [] todo le r h.1
+      calling_near o ms (piece.FinishCoroutine ∷ todo) le r h = calling_near o [] todo le r h.1
+      calling_near o ms (piece.CallOnNow q ∷ todo) le r h = (called_near o todo le r.1, calling_near o (after source (piece.CallOnNow q) ms) todo le r.1 h.1)
+      calling_near o ms (piece.CallUnwrittenNow q ∷ todo) le r h = (called_near o todo le r.1, calling_near o (after source (piece.CallUnwrittenNow q) ms) todo le r.1 h.1)
+      calling_near o ms (p ∷ todo) le r h = calling_near o (after source p ms) todo le r.1 h.1
+
   -- so it is of all activations that wait, before one that keeps to rooms behind theirs
 
   module _ (makes : ℕ → Bool) (source : Source) where
-    pub near_all : (k frame : ℕ) (control : List Todo) (v : Option Visited) (older : List Active) (n : Exec) (cs : List Active) → ((x : ℕ) → SomeTo Z (From x) control → x ≤ k) → OverAll Z control frame v older cs → AllWait (Runs makes source) (Waits makes source) n cs → IsNear frame cs k
+    pub near_all : (k frame : ℕ) (control : List Todo) (v : Option Visited) (older : List Active) (n : Exec) (cs : List Active) → ((x : ℕ) → SomeTo Z (From x) control → x ≤ k) → OverAll Z control frame v older cs → AllWait (Runs Z makes source) (Waits Z makes source) n cs → IsNear Z frame cs k
     near_all k frame control v older n [] f h w = tt
     near_all k frame control v older n (c ∷ cs) f h w = (here, near_all k frame control v older n cs f h.1 w.1)
       where
-        here : c.frame ≡ frame → Pends (IsBefore (address (Slot k ∷ []))) c.control × EachNext (IsNearer (address (Slot k ∷ []))) c.control
+        here : c.frame ≡ frame → Pends (IsBefore (address (Slot k ∷ []))) c.control × EachNext (IsNearer (address (Slot k ∷ []))) c.control × Calling (EndsBefore Z (address (Slot k ∷ []))) c.control
         here e =
             let x : ℕ = h.0.0 in
             let room : Room = h.0.1.0 in
             let up : room.high ≤ x = h.0.1.1 in
             let le : x ≤ k = f x (h.0.2 (sym e)) in
             let high : room.high ≤ k = omega (arith, up, le) in
-            (pends_near k makes source (IsNear c.frame cs) w.0.made room (Any ∷ w.0.marks) c.control high h.0.1.2 w.0.ok, each_near k room c.control high h.0.1.2)
+            (pends_near k makes source (IsNear Z c.frame cs) w.0.made room (Any ∷ w.0.marks) c.control high h.0.1.2 w.0.ok, each_near k room c.control high h.0.1.2, calling_near k makes source (IsNear Z c.frame cs) w.0.made room (Any ∷ w.0.marks) c.control high h.0.1.2 w.0.ok)
 
   -- in what is left of a block, and in hidden cells
 

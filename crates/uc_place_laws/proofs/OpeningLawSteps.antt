@@ -8,8 +8,8 @@ use Rattle.uc_machine.specs.Quiet as quiet
 use Rattle.uc_machine.specs.Pieces as piece
 use Rattle.uc_machine.specs.Pieces.{Value, Todo, State, top}
 use Rattle.uc_state_laws.specs.Counted.{params, CountedRoutine, CountedSource}
-use Rattle.uc_place_laws.specs.Opened.{ArePaired, Builds, Before, Declares, OpenedRoutine, OpenedSource}
-use Rattle.uc_place_laws.specs.Called.{variable, Mark, Any, At, Holds, rests, CalledAt, CalledBy, Placed, after, CodeRoutine, Ok, AtRest, AtBuild, AtDrop, Stands, OnWay}
+use Rattle.uc_place_laws.specs.Opened.{ArePaired, Spans, Builds, Before, Declares, OpenedRoutine, OpenedSource}
+use Rattle.uc_place_laws.specs.Called.{variable, Mark, Any, At, Holds, rest, rests, Every, CalledAt, CalledBy, Placed, after, CodeRoutine, Ok, AtRest, AtBuild, AtDrop, Stands, OnWay}
 use Rattle.uc_place_laws.specs.CalledStates.{RunsNow}
 use Rattle.uc_place_laws.specs.OpeningLaws.{Awaited, NoneAwaited, CallsAt, AwaitedRest, TailAt, LawSteps, LawCalled}
 use Rattle.uc_place_laws.proofs.OpeningMarks.{holds_drop, opens_more, opens_any}
@@ -78,29 +78,49 @@ module _ (g : Program) (source : Source) where
   eval_tail ms e todo (inr (inl h)) = drop_by (Builds g e) todo h
   eval_tail ms e todo (inr (inr h)) = placed_tail ms e todo h
 
+  -- nor once the line of a statement is left
+
+  drop_behind : (P : ℕ → ℕ → Type 0) (todo : List Todo) → AtDrop g source P todo → NoneAwaited (piece.DropNow ∷ todo)
+  drop_behind P (piece.DropNow ∷ (piece.Within line ∷ todo)) h = tt
+  drop_behind P todo h = absurd h
+
+  placed_behind : (ms : List Mark) (e : Expr) (todo : List Todo) → Placed e (λ k. Ok g source (At k ∷ ms) todo) → NoneAwaited (piece.DropNow ∷ todo)
+  placed_behind ms (src.Variable k) todo h = none_behind (At k ∷ ms) todo h
+  placed_behind ms e todo h = absurd h
+
+  eval_behind : (ms : List Mark) (e : Expr) (todo : List Todo) → Ok g source (Any ∷ ms) todo ⊎ (AtDrop g source (Builds g e) todo ⊎ Placed e (λ k. Ok g source (At k ∷ ms) todo)) → NoneAwaited (piece.DropNow ∷ todo)
+  eval_behind ms e todo (inl h) = none_behind (Any ∷ ms) todo h
+  eval_behind ms e todo (inr (inl h)) = drop_behind (Builds g e) todo h
+  eval_behind ms e todo (inr (inr h)) = placed_behind ms e todo h
+
   tail_at : (ms : List Mark) (l : List Todo) → Ok g source ms l → TailAt g l
   tail_at ms [] h = tt
   tail_at ms (piece.Do a ∷ todo) h = done_tail a todo h.1
-  tail_at ms (piece.Eval e ∷ todo) h = eval_tail ms e todo h.1
+  tail_at ms (piece.Eval e ∷ todo) h = (eval_tail ms e todo h.1, eval_behind ms e todo h.1)
   tail_at ms (piece.CallOnNow r ∷ todo) h = tt
   tail_at ms (piece.CallUnwrittenNow r ∷ todo) h = tt
+  tail_at ms (piece.DropNow ∷ todo) h = (none_awaited (rest ms) todo h.1, none_rest (rest ms) todo h.1)
   tail_at ms (piece.Within line ∷ todo) h = tt
   tail_at ms (piece.Exit w ∷ todo) h = tt
   tail_at ms (piece.Unwind ∷ todo) h = tt
-  tail_at ms (x ∷ todo) h = (none_awaited (after source x ms) todo h.1, none_rest (after source x ms) todo h.1)
+  tail_at ms (x ∷ todo) h = (none_awaited (after source x ms) todo h.1, none_rest (after source x ms) todo h.1, none_behind (after source x ms) todo h.1)
 
   stands_tail : (l : List Todo) → Stands g source l → TailAt g l
-  stands_tail (piece.Rest ss ∷ todo) h = (none_awaited [] todo h.1, none_rest [] todo h.1)
+  stands_tail (piece.Rest ss ∷ todo) h = (none_awaited [] todo h.1, none_rest [] todo h.1, none_behind [] todo h.1)
   stands_tail (piece.Within line ∷ todo) h = tt
   stands_tail (piece.DropNow ∷ (piece.Within line ∷ todo)) h = (tt, tt)
   stands_tail l h = absurd h
 
+  way_behind : (P : ℕ → ℕ → Type 0) (line : ℕ) (todo : List Todo) → AtBuild g source P todo → NoneAwaited (piece.DropNow ∷ (piece.Within line ∷ todo))
+  way_behind P line (piece.Rest ss ∷ todo) h = h.0.0
+  way_behind P line todo h = absurd h
+
   way_tail : (l : List Todo) → OnWay g source l → TailAt g l
-  way_tail (piece.Variables (x ∷ []) ∷ (piece.Within line ∷ todo)) h = (tt, tt)
-  way_tail (piece.ClearNow k m ∷ (piece.Variables [] ∷ (piece.Within line ∷ todo))) h = (tt, tt)
-  way_tail (piece.Variables [] ∷ (piece.Within line ∷ todo)) h = (tt, tt)
+  way_tail (piece.Variables (x ∷ []) ∷ (piece.Within line ∷ todo)) h = (tt, tt, way_behind (λ d k. (x.cell ≡ k) × Spans g d x.cells) line todo h.1)
+  way_tail (piece.ClearNow k m ∷ (piece.Variables [] ∷ (piece.Within line ∷ todo))) h = (tt, tt, tt)
+  way_tail (piece.Variables [] ∷ (piece.Within line ∷ todo)) h = (tt, tt, way_behind Every line todo h)
   way_tail (piece.Within line ∷ todo) h = tt
-  way_tail (piece.Rest ss ∷ todo) h = (none_awaited [] todo h.1, none_rest [] todo h.1)
+  way_tail (piece.Rest ss ∷ todo) h = (none_awaited [] todo h.1, none_rest [] todo h.1, none_behind [] todo h.1)
   way_tail l h = absurd h
 
   module _ (s : State) where

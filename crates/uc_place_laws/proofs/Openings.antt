@@ -1,17 +1,18 @@
 -- In the source of every program the scope of an object that is a variable stands behind the statement that calls its constructor there.
 use Rattle.std.proofs.Common.{◌≡◌, ℕ, zero, suc, ◌+◌, ◌++◌, Bool, true, false, List, [], ◌∷◌, length, Option, Some, None, refl, sym, ap}
-use Rattle.std.specs.Prelude.{slice_get}
+use Rattle.std.specs.Prelude.{slice_get, if◌then◌else◌}
 use Rattle.uc_tree.specs.declared.kinds.Base.{Base}
 use Rattle.uc_tree.specs.declared.kinds.Kind.{Kind}
 use Rattle.uc_tree.specs.declared.kinds.Kind.TheVariants as kind
 use Rattle.uc_tree.specs.declared.kinds.Role.{Role}
 use Rattle.uc_tree.specs.declared.kinds.Role.TheVariants as role
+use Rattle.uc_tree.specs.declared.pos.Pos.{Pos}
 use Rattle.uc_tree.specs.Cells.{declared_cells, leading_cells}
 use Rattle.uc_tree.specs.Statements as stmt
 use Rattle.uc_tree.specs.Statements.{Declarator}
 use Rattle.uc_tree.specs.Programs as whole
 use Rattle.uc_tree.specs.Programs.{Program}
-use Rattle.uc_tree.specs.Gathered.{gathered_all}
+use Rattle.uc_tree.specs.Gathered.{gathered, gathered_all, gathered_maybe, gathered_handlers, gathered_clauses}
 use Rattle.uc_tree.specs.Numbering.{Defined, is_mutex, own_sites, own_texts, routines_of}
 use Rattle.uc_tree.specs.Objects.{Making, APlain, AMutex, ACluster, AProcessor, making, ClassField, fields_of, has_execution, class_at, class_shape, shape_of, written_at, Unwritten, unwritten_of}
 use Rattle.uc_tree.specs.Source as src
@@ -20,6 +21,8 @@ use Rattle.uc_resolve.specs.Standings as tree
 use Rattle.uc_resolve.specs.Standings.{Meant}
 use Rattle.uc_resolve.specs.Resolve as meaning
 use Rattle.uc_resolve.specs.Resolve.{Scope, source_of}
+use Rattle.uc_state_laws.specs.Layout.{references, started_references, own_references, NoReferences, AreNoReferences}
+use Rattle.uc_state_laws.proofs.Statements.{none_left, none_right}
 use Rattle.uc_place_laws.specs.Opened.{role_number, OfPlain, OpensNone, BuildsNone, Declares, Builds, Before, OpenedStmt, OpenedStmts, OpenedHandlers, OpenedClauses, OpenedRoutine}
 use Rattle.uc_place_laws.specs.OpeningLaws.{LawOpened}
 use Rattle.uc_place_laws.proofs.OpeningMarks.{opens_any, builds_any}
@@ -34,10 +37,10 @@ module _ (p : Program) (b : Base) (i k : ℕ) (made : making p b ≡ Some (APlai
   paired (Some r) (Some d) e f = (refl, record { class = i; base = b; made = made; builds = ap (role_number p i role.Constructor) (sym e); ends = ap (role_number p i role.Destructor) (sym f) })
 
 -- and what declares it
-module _ (p : Program) (b : Base) (i k line : ℕ) (made : making p b ≡ Some (APlain i)) (x : Declarator) (single : meaning.length_of p x x.len ≡ None) where
+module _ (p : Program) (b : Base) (i k line : ℕ) (made : making p b ≡ Some (APlain i)) (x : Declarator) (single : meaning.length_of p x x.len ≡ None) (whole : AreNoReferences p → x.by_ref ≡ false) where
   spans : (y : Option ℕ) → written_at p i role.Destructor ≡ y → OfPlain (Declares p (src.Declare line (record { cell = k; cells = declared_cells p b x; value = None } ∷ []))) (src.Destroys (meaning.called_by p i role.Destructor (src.Variable k) [] y))
-  spans None f = (refl, refl, record { class = i; base = b; made = made; ended = ap (role_number p i role.Destructor) (sym f); declarator = x; single = single; cells = refl })
-  spans (Some d) f = (refl, refl, record { class = i; base = b; made = made; ended = ap (role_number p i role.Destructor) (sym f); declarator = x; single = single; cells = refl })
+  spans None f = (refl, refl, record { class = i; base = b; made = made; ended = ap (role_number p i role.Destructor) (sym f); declarator = x; single = single; whole = whole; cells = refl })
+  spans (Some d) f = (refl, refl, record { class = i; base = b; made = made; ended = ap (role_number p i role.Destructor) (sym f); declarator = x; single = single; whole = whole; cells = refl })
 
 module _ (p : Program) where
   by_number_plain : (P : ℕ → ℕ → Type 0) (i : ℕ) (object : Expr) (r : Option ℕ) → OfPlain P (src.Destroys (meaning.ended_by p i object r))
@@ -51,12 +54,36 @@ module _ (p : Program) where
   opens line b AProcessor None k args e = tt
   opens line b m (Some n) k args e = tt
 
-  declares : (line : ℕ) (b : Base) (m : Making) (x : Declarator) (len : Option ℕ) (k : ℕ) → making p b ≡ Some m → meaning.length_of p x x.len ≡ len → OfPlain (Declares p (src.Declare line (record { cell = k; cells = declared_cells p b x; value = None } ∷ []))) (meaning.clean_up p m len (src.Variable k))
-  declares line b (APlain i) x None k e l = spans p b i k line e x l (written_at p i role.Destructor) refl
-  declares line b (AMutex i) x None k e l = by_number_plain _ i (src.Load (src.Variable k)) (written_at p i role.Destructor)
-  declares line b ACluster x None k e l = tt
-  declares line b AProcessor x None k e l = tt
-  declares line b m x (Some n) k e l = tt
+  -- a list of references, in a program that declares no variable to be one
+  abbrev None_of : List Pos → Type 0
+  None_of xs = AreNoReferences p → xs ≡ []
+
+  none_first : (xs ys : List Pos) → None_of (xs ++ ys) → None_of xs
+  none_first xs ys h = λ n. none_left xs ys (h n)
+
+  none_next : (xs ys : List Pos) → None_of (xs ++ ys) → None_of ys
+  none_next xs ys h = λ n. none_right xs ys (h n)
+
+  first_whole : (d : Declarator) (ds : List Declarator) → references (d ∷ ds) ≡ [] → d.by_ref ≡ false
+  first_whole d ds h = by d.by_ref h
+    where
+      by : (b : Bool) → (if b then d.pos ∷ references ds else references ds) ≡ [] → b ≡ false
+      by true h = absurd (cc)
+      by false h = refl
+
+  others_whole : (d : Declarator) (ds : List Declarator) → references (d ∷ ds) ≡ [] → references ds ≡ []
+  others_whole d ds h = by d.by_ref h
+    where
+      by : (b : Bool) → (if b then d.pos ∷ references ds else references ds) ≡ [] → references ds ≡ []
+      by true h = absurd (cc)
+      by false h = h
+
+  declares : (line : ℕ) (b : Base) (m : Making) (x : Declarator) (len : Option ℕ) (k : ℕ) → making p b ≡ Some m → meaning.length_of p x x.len ≡ len → (AreNoReferences p → x.by_ref ≡ false) → OfPlain (Declares p (src.Declare line (record { cell = k; cells = declared_cells p b x; value = None } ∷ []))) (meaning.clean_up p m len (src.Variable k))
+  declares line b (APlain i) x None k e l w = spans p b i k line e x l w (written_at p i role.Destructor) refl
+  declares line b (AMutex i) x None k e l w = by_number_plain _ i (src.Load (src.Variable k)) (written_at p i role.Destructor)
+  declares line b ACluster x None k e l w = tt
+  declares line b AProcessor x None k e l w = tt
+  declares line b m x (Some n) k e l w = tt
 
   open_build : (line : ℕ) (m : Making) (len : Option ℕ) (place : Expr) (args : List Meant) → OpenedStmt p (meaning.build p line m len place args)
   open_build line m None place args = tt
@@ -83,68 +110,68 @@ module _ (p : Program) where
 
   -- declarations
 
-  objects : (m : Making) (line : ℕ) (b : Base) (ds : List Declarator) (s : Scope) (rest : Stmts) → making p b ≡ Some m → Open rest → Open (meaning.objects_scoped p m line b ds s rest)
-  objects m line b [] s rest e h = h
-  objects m line b (d ∷ ds) s rest e h =
+  objects : (m : Making) (line : ℕ) (b : Base) (ds : List Declarator) (s : Scope) (rest : Stmts) → making p b ≡ Some m → None_of (references ds) → Open rest → Open (meaning.objects_scoped p m line b ds s rest)
+  objects m line b [] s rest e g h = h
+  objects m line b (d ∷ ds) s rest e g h =
       let len : Option ℕ = meaning.length_of p d d.len in
-      (tt, (tt, tt, (open_build line m len (src.Variable s.cells) (meaning.start_args p s d.start), opens line b m len s.cells (meaning.start_args p s d.start) e, objects m line b ds (meaning.with_declared p s b d) rest e h, tt), declares line b m d len s.cells e refl), tt)
+      (tt, (tt, tt, (open_build line m len (src.Variable s.cells) (meaning.start_args p s d.start), opens line b m len s.cells (meaning.start_args p s d.start) e, objects m line b ds (meaning.with_declared p s b d) rest e (λ n. others_whole d ds (g n)) h, tt), declares line b m d len s.cells e refl (λ n. first_whole d ds (g n))), tt)
 
-  declared_then : (b : Base) (m : Option Making) (line : ℕ) (ds : List Declarator) (s : Scope) (rest : Stmts) → making p b ≡ m → Open rest → Open (meaning.declared_then p m line b ds s rest)
-  declared_then b None line ds s rest e h = prepend (src.Declare line (meaning.all_declared p s b ds)) rest tt h
-  declared_then b (Some m) line ds s rest e h = objects m line b ds s rest e h
+  declared_then : (b : Base) (m : Option Making) (line : ℕ) (ds : List Declarator) (s : Scope) (rest : Stmts) → making p b ≡ m → None_of (references ds) → Open rest → Open (meaning.declared_then p m line b ds s rest)
+  declared_then b None line ds s rest e g h = prepend (src.Declare line (meaning.all_declared p s b ds)) rest tt h
+  declared_then b (Some m) line ds s rest e g h = objects m line b ds s rest e g h
 
-  declared_alone : (b : Base) (m : Option Making) (line : ℕ) (ds : List Declarator) (s : Scope) → making p b ≡ m → OpenedStmt p (meaning.declared_alone p m line b ds s)
-  declared_alone b None line ds s e = tt
-  declared_alone b (Some m) line ds s e = objects m line b ds s src.Nil e (tt, tt, tt)
+  declared_alone : (b : Base) (m : Option Making) (line : ℕ) (ds : List Declarator) (s : Scope) → making p b ≡ m → None_of (references ds) → OpenedStmt p (meaning.declared_alone p m line b ds s)
+  declared_alone b None line ds s e g = tt
+  declared_alone b (Some m) line ds s e g = objects m line b ds s src.Nil e g (tt, tt, tt)
 
-  start_then : (line : ℕ) (x : stmt.ForStart) (s : Scope) (rest : Stmts) → Open rest → Open (meaning.start_then p line x s rest)
-  start_then line stmt.NoFor s rest h = prepend (src.Skip line) rest tt h
-  start_then line (stmt.ForDeclare place b ds) s rest h = declared_then b (making p b) line ds s rest refl h
-  start_then line (stmt.ForEvaluate e) s rest h = prepend (src.Evaluate line (tree.meant (meaning.context_at p s) e).expr) rest tt h
+  start_then : (line : ℕ) (x : stmt.ForStart) (s : Scope) (rest : Stmts) → None_of (started_references x) → Open rest → Open (meaning.start_then p line x s rest)
+  start_then line stmt.NoFor s rest g h = prepend (src.Skip line) rest tt h
+  start_then line (stmt.ForDeclare place b ds) s rest g h = declared_then b (making p b) line ds s rest refl g h
+  start_then line (stmt.ForEvaluate e) s rest g h = prepend (src.Evaluate line (tree.meant (meaning.context_at p s) e).expr) rest tt h
 
-  stmt_then : (t : stmt.Stmt) (s : Scope) (a : Stmt) (rest : Stmts) → OpenedStmt p a → Open rest → Open (meaning.stmt_then p t s a rest)
-  stmt_then (stmt.Declare place b ds) s a rest n h = declared_then b (making p b) place.line ds s rest refl h
-  stmt_then t s a rest n h = prepend a rest n h
+  stmt_then : (t : stmt.Stmt) (s : Scope) (a : Stmt) (rest : Stmts) → None_of (gathered own_references t) → OpenedStmt p a → Open rest → Open (meaning.stmt_then p t s a rest)
+  stmt_then (stmt.Declare place b ds) s a rest g n h = declared_then b (making p b) place.line ds s rest refl g h
+  stmt_then t s a rest g n h = prepend a rest n h
 
   mutual
-    one : (t : stmt.Stmt) (s : Scope) → OpenedStmt p (meaning.stmt_meant p t s)
-    one (stmt.Block place body) s = all body s
-    one (stmt.Declare place b ds) s = declared_alone b (making p b) place.line ds s refl
-    one (stmt.If place e chosen other) s = (one chosen s, maybe other (meaning.scope_past p chosen s))
-    one (stmt.While place e body) s = one body s
-    one (stmt.Do place body e) s = one body s
-    one (stmt.For place x e f body) s =
+    one : (t : stmt.Stmt) (s : Scope) → None_of (gathered own_references t) → OpenedStmt p (meaning.stmt_meant p t s)
+    one (stmt.Block place body) s g = all body s g
+    one (stmt.Declare place b ds) s g = declared_alone b (making p b) place.line ds s refl g
+    one (stmt.If place e chosen other) s g = (one chosen s (none_first (gathered own_references chosen) (gathered_maybe own_references other) g), maybe other (meaning.scope_past p chosen s) (none_next (gathered own_references chosen) (gathered_maybe own_references other) g))
+    one (stmt.While place e body) s g = one body s g
+    one (stmt.Do place body e) s g = one body s g
+    one (stmt.For place x e f body) s g =
         let inner : Scope = meaning.for_scope p x s in
-        start_then place.line x s (src.Then (src.Loop place.line (meaning.order_of p e) (meaning.test_of p inner e) (meaning.step_of p inner f) (meaning.stmt_meant p body inner)) src.Nil) (prepend (src.Loop place.line (meaning.order_of p e) (meaning.test_of p inner e) (meaning.step_of p inner f) (meaning.stmt_meant p body inner)) src.Nil (one body inner) (tt, tt, tt))
-    one (stmt.Try place brace body hs) s = ((tt, (all body s, tt, tt, tt), tt), handlers hs (meaning.scope_past_all p body s))
-    one (stmt.Enable place events body) s = one body (meaning.within_events p s)
-    one (stmt.Disable place events body) s = one body (meaning.within_events p s)
-    one (stmt.Accept place cs other) s =
-        clauses cs (meaning.within_accept p s) _ (otherwise other (meaning.scope_past_clauses p cs (meaning.within_accept p s)))
-    one t s = tt
+        start_then place.line x s (src.Then (src.Loop place.line (meaning.order_of p e) (meaning.test_of p inner e) (meaning.step_of p inner f) (meaning.stmt_meant p body inner)) src.Nil) (none_first (started_references x) (gathered own_references body) g) (prepend (src.Loop place.line (meaning.order_of p e) (meaning.test_of p inner e) (meaning.step_of p inner f) (meaning.stmt_meant p body inner)) src.Nil (one body inner (none_next (started_references x) (gathered own_references body) g)) (tt, tt, tt))
+    one (stmt.Try place brace body hs) s g = ((tt, (all body s (none_first (gathered_all own_references body) (gathered_handlers own_references hs) g), tt, tt, tt), tt), handlers hs (meaning.scope_past_all p body s) (none_next (gathered_all own_references body) (gathered_handlers own_references hs) g))
+    one (stmt.Enable place events body) s g = one body (meaning.within_events p s) g
+    one (stmt.Disable place events body) s g = one body (meaning.within_events p s) g
+    one (stmt.Accept place cs other) s g =
+        clauses cs (meaning.within_accept p s) _ (none_first (gathered_clauses own_references cs) (gathered_maybe own_references other) g) (otherwise other (meaning.scope_past_clauses p cs (meaning.within_accept p s)) (none_next (gathered_clauses own_references cs) (gathered_maybe own_references other) g))
+    one t s g = tt
 
-    clauses : (cs : stmt.Clauses) (s : Scope) (other : Clauses) → OpenedClauses p other → OpenedClauses p (meaning.clauses_meant p cs s other)
-    clauses stmt.NoClauses s other h = h
-    clauses (stmt.MoreClauses (stmt.Accepts place guard members body) rest) s other h = (one body s, clauses rest (meaning.scope_past p body s) other h)
+    clauses : (cs : stmt.Clauses) (s : Scope) (other : Clauses) → None_of (gathered_clauses own_references cs) → OpenedClauses p other → OpenedClauses p (meaning.clauses_meant p cs s other)
+    clauses stmt.NoClauses s other g h = h
+    clauses (stmt.MoreClauses (stmt.Accepts place guard members body) rest) s other g h = (one body s (none_first (gathered own_references body) (gathered_clauses own_references rest) g), clauses rest (meaning.scope_past p body s) other (none_next (gathered own_references body) (gathered_clauses own_references rest) g) h)
 
-    otherwise : (t : stmt.MaybeStmt) (s : Scope) → OpenedClauses p (meaning.else_meant p t s)
-    otherwise stmt.NoStmt s = tt
-    otherwise (stmt.OneStmt body) s = one body s
+    otherwise : (t : stmt.MaybeStmt) (s : Scope) → None_of (gathered_maybe own_references t) → OpenedClauses p (meaning.else_meant p t s)
+    otherwise stmt.NoStmt s g = tt
+    otherwise (stmt.OneStmt body) s g = one body s g
 
-    handlers : (hs : stmt.Handlers) (s : Scope) → OpenedHandlers p (meaning.handlers_meant p hs s)
-    handlers stmt.NoHandlers s = tt
-    handlers (stmt.MoreHandlers (stmt.Handles place kind event param brace body) rest) s =
+    handlers : (hs : stmt.Handlers) (s : Scope) → None_of (gathered_handlers own_references hs) → OpenedHandlers p (meaning.handlers_meant p hs s)
+    handlers stmt.NoHandlers s g = tt
+    handlers (stmt.MoreHandlers (stmt.Handles place kind event param brace body) rest) s g =
         let x : stmt.Handler = stmt.Handles place kind event param brace body in
-        (all body (meaning.in_handler p x s), handlers rest (meaning.scope_past_handler p x s))
+        (all body (meaning.in_handler p x s) (none_first (gathered_all own_references body) (gathered_handlers own_references rest) g), handlers rest (meaning.scope_past_handler p x s) (none_next (gathered_all own_references body) (gathered_handlers own_references rest) g))
 
-    maybe : (t : stmt.MaybeStmt) (s : Scope) → OpenedStmt p (meaning.maybe_meant p t s)
-    maybe stmt.NoStmt s = tt
-    maybe (stmt.OneStmt body) s = one body s
+    maybe : (t : stmt.MaybeStmt) (s : Scope) → None_of (gathered_maybe own_references t) → OpenedStmt p (meaning.maybe_meant p t s)
+    maybe stmt.NoStmt s g = tt
+    maybe (stmt.OneStmt body) s g = one body s g
 
-    all : (ts : stmt.Stmts) (s : Scope) → Open (meaning.stmts_meant p ts s)
-    all stmt.NoStmts s = (tt, tt, tt)
-    all (stmt.MoreStmts t ts) s =
-        stmt_then t s (meaning.stmt_meant p t s) (meaning.stmts_meant p ts (meaning.scope_after p t s)) (one t s) (all ts (meaning.scope_after p t s))
+    all : (ts : stmt.Stmts) (s : Scope) → None_of (gathered_all own_references ts) → Open (meaning.stmts_meant p ts s)
+    all stmt.NoStmts s g = (tt, tt, tt)
+    all (stmt.MoreStmts t ts) s g =
+        stmt_then t s (meaning.stmt_meant p t s) (meaning.stmts_meant p ts (meaning.scope_after p t s)) (none_first (gathered own_references t) (gathered_all own_references ts) g) (one t s (none_first (gathered own_references t) (gathered_all own_references ts) g)) (all ts (meaning.scope_after p t s) (none_next (gathered own_references t) (gathered_all own_references ts) g))
 
   -- fields
 
@@ -230,12 +257,12 @@ module _ (p : Program) where
   plain_body false r body h = h
   plain_body true r body h = (tt, prepend (src.Block r.brace.line body) (meaning.owing p r.brace.line (meaning.value_purpose p r.sig.ret)) h (owing r.brace.line (meaning.value_purpose p r.sig.ret)), tt)
 
-  body_by : (role : Role) (r : whole.Routine) (s : Scope) → Open (meaning.body_by p role r s)
-  body_by role.Plain r s = plain_body (meaning.has_number_in p (meaning.class_by p s.class) r.sig) r (meaning.stmts_meant p r.body s) (all r.body s)
-  body_by role.Constructor r s =
-      construction (meaning.class_by p s.class) (meaning.place_or_zero p s.class) r.inits s _ (prepend (src.Whole r.brace.line (meaning.stmts_meant p r.body s)) _ (all r.body s) (construction_ends (meaning.class_by p s.class) (meaning.place_or_zero p s.class)))
-  body_by role.Destructor r s =
-      destruction (meaning.class_by p s.class) (meaning.place_or_zero p s.class) (src.Then (src.Whole r.brace.line (meaning.stmts_meant p r.body s)) src.Nil) (prepend (src.Whole r.brace.line (meaning.stmts_meant p r.body s)) src.Nil (all r.body s) (tt, tt, tt))
+  body_by : (role : Role) (r : whole.Routine) (s : Scope) → None_of (gathered_all own_references r.body) → Open (meaning.body_by p role r s)
+  body_by role.Plain r s g = plain_body (meaning.has_number_in p (meaning.class_by p s.class) r.sig) r (meaning.stmts_meant p r.body s) (all r.body s g)
+  body_by role.Constructor r s g =
+      construction (meaning.class_by p s.class) (meaning.place_or_zero p s.class) r.inits s _ (prepend (src.Whole r.brace.line (meaning.stmts_meant p r.body s)) _ (all r.body s g) (construction_ends (meaning.class_by p s.class) (meaning.place_or_zero p s.class)))
+  body_by role.Destructor r s g =
+      destruction (meaning.class_by p s.class) (meaning.place_or_zero p s.class) (src.Then (src.Whole r.brace.line (meaning.stmts_meant p r.body s)) src.Nil) (prepend (src.Whole r.brace.line (meaning.stmts_meant p r.body s)) src.Nil (all r.body s g) (tt, tt, tt))
 
   unwritten_body : (x : Role) (i : ℕ) → Open (meaning.unwritten_body p x i)
   unwritten_body role.Plain i = (tt, tt, tt)
@@ -257,10 +284,10 @@ module _ (p : Program) where
   by_number (r ∷ rs) h zero = h.0
   by_number (r ∷ rs) h (suc n) = by_number rs h.1 n
 
-  written : (ds : List Defined) (number texts sites : ℕ) → AllOpen (meaning.routines_meant p ds number texts sites)
-  written [] number texts sites = tt
-  written (d ∷ ds) number texts sites =
-      (body_by d.routine.sig.role d.routine (meaning.routine_scope p d.routine (meaning.place_by p d) number texts sites), written ds (number + 1) (texts + length (gathered_all own_texts d.routine.body)) (sites + length (gathered_all (own_sites d.class d.number) d.routine.body)))
+  written : (ds : List Defined) (number texts sites : ℕ) → (AreNoReferences p → NoReferences ds) → AllOpen (meaning.routines_meant p ds number texts sites)
+  written [] number texts sites g = tt
+  written (d ∷ ds) number texts sites g =
+      (body_by d.routine.sig.role d.routine (meaning.routine_scope p d.routine (meaning.place_by p d) number texts sites) (λ n. (g n).0), written ds (number + 1) (texts + length (gathered_all own_texts d.routine.body)) (sites + length (gathered_all (own_sites d.class d.number) d.routine.body)) (λ n. (g n).1))
 
   unwritten : (us : List Unwritten) → AllOpen (meaning.all_unwritten p us)
   unwritten [] = tt
@@ -268,4 +295,4 @@ module _ (p : Program) where
 
 pub law_opened : LawOpened
 law_opened p n =
-    by_number p (source_of p).routines (both_lists p (meaning.routines_meant p (routines_of p) 0 0 0) (meaning.all_unwritten p (unwritten_of p)) (written p (routines_of p) 0 0 0) (unwritten p (unwritten_of p))) n
+    by_number p (source_of p).routines (both_lists p (meaning.routines_meant p (routines_of p) 0 0 0) (meaning.all_unwritten p (unwritten_of p)) (written p (routines_of p) 0 0 0 (λ n. n)) (unwritten p (unwritten_of p))) n

@@ -38,22 +38,22 @@ use Rattle.uc_place_laws.proofs.AsideWorlds.{code_of, aside_in}
 
 -- what holds along rides
 record Stands (p : Program) (s : State) : Type 0 where
-  aside : AsideState (makes_of p) (source_of p) s
+  aside : AsideState (Sized p) (makes_of p) (source_of p) s
   stack : StackState (Sized p) s
 
 module _ (p : Program) (in_rooms : SourceIn (Sized p) (source_of p)) (known : (n : ℕ) → CodeRoutine (makes_of p) (source_of p) (makes_of p n) (slice_get (source_of p).routines n)) where
   puts : (s : State) → Stands p s → Puts (source_of p) s
-  puts s n = law_puts (makes_of p) (source_of p) s n.aside
+  puts s n = law_puts p (makes_of p) (source_of p) s n.aside
 
   goes : (s t : State) → quiet.quiet (source_of p) s ≡ Goes t → Stands p s → Stands p t
   goes s t e n = record {
-    aside = subst (AsideStep (makes_of p) (source_of p)) e (walk (Sized p) (makes_of p) (source_of p) known s n.aside n.stack);
+    aside = subst (AsideStep (Sized p) (makes_of p) (source_of p)) e (walk (Sized p) (makes_of p) (source_of p) known s n.aside n.stack);
     stack = subst (StackStep (Sized p)) e (walk_stack (Sized p) (source_of p) in_rooms s n.stack);
   }
 
   ticks : (s t : State) → quiet.quiet (source_of p) s ≡ Ticks t → Stands p s → Stands p t
   ticks s t e n = record {
-    aside = subst (AsideStep (makes_of p) (source_of p)) e (walk (Sized p) (makes_of p) (source_of p) known s n.aside n.stack);
+    aside = subst (AsideStep (Sized p) (makes_of p) (source_of p)) e (walk (Sized p) (makes_of p) (source_of p) known s n.aside n.stack);
     stack = subst (StackStep (Sized p)) e (walk_stack (Sized p) (source_of p) in_rooms s n.stack);
   }
 
@@ -88,7 +88,7 @@ pub law_runs : LawRuns
 law_runs = record {
   runs = runs;
   leads = λ p formed accepted input opts range j w r f on t s c. led p (law_accepted p accepted) (code_of p formed accepted) c.leads (begins p formed accepted input opts range r f on c.processor t c.given c.runs c.told);
-  comes = λ p formed accepted input opts range j w r f on t s c. law_puts (makes_of p) (source_of p) s (aside_in p formed accepted input opts range j w r f on t s c);
+  comes = λ p formed accepted input opts range j w r f on t s c. law_puts p (makes_of p) (source_of p) s (aside_in p formed accepted input opts range j w r f on t s c);
 }
   where
     runs : (p : Program) → IsFormed p → breaks_of p ≡ [] → (input : List ℕ) (opts : Options) → InRange opts → (j : Journal) (w : World) (r : Runs (source_of p) input opts j w) → RunFits (source_of p) input opts j w r → RunMeets (Puts (source_of p)) (source_of p) input opts j w r

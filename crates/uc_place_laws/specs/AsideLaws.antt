@@ -40,16 +40,16 @@ LawSited = (p : Program) → IsFormed p → breaks_of p ≡ [] → SitedSource (
 -- of any source in which arguments are counted and objects are built so: what is known of operands holds as a task begins, each step of a task
 -- whose activations stay behind one another in their frames keeps it, and each answer of the form that was asked for
 pub record LawSteps : Type 0 where
-  pub begins : (makes : ℕ → Bool) (source : Source) → CountedSource source → SitedSource makes source →
-      (r o : ℕ) → AsideState makes source (first_state (routine_of source r) o)
+  pub begins : (p : Program) (makes : ℕ → Bool) (source : Source) → CountedSource source → SitedSource makes source →
+      (r o : ℕ) → AsideState (Sized p) makes source (first_state (routine_of source r) o)
   pub steps : (p : Program) (makes : ℕ → Bool) (source : Source) → CountedSource source →
-      SitedSource makes source → (s : State) → AsideState makes source s → StackState (Sized p) s →
-      AsideStep makes source (quiet source s)
-  pub told : (makes : ℕ → Bool) (source : Source) (form : Form) (given : Answer) (s : State) →
-      IsForm form given → FindsFor makes source form s.env.exec s.callers s.run →
-      AllWait (Runs makes source) (Waits makes source) s.env.exec s.callers →
-      NamedEnv (Runs makes source) (Waits makes source) s.env →
-      AsideState makes source (answered source given s)
+      SitedSource makes source → (s : State) → AsideState (Sized p) makes source s → StackState (Sized p) s →
+      AsideStep (Sized p) makes source (quiet source s)
+  pub told : (p : Program) (makes : ℕ → Bool) (source : Source) (form : Form) (given : Answer) (s : State) →
+      IsForm form given → FindsFor (Sized p) makes source form s.env.exec s.callers s.run →
+      AllWait (Runs (Sized p) makes source) (Waits (Sized p) makes source) s.env.exec s.callers →
+      NamedEnv (Runs (Sized p) makes source) (Waits (Sized p) makes source) s.env →
+      AsideState (Sized p) makes source (answered source given s)
 
 -- what is bound lies aside of what is still to be bound, also to what is new; so does the object at hand that gets an execution
 abbrev pub PutsAt : Source → List Todo → State → Type 0
@@ -63,4 +63,4 @@ abbrev pub Puts : Source → State → Type 0
 Puts source s = PutsAt source s.run.control s
 
 abbrev pub LawPuts : Type 0
-LawPuts = (makes : ℕ → Bool) (source : Source) (s : State) → AsideState makes source s → Puts source s
+LawPuts = (p : Program) (makes : ℕ → Bool) (source : Source) (s : State) → AsideState (Sized p) makes source s → Puts source s

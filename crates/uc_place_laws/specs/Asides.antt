@@ -16,33 +16,36 @@ use Rattle.uc_state_laws.specs.There.{IsLoose, IsBefore, Pends, EachNext}
 use Rattle.uc_state_laws.specs.Counted.{params, count, CountedExpr, CountedExprs, CountedMaybe, CountedItems, CountedTargets, CountedDeclared, CountedClean, CountedStmt, CountedStmts, CountedHandlers, CountedClauses}
 use Rattle.uc_state_laws.specs.Marked.{operands}
 use Rattle.uc_place_laws.specs.OlderResting.{AllWait, NamedMembers, NamedEnv, NamedState}
+use Rattle.uc_place_laws.specs.Calling.{Calling, NoneCalled, NoneBehind, EndsBefore}
 use Rattle.uc_place_laws.specs.Siting.{Nowhere, OpensAlone, PlainExpr, PlainExprs, PlainMaybe, PlainItems, PlainTargets, PlainDeclared, PlainNew, SitedAt, BuildsAt, Singly, PlainSingle, SitedClean, SitedStmt, SitedStmts, SitedHandlers, SitedClauses}
 
 -- a place that has an address of its own lies before a cell
 abbrev pub IsNearer : ℕ → List Link → Type 0
 IsNearer cell p = address p < LAST_ADDRESS → IsBefore cell p
 
--- the variables that activations have still to bind in the frame of a depth lie before a cell, and so do the elements of arrays that are
--- being filled there
-abbrev pub PendsBefore : ℕ → ℕ → List Active → Type 0
-PendsBefore cell d [] = Unit {0}
-PendsBefore cell d (c ∷ cs) =
-    (c.frame ≡ d → Pends (IsBefore cell) c.control × EachNext (IsNearer cell) c.control) ×
-    PendsBefore cell d cs
+-- `Z d n`: what the routine d destroys has n cells
+module _ (Z : ℕ → ℕ → Type 0) where
+  -- the variables that activations have still to bind in the frame of a depth lie before a cell, and so do the elements of arrays that are
+  -- being filled there, and the objects that are variables whose constructors are still to be called
+  abbrev pub PendsBefore : ℕ → ℕ → List Active → Type 0
+  PendsBefore cell d [] = Unit {0}
+  PendsBefore cell d (c ∷ cs) =
+      (c.frame ≡ d → Pends (IsBefore cell) c.control × EachNext (IsNearer cell) c.control × Calling (EndsBefore Z cell) c.control) ×
+      PendsBefore cell d cs
 
--- a place of the execution n lies aside before these older activations: in a mutex object, or in a frame of this execution, behind all that they
--- have still to bind there; so does what is no place
-abbrev pub OwnerAside : Exec → List Active → Owner → ℕ → Type 0
-OwnerAside n older (Frame m d) cell = (exec_eq m n ≡ true) × PendsBefore cell d older
-OwnerAside n older (Fields o) cell = Unit {0}
+  -- a place of the execution n lies aside before these older activations: in a mutex object, or in a frame of this execution, behind all that they
+  -- have still to bind and to build there; so does what is no place
+  abbrev pub OwnerAside : Exec → List Active → Owner → ℕ → Type 0
+  OwnerAside n older (Frame m d) cell = (exec_eq m n ≡ true) × PendsBefore cell d older
+  OwnerAside n older (Fields o) cell = Unit {0}
 
-abbrev pub LiesAside : Exec → List Active → Value → Type 0
-LiesAside n older (Place o p) = OwnerAside n older o (address p)
-LiesAside n older v = Unit {0}
+  abbrev pub LiesAside : Exec → List Active → Value → Type 0
+  LiesAside n older (Place o p) = OwnerAside n older o (address p)
+  LiesAside n older v = Unit {0}
 
--- so does a variable of the frame of a depth
-abbrev pub IsNear : ℕ → List Active → ℕ → Type 0
-IsNear d older k = PendsBefore (address (Slot k ∷ [])) d older
+  -- so does a variable of the frame of a depth
+  abbrev pub IsNear : ℕ → List Active → ℕ → Type 0
+  IsNear d older k = PendsBefore (address (Slot k ∷ [])) d older
 
 -- what is known of an operand: nothing, that it lies aside, or that it is no place and no execution
 pub data Mark : Type 0 where
@@ -50,15 +53,16 @@ pub data Mark : Type 0 where
   Aside : Mark
   Loose : Mark
 
-abbrev pub Meets : Exec → List Active → Mark → Value → Type 0
-Meets n older Any v = Unit {0}
-Meets n older Aside v = LiesAside n older v
-Meets n older Loose v = IsLoose v
+module _ (Z : ℕ → ℕ → Type 0) where
+  abbrev pub Meets : Exec → List Active → Mark → Value → Type 0
+  Meets n older Any v = Unit {0}
+  Meets n older Aside v = LiesAside Z n older v
+  Meets n older Loose v = IsLoose v
 
--- of the newest operands, the first mark for the newest; of what lies below nothing is known
-abbrev pub Holds : Exec → List Active → List Mark → List Value → Type 0
-Holds n older [] vs = Unit {0}
-Holds n older (m ∷ ms) vs = Meets n older m (top vs) × Holds n older ms (below vs)
+  -- of the newest operands, the first mark for the newest; of what lies below nothing is known
+  abbrev pub Holds : Exec → List Active → List Mark → List Value → Type 0
+  Holds n older [] vs = Unit {0}
+  Holds n older (m ∷ ms) vs = Meets n older m (top vs) × Holds n older ms (below vs)
 
 abbrev pub rest : List Mark → List Mark
 rest [] = []
@@ -96,7 +100,7 @@ IsTold Loose = Unit {0}
 abbrev pub Free : List Todo → Type 0
 Free todo = Pends (λ p. ⊥) todo
 
--- nothing is still to be evaluated, and no statement is still to be done but those that are left of blocks
+-- nothing is still to be evaluated, nothing is called at an object, and no statement is still to be done but those that are left of blocks
 abbrev pub Calm : List Todo → Type 0
 Calm [] = Unit {0}
 Calm (piece.Eval e ∷ todo) = ⊥
@@ -104,6 +108,8 @@ Calm (piece.Do a ∷ todo) = ⊥
 Calm (piece.BindNow ∷ todo) = ⊥
 Calm (piece.MakeNow c r ∷ todo) = ⊥
 Calm (piece.BindMadeNow c r ∷ todo) = ⊥
+Calm (piece.CallOnNow r ∷ todo) = ⊥
+Calm (piece.CallUnwrittenNow r ∷ todo) = ⊥
 Calm (p ∷ todo) = Calm todo
 
 -- no scope opens next of an array of what is known by its number
@@ -201,7 +207,7 @@ module _ (makes : ℕ → Bool) (source : Source) where
   -- a constructor is called at what is no place, or at what lies aside, while nothing behind that is still to be bound
   abbrev pub CallFits : ℕ → List Mark → List Todo → Type 0
   CallFits r ms todo =
-      (makes r ≡ false) ⊎ (FirstLoose (rests (params source r) ms) ⊎ (FirstAside (rests (params source r) ms) × Free todo × EachNext (λ p. ⊥) todo))
+      (makes r ≡ false) ⊎ (FirstLoose (rests (params source r) ms) ⊎ (FirstAside (rests (params source r) ms) × Free todo × EachNext (λ p. ⊥) todo × NoneCalled todo))
 
   -- the code of a piece, with what is to do behind it, but for those of which more is asked
   abbrev pub CodePiece : Bool → Todo → List Mark → List Todo → Type 0
@@ -224,7 +230,7 @@ module _ (makes : ℕ → Bool) (source : Source) where
   CodePiece made (piece.Guard hs) ms todo = CodeHandlers made hs × Calm todo
   CodePiece made (piece.Guards cs) ms todo = CodeClauses made cs
   -- an execution is given to the object at hand by what builds that
-  CodePiece made (piece.SetUpNow r) ms todo = (made ≡ true) × (makes r ≡ false) × Free todo
+  CodePiece made (piece.SetUpNow r) ms todo = (made ≡ true) × (makes r ≡ false) × Free todo × NoneCalled todo
   CodePiece made p ms todo = Unit {0}
 
   -- elements are built at a place where no array follows of what is known by its number
@@ -253,13 +259,13 @@ module _ (makes : ℕ → Bool) (source : Source) where
       pub Ok : List Mark → List Todo → Type 0
       Ok ms [] = Unit {0}
       Ok ms (piece.Eval e ∷ todo) =
-          CountedExpr source e × ((PlainExpr makes e × Ok (Any ∷ ms) todo) ⊎ ((Singly makes made e × Free todo × Ok (Any ∷ ms) todo) ⊎ ((BuildsAt makes Near made e × Free todo × EachNext (λ p. ⊥) todo × Ok (Any ∷ ms) todo) ⊎ ((SitedAt makes Near made e × Ok (Aside ∷ ms) todo) ⊎ (PlainNew makes e × Ok (Loose ∷ ms) todo)))))
+          CountedExpr source e × ((PlainExpr makes e × Ok (Any ∷ ms) todo) ⊎ ((Singly makes made e × Free todo × Ok (Any ∷ ms) todo × NoneCalled todo) ⊎ ((BuildsAt makes Near made e × Free todo × EachNext (λ p. ⊥) todo × Ok (Any ∷ ms) todo × NoneCalled todo) ⊎ ((SitedAt makes Near made e × Ok (Aside ∷ ms) todo) ⊎ (PlainNew makes e × Ok (Loose ∷ ms) todo)))))
       Ok ms (piece.ElementNow n s ∷ todo) = Ok (Any ∷ rest (rest ms)) todo ⊎ (FirstAside (rest ms) × Ok (Aside ∷ rest (rest ms)) todo)
-      Ok ms (piece.BindNow ∷ todo) = (FirstAside (rest ms) × Free todo) × Ok (Any ∷ rest (rest ms)) todo
+      Ok ms (piece.BindNow ∷ todo) = (FirstAside (rest ms) × Free todo × NoneCalled todo) × Ok (Any ∷ rest (rest ms)) todo
       Ok ms (piece.MakeNow c r ∷ todo) =
-          (FirstAside (rests (params source r) ms) × Free todo) × Ok (anys (params source r) (Loose ∷ rests (suc (params source r)) ms)) todo
+          (FirstAside (rests (params source r) ms) × Free todo × NoneBehind todo) × Ok (anys (params source r) (Loose ∷ rests (suc (params source r)) ms)) todo
       Ok ms (piece.BindMadeNow c r ∷ todo) =
-          (FirstLoose ms × FirstAside (rests (params source r) (rest ms)) × Free todo) × Ok (anys (params source r) (Loose ∷ rests (suc (params source r)) (rest ms))) todo
+          (FirstLoose ms × FirstAside (rests (params source r) (rest ms)) × Free todo × NoneBehind todo) × Ok (anys (params source r) (Loose ∷ rests (suc (params source r)) (rest ms))) todo
       Ok ms (piece.ClusterNow ∷ todo) = (m : Mark) × IsTold m × Ok (m ∷ ms) todo
       Ok ms (piece.ProcessorNow ∷ todo) = (m : Mark) × IsTold m × Ok (m ∷ rest ms) todo
       Ok ms (piece.FillNow n b d ∷ todo) = (FillsBy Near made n b d todo × CodeEnds d × Calm todo) × Ok [] todo
@@ -275,25 +281,26 @@ module _ (makes : ℕ → Bool) (source : Source) where
       Left [] = Unit {0}
       Left (p ∷ todo) = LeftBy Near made (sort p) todo (Left todo) (Ok [] todo)
 
-  -- an activation of the execution n, before these older ones, that is to find so many operands in front of its own
-  pub record Finds (many : ℕ) (n : Exec) (older : List Active) (a : Active) : Type 0 where
-    pub made : Bool
-    pub this : made ≡ true → LiesAside n older a.this
-    pub marks : List Mark
-    pub holds : Holds n older marks a.operands
-    pub ok : Ok (IsNear a.frame older) made (anys many marks) a.control
-
   -- one that runs may be unwound from anywhere
   abbrev pub OkNow : (ℕ → Type 0) → Bool → List Mark → List Todo → Type 0
   OkNow Near made ms (piece.Unwind ∷ todo) = Left Near made todo
   OkNow Near made ms todo = Ok Near made ms todo
 
+module _ (Z : ℕ → ℕ → Type 0) (makes : ℕ → Bool) (source : Source) where
+  -- an activation of the execution n, before these older ones, that is to find so many operands in front of its own
+  pub record Finds (many : ℕ) (n : Exec) (older : List Active) (a : Active) : Type 0 where
+    pub made : Bool
+    pub this : made ≡ true → LiesAside Z n older a.this
+    pub marks : List Mark
+    pub holds : Holds Z n older marks a.operands
+    pub ok : Ok makes source (IsNear Z a.frame older) made (anys many marks) a.control
+
   pub record Runs (n : Exec) (older : List Active) (a : Active) : Type 0 where
     pub made : Bool
-    pub this : made ≡ true → LiesAside n older a.this
+    pub this : made ≡ true → LiesAside Z n older a.this
     pub marks : List Mark
-    pub holds : Holds n older marks a.operands
-    pub ok : OkNow (IsNear a.frame older) made marks a.control
+    pub holds : Holds Z n older marks a.operands
+    pub ok : OkNow makes source (IsNear Z a.frame older) made marks a.control
 
   abbrev pub Waits : Exec → List Active → Active → Type 0
   Waits n older a = Finds 1 n older a
@@ -307,12 +314,12 @@ module _ (makes : ℕ → Bool) (source : Source) where
   -- one that is to find a new object in front of them
   pub record FindsObject (n : Exec) (older : List Active) (a : Active) : Type 0 where
     pub made : Bool
-    pub this : made ≡ true → LiesAside n older a.this
+    pub this : made ≡ true → LiesAside Z n older a.this
     pub first : Mark
     pub told : IsTold first
     pub marks : List Mark
-    pub holds : Holds n older marks a.operands
-    pub ok : Ok (IsNear a.frame older) made (first ∷ marks) a.control
+    pub holds : Holds Z n older marks a.operands
+    pub ok : Ok makes source (IsNear Z a.frame older) made (first ∷ marks) a.control
 
   -- what comes with an answer of a form
   abbrev pub FindsFor : Form → Exec → List Active → Active → Type 0

@@ -13,4 +13,7 @@ pub mod Opened
 pub mod Called
 pub mod CalledStates
 pub mod OpeningLaws
+pub mod Calling
 pub mod OpeningRuns
+pub mod Sparing
+pub mod Addresses

@@ -1,6 +1,6 @@
 -- Code in which the scope of an object that is a variable, and no mutex object, opens right behind the statement that calls a constructor of its
 -- class at that variable.
-use Rattle.std.specs.Prelude.{◌≡◌, ℕ, List, [], ◌∷◌, Option, Some, None, slice_get}
+use Rattle.std.specs.Prelude.{◌≡◌, ℕ, false, List, [], ◌∷◌, Option, Some, None, slice_get}
 use Rattle.uc_tree.specs.declared.kinds.Base.{Base}
 use Rattle.uc_tree.specs.declared.kinds.Role.{Role}
 use Rattle.uc_tree.specs.declared.kinds.Role.TheVariants as role
@@ -10,6 +10,7 @@ use Rattle.uc_tree.specs.Programs.{Program}
 use Rattle.uc_tree.specs.Source.{Expr, Variable, OfObject, CallOn, CallUnwritten, CleanUp, Destroys, Stmt, Stmts, Block, Whole, Evaluate, Declare, If, Loop, OfEvents, OfTasks, Nil, Then, Scoped, Built, EventStmt, Try, Enable, Disable, TaskStmt, Accept, Handlers, NoHandlers, MoreHandlers, Clauses, NoClauses, Otherwise, MoreClauses, Routine, Source}
 use Rattle.uc_tree.specs.Statements.{Declarator}
 use Rattle.uc_resolve.specs.Resolve.{length_of}
+use Rattle.uc_state_laws.specs.Layout.{AreNoReferences}
 
 -- the constructor or the destructor of a class, by its number: the one that is written, or that which stands for it where none is
 abbrev pub role_number : Program → ℕ → Role → Option ℕ → ℕ
@@ -54,7 +55,7 @@ BuildsOf P ss = Unit {0}
 abbrev pub BuildsNone : Stmts → Type 0
 BuildsNone ss = BuildsOf (λ d k. ⊥) ss
 
--- so many cells are declared for one object of the class that this destroys
+-- so many cells are declared for one object of the class that this destroys, and for no reference to one, if the program declares no variable to be one
 pub record Spans (p : Program) (d n : ℕ) : Type 0 where
   pub class : ℕ
   pub base : Base
@@ -62,6 +63,7 @@ pub record Spans (p : Program) (d n : ℕ) : Type 0 where
   pub ended : d ≡ role_number p class role.Destructor (written_at p class role.Destructor)
   pub declarator : Declarator
   pub single : length_of p declarator declarator.len ≡ None
+  pub whole : AreNoReferences p → declarator.by_ref ≡ false
   pub cells : n ≡ declared_cells p base declarator
 
 -- a statement declares the variable at which such an object is built, alone and without a value

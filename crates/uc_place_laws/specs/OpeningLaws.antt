@@ -58,17 +58,18 @@ AwaitedRest P (piece.Rest ss ∷ todo) = OpensOf P ss
 AwaitedRest P todo = Unit {0}
 
 -- behind what is to do first no such scope opens next, but behind a statement and an expression that build the object, behind a call, and where that
--- is not done but left
+-- is not done but left; nor does one once the line of a statement is left
 abbrev pub TailAt : Program → List Todo → Type 0
 TailAt p [] = Unit {0}
 TailAt p (piece.Do a ∷ todo) = AwaitedRest (Before p a) todo
-TailAt p (piece.Eval e ∷ todo) = Awaited (Builds p e) todo
+TailAt p (piece.Eval e ∷ todo) = Awaited (Builds p e) todo × NoneAwaited (piece.DropNow ∷ todo)
 TailAt p (piece.CallOnNow r ∷ todo) = Unit {0}
 TailAt p (piece.CallUnwrittenNow r ∷ todo) = Unit {0}
+TailAt p (piece.DropNow ∷ todo) = NoneAwaited todo × AwaitedRest (λ d k. ⊥) todo
 TailAt p (piece.Within line ∷ todo) = Unit {0}
 TailAt p (piece.Exit w ∷ todo) = Unit {0}
 TailAt p (piece.Unwind ∷ todo) = Unit {0}
-TailAt p (x ∷ todo) = NoneAwaited todo × AwaitedRest (λ d k. ⊥) todo
+TailAt p (x ∷ todo) = NoneAwaited todo × AwaitedRest (λ d k. ⊥) todo × NoneAwaited (piece.DropNow ∷ todo)
 
 -- so it is in each such state, and behind its step the scope opens next only behind the end of what was called, and such an object is built next
 -- only behind its declaration, whose cells have just started anew

@@ -2,6 +2,7 @@
 
 ghost use Rattle.uc_place_laws.specs.AsideLaws.{LawPuts, LawSited, LawSteps};
 ghost use Rattle.uc_place_laws.specs.AsideRuns.{LawRuns};
+ghost use Rattle.uc_place_laws.specs.Sparing.{LawSpares, LawSparing};
 
 /// In the source of every program of the grammar that breaks no rule an object is built where its
 /// scope opens right behind that, as a field of the object at hand of a constructor, or as an event in
@@ -30,4 +31,18 @@ pub fn law_puts()
 /// fits.
 pub fn law_runs()
     ensures { LawRuns }
+{}
+
+/// Where what is bound lies aside and is the place of a name, it leaves alone all objects whose constructors
+/// are still to be called, by who runs or by who waits: it lies behind them, or in another frame. So does
+/// the object at hand that gets an execution.
+pub fn law_spares()
+    ensures { LawSpares }
+{}
+
+/// So it is in each run of a program of the grammar that breaks no rule, in each state of each ride, and on
+/// the way to each state to which whoever runs comes before it asks, as long as all that was asked before
+/// fits.
+pub fn law_sparing()
+    ensures { LawSparing }
 {}

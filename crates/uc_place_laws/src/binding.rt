@@ -1,5 +1,6 @@
 // The laws: each is a function whose contract is the law.
 
+ghost use Rattle.uc_place_laws.specs.Addresses.{LawAddresses};
 ghost use Rattle.uc_place_laws.specs.BindingLaws.{LawBound, LawSteps};
 ghost use Rattle.uc_place_laws.specs.BindingRuns.{LawRuns};
 ghost use Rattle.uc_place_laws.specs.OpenRuns.{LawOpens, LawThere};
@@ -52,4 +53,10 @@ pub fn law_opens()
 /// the last address, asks for the end of a cluster that there is.
 pub fn law_there()
     ensures { LawThere }
+{}
+
+/// In each run of a program within its limits all cells of all frames of whoever runs have addresses, on the
+/// way to each state to which it comes before it asks, and there.
+pub fn law_addresses()
+    ensures { LawAddresses }
 {}

@@ -75,11 +75,13 @@ impl Slot {
         }
     }
 
-    /// Asks to print these items, in this line, if there are any. The answer is whether there are.
+    /// Asks to print these items, in this line, if there are any; else what was asked last stays, but for its line. The answer is whether
+    /// there are.
     pub fn put_items(&mut self, pieces: &Pieces, line: u32) -> bool
         ensures some { result ≡ true → request_of pieces.now ≡ Some self.new.request }
         ensures line { result ≡ true → self.new.line ≡ line }
         ensures none { result ≡ false → request_of pieces.now ≡ None }
+        ensures stays { result ≡ false → self.new ≡ record { request = self.old.request; line = line } }
     {
         self.is_item = false;
         self.asked.line = line;

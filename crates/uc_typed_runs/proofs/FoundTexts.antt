@@ -35,7 +35,7 @@ use Rattle.uc_life_laws.specs.LifeStates.{frame_at, Outwards}
 use Rattle.uc_life_laws.specs.Lives.{OutwardsOrMade}
 use Rattle.uc_life_laws.specs.Opened.{any}
 use Rattle.uc_life_laws.proofs.OpenedRuns.{law_opened_runs}
-use Rattle.uc_life_laws.specs.FoundReads.{HoldsRight, ReadsAt}
+use Rattle.uc_life_laws.specs.FoundReads.{HoldsRight}
 use Rattle.uc_life_laws.specs.Knowing.{Finds}
 use Rattle.uc_life_laws.specs.FoundRuns.{AllIsFound}
 use Rattle.uc_life_laws.proofs.FoundReads.{SetsUpNew, outside_thing, right_holds, found}
@@ -51,6 +51,8 @@ use Rattle.uc_building_laws.proofs.BuiltEndings.{law_built_endings}
 use Rattle.uc_building_laws.proofs.BuiltReads.{law_built_reads}
 use Rattle.uc_typed_runs.specs.TypedRuns.{Reading, IsTyped}
 use Rattle.uc_typed_runs.specs.FoundTexts.{OthersRight, Founds, FoundsOutside, LawFoundTexts}
+use Rattle.uc_typed_runs.specs.TextReads.{ReadsRightAt}
+use Rattle.uc_typed_runs.proofs.TextReads.{reads_found}
 use Rattle.uc_typed_runs.proofs.Worlds.{law_typed_runs}
 
 -- what binds has what is bound there
@@ -99,17 +101,16 @@ module _ (t : Table) (heads : ℕ → ℕ → Bool) (kinds : List Sig) (s : Stat
 
 module _ (p : Program) (formed : IsFormed p) (accepted : breaks_of p ≡ []) where
   -- what constructors have bound is known where they read it
-  finds_there : (s : State) → SetsUpNew (source_of p) s → (x : BuiltState (table_of p) (heads_of p) any [] s) → (reads_bound (table_of p) (heads_of p) x.0.run.sig s ≡ false → ReadsAt (table_of p) any x.0.sigs s x.0.run.sig x.0.run.scope s.run.control x.0.run.own) → Finds (table_of p) any x.0.sigs x.0.run.sig x.0.run.scope s s.run.control x.0.run.own
+  finds_there : (s : State) → SetsUpNew (source_of p) s → (x : BuiltState (table_of p) (heads_of p) any [] s) → (reads_bound (table_of p) (heads_of p) x.0.run.sig s ≡ false → ReadsRightAt (table_of p) x.0.sigs s x.0.run.sig x.0.run.scope s.run.control x.0.run.own) → Finds (table_of p) any x.0.sigs x.0.run.sig x.0.run.scope s s.run.control x.0.run.own
   finds_there s new x h = by (reads_bound (table_of p) (heads_of p) x.0.run.sig s) refl
     where
       by : (b : Bool) → reads_bound (table_of p) (heads_of p) x.0.run.sig s ≡ b → Finds (table_of p) any x.0.sigs x.0.run.sig x.0.run.scope s s.run.control x.0.run.own
       by true e = law_built_reads p formed accepted any s x e
-      by false e = found (table_of p) (λ a o. true) (source_of p) (law_sound p formed accepted) s new (lives p formed accepted any s x) (h e)
+      by false e = found (table_of p) (λ a o. true) (source_of p) (law_sound p formed accepted) s new (lives p formed accepted any s x) (reads_found (table_of p) (heads_of p) s x x.0.run.sig x.0.run.scope s.run.control x.0.run.own (h e))
 
   builds : (n : ℕ) (s : State) → SetsUpNew (source_of p) s → OpensAndFinds (table_of p) (heads_of p) (source_of p) n s → BuildingOutside (table_of p) (heads_of p) (source_of p) n s
   builds zero s new h = record {
     opens = h.0;
-    anew = h.1.anew;
     finds = λ x.
         let y = h.1.reads x in
         (y.0, (finds_there s new y.0 y.1.0, others_hold (table_of p) (heads_of p) y.0.0.sigs s y.1.1));
@@ -191,17 +192,17 @@ law_found_texts text p is within input opts j w r range fits given on = record {
         all_found (OpensAndFinds (table_of p) (heads_of p) (source_of p)) (BuildingOutside (table_of p) (heads_of p) (source_of p)) (source_of p) (builds p formed is.no_break) input opts range j w r fits on (run_opens (table_of p) (heads_of p) (source_of p) input opts r (law_opens.runs p formed is.no_break within input opts range j w r fits) given)
 
     met : BuildingIsMet (table_of p) (heads_of p) (source_of p) input opts j w r
-    met = law_built_endings p formed is.no_break input opts range j w r fits on finds.runs
+    met = law_built_endings p formed is.no_break within input opts range j w r fits on finds.runs
 
     objects : RunMeets (MeetsObjects (table_of p) (source_of p)) (source_of p) input opts j w r
-    objects = law_built.runs p formed is.no_break input opts range j w r fits met.runs
+    objects = law_built.runs p formed is.no_break within input opts range j w r fits met.runs
 
     all : IsFollowed (table_of p) (source_of p) j w
     all = followed text p is input opts range r fits on objects
 
     leads : (n : ℕ) (s : State) (c : Comes (source_of p) j w n s) → LeadsHold (FoundsOutside (table_of p) (heads_of p)) (source_of p) 0 (answered (source_of p) c.given (drawn j w n)) s c.leads → LeadsMeet (MeetsObjects (table_of p) (source_of p)) (source_of p) (answered (source_of p) c.given (drawn j w n)) s c.leads
     leads n s c l =
-        law_built.leads p formed is.no_break input opts range j w r fits on met.runs n s c (met.leads n s c (finds.leads n s c (lead_opens (table_of p) (heads_of p) (source_of p) 0 c.leads (law_opens.leads p formed is.no_break within input opts range j w r fits on n s c) l)))
+        law_built.leads p formed is.no_break within input opts range j w r fits on met.runs n s c (met.leads n s c (finds.leads n s c (lead_opens (table_of p) (heads_of p) (source_of p) 0 c.leads (law_opens.leads p formed is.no_break within input opts range j w r fits on n s c) l)))
 
     typed : IsTyped (table_of p) (source_of p) (LeadsHold (Reading (table_of p)) (source_of p) 0) j w
     typed = law_typed_runs (table_of p) (source_of p) input opts j w r well.sound (well.mains (main_number p) (of_program refl)) range fits (run_reads text p is input opts range r fits objects) on

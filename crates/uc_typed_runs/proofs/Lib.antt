@@ -4,4 +4,5 @@ pub mod Worlds
 pub mod Openings
 pub mod Endings
 pub mod Readings
+pub mod TextReads
 pub mod FoundTexts

@@ -24,11 +24,11 @@ use Rattle.uc_life_laws.specs.LifeStates.{frame_at, Outwards}
 use Rattle.uc_life_laws.specs.Lives.{OutwardsOrMade, LivesState}
 use Rattle.uc_life_laws.specs.Knowing.{KnowsState}
 use Rattle.uc_life_laws.specs.Opened.{any}
-use Rattle.uc_life_laws.specs.FoundReads.{HoldsRight, VariableRight, ReadsAt}
+use Rattle.uc_life_laws.specs.FoundReads.{HoldsRight, VariableRight}
 use Rattle.uc_building_laws.specs.Building.{heads_of}
 use Rattle.uc_building_laws.specs.BuildingStates.{BuiltState}
-use Rattle.uc_building_laws.specs.BuildingRuns.{BindsAnew}
 use Rattle.uc_building_laws.specs.BuiltReads.{reads_bound}
+use Rattle.uc_typed_runs.specs.TextReads.{ReadsRightAt}
 use Rattle.uc_typed_runs.specs.TypedRuns.{IsTyped}
 
 -- where the scope of a plain object opens, the fields of which `heads` does not tell are right by these kinds; where that of an array of them opens, they
@@ -42,13 +42,12 @@ pub record OthersRight (t : Table) (heads : ℕ → ℕ → Bool) (kinds : List 
       (k m i : ℕ) → CleansAt t (Row m (Obj i)) (Variable k) c → (IsUnbound t (Row m (Obj i)) → ⊥) →
       VariableRight t any kinds c todo s k (Row m (Obj i))
 
--- nothing is bound yet at a field of the object at hand where that is to be bound; and by some kinds by which objects that are built hold what is known,
--- what the next step reads is right, where no state tells it, and no constructor has bound it, and where scopes open, so are the other fields of plain
+-- by some kinds by which objects that are built hold what is known,
+-- what the next step reads is right, where no state tells it, and no constructor has bound it, and it lies in no plain object that is a variable in scope, and where scopes open, so are the other fields of plain
 -- objects, and arrays of them
 pub record Founds (t : Table) (heads : ℕ → ℕ → Bool) (s : State) : Type 0 where
-  pub anew : BindsAnew t heads s s.run.control
   pub reads : BuiltState t heads any [] s → (x : BuiltState t heads any [] s) ×
-      ((reads_bound t heads x.0.run.sig s ≡ false → ReadsAt t any x.0.sigs s x.0.run.sig x.0.run.scope s.run.control x.0.run.own) ×
+      ((reads_bound t heads x.0.run.sig s ≡ false → ReadsRightAt t x.0.sigs s x.0.run.sig x.0.run.scope s.run.control x.0.run.own) ×
       OthersRight t heads x.0.sigs s)
 
 -- but in the four states from which a clean-up comes to the variable that it ends, and reads it

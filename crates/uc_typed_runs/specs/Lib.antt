@@ -1,2 +1,3 @@
 pub mod TypedRuns
+pub mod TextReads
 pub mod FoundTexts
