@@ -1,4 +1,3 @@
 pub mod Clear
-pub mod Nowhere
 pub mod Own
 pub mod Before

@@ -1,15 +1,15 @@
 -- What is an execution's own does not stand in what it has of others.
-use Rattle.std.proofs.Common.{ℕ, List, ⊎_elim}
+use Rattle.std.proofs.Common.{ℕ, inl, inr, List, ⊎_elim}
 use Rattle.uc_machine.specs.declared.exec.Exec.{Exec}
 use Rattle.uc_machine.specs.declared.exec.Owner.TheVariants.{Frame, Fields}
 use Rattle.uc_machine.specs.Pieces.{Link, Value, Number, Place, Running, Object, Nothing, further, Active}
-use Rattle.uc_typing.specs.Typing.{Ty, Cell, Obj, Row, Table}
+use Rattle.uc_typing.specs.Typing.{Ty, Cell, Obj, Raw, Row, Table}
 use Rattle.uc_life_laws.specs.Things.{Few, Within, itself, field, element, Base, Things, Stands, lies, inside}
-use Rattle.uc_life_laws.proofs.Rooted.{things_split, stands_split}
 use Rattle.uc_life_laws.specs.Belonging.{Belongs, frame, fields, object}
 use Rattle.uc_life_laws.specs.Marks.{Marked, Free}
-use Rattle.uc_apart_laws.specs.Clear.{IsNoHome}
+use Rattle.uc_apart_laws.specs.Clear.{HomeAt, IsNoHome}
 use Rattle.uc_apart_laws.specs.Own.{IsOfOthers, LawOwn}
+use Rattle.uc_apart_laws.proofs.Clear.{home_split}
 
 module _ (t : Table) (few : Few) (n : Exec) where
   -- what is further in is no other's
@@ -35,9 +35,12 @@ module _ (t : Table) (few : Few) (n : Exec) where
     none_stands b v h (inside {o = o} {c} m k i) =
         none_stands (Cell (Obj c)) (few.home o) (object_own o (around_own (Object o) (Obj c) v b h i)) k
 
+    no_base : (o : ℕ) → Belongs few n (few.home o) → (c : ℕ) → HomeAt t few o (Base few n) c → ⊥
+    no_base o h c (inl s) = none_stands (Cell (Obj c)) (few.home o) h s
+    no_base o h c (inr k) = others (Object o) (Raw c) k (object h)
+
     no_home : (o : ℕ) (cs : List Active) → Belongs few n (few.home o) → Free t few o (Marked t n cs) → IsNoHome t few o (Things t few n cs)
-    no_home o cs h f c k =
-        ⊎_elim (λ y. f c y) (λ y. none_stands (Cell (Obj c)) (few.home o) h y) (stands_split t few (Things t few n cs) (Marked t n cs) (Base few n) (things_split t few n cs) (Cell (Obj c)) (few.home o) k)
+    no_home o cs h f c k = ⊎_elim (λ y. f c y) (λ y. no_base o h c y) (home_split t few o n cs c k)
 
 pub law_own : LawOwn
 law_own t few o n cs others h f = no_home t few n others o cs h f

@@ -1,5 +1,5 @@
--- Just before an object goes, or is given up, it is nowhere in the world: nobody who does not run has it at hand.
-use Rattle.std.specs.Prelude.{ℕ, ◌==◌, Bool, List, [], ◌∷◌, if◌then◌else◌}
+-- Just before an object goes, or is given up, nobody who does not run has it at hand, and nobody who lives is to clean up anything around it.
+use Rattle.std.specs.Prelude.{ℕ, ◌==◌, List, [], ◌∷◌, if◌then◌else◌}
 use Rattle.uc_tree.specs.Source.{Source}
 use Rattle.uc_entry.specs.Keyed.{find}
 use Rattle.uc_acts.specs.Journal.{Journal}
@@ -9,12 +9,12 @@ use Rattle.uc_machine.specs.Pieces.{Value, Todo, GoneNow, GiveUpNow, Active, Sta
 use Rattle.uc_meaning.specs.Runs.{World, or_else}
 use Rattle.uc_typing.specs.Typing.{Ty, Table}
 use Rattle.uc_life_laws.specs.Things.{Few, Base}
-use Rattle.uc_life_laws.specs.LifeStates.{EnvBy}
+use Rattle.uc_life_laws.specs.Belonging.{Belongs}
+use Rattle.uc_life_laws.specs.Marks.{Marked, Free}
 use Rattle.uc_life_laws.specs.Knowing.{KnowsState}
-use Rattle.uc_life_laws.specs.Rooted.{IsPlace}
+use Rattle.uc_life_laws.specs.Rooted.{IsBase, Lives}
 use Rattle.uc_life_laws.specs.AtHand.{IsApart}
 use Rattle.uc_apart_laws.specs.Clear.{IsClearAt}
-use Rattle.uc_apart_laws.specs.Nowhere.{IsNowhere, SparesEx}
 
 -- the world while task u has come to a state: what it has in hand is no more at home where it was drawn from
 abbrev pub world_at : World → ℕ → State → World
@@ -24,23 +24,23 @@ world_at w u s = record {
 }
 
 module _ (t : Table) (few : Few) (j : Journal) (w : World) (u : ℕ) (s : State) where
-  -- an object is nowhere in that world, and who does not run in the task neither builds nor destroys it
-  pub record NowhereBefore (o : ℕ) : Type 0 where
-    pub nowhere : IsNowhere t few j (world_at w u s) o
-    pub spares : EnvBy (SparesEx t few o) s.env
+  -- an object is at home in what is the own of who runs, and nobody who lives in that world is to clean up anything around it
+  pub record IsUnmarked (o : ℕ) : Type 0 where
+    pub belongs : Belongs few s.env.exec (few.home o)
+    pub free : (n : Exec) (cs : List Active) → Lives j (world_at w u s) n cs → Free t few o (Marked t n cs)
 
-  -- so it is of what goes, or is given up; of what else is let go of, or is entered again to be destroyed, those of whom it is asked are clear
+  -- so it is of what goes, or is given up; and of what is let go of, or is entered again to be destroyed, those of whom it is asked are clear
   abbrev pub BeforeAt : Source → KnowsState t few [] s → List Todo → Type 0
-  BeforeAt source k (GoneNow ∷ todo) = NowhereBefore (this_object s)
-  BeforeAt source k (GiveUpNow ∷ todo) = NowhereBefore (this_object s)
+  BeforeAt source k (GoneNow ∷ todo) = IsClearAt t few source s k (GoneNow ∷ todo) × IsUnmarked (this_object s)
+  BeforeAt source k (GiveUpNow ∷ todo) = IsClearAt t few source s k (GiveUpNow ∷ todo) × IsUnmarked (this_object s)
   BeforeAt source k todo = IsClearAt t few source s k todo
 
   abbrev pub Before : Source → Type 0
   Before source = (k : KnowsState t few [] s) → BeforeAt source k s.run.control
 
--- then nobody else has at hand what is let go of in that state, where executions have places alone of others
+-- then nobody else has at hand what is let go of in that state, where executions have places alone of others, and objects that are not whole
 abbrev pub LawBefore : Type 0
 LawBefore =
-    (t : Table) (few : Few) (source : Source) → ((n : Exec) (w : Value) (b : Ty) → Base few n w b → IsPlace w) →
+    (t : Table) (few : Few) (source : Source) → ((n : Exec) (w : Value) (b : Ty) → Base few n w b → IsBase w b) →
     (j : Journal) (w : World) (u : ℕ) (s : State) → Before t few j w u s source →
     (k : KnowsState t few [] s) → IsApart t few source s k

@@ -11,7 +11,7 @@ use Rattle.uc_machine.specs.Pieces.{FieldAt, Value, Place, Todo, Active, address
 use Rattle.uc_typing.specs.Typing.{Ty, Cell, Obj, Row, Sig, Table, element_shape, IsParam, CleansAt}
 use Rattle.uc_life_laws.specs.Things.{Few, IsField, Within, itself, field, element, IsUnbound, Known, Holds}
 use Rattle.uc_life_laws.specs.LifeStates.{frame_at}
-use Rattle.uc_building_laws.specs.Building.{IsHead, Behind, Lands, Now}
+use Rattle.uc_building_laws.specs.Building.{IsHead, Behind, Stills, Lands, Now}
 use Rattle.uc_building_laws.specs.BuildingStates.{variable, AtScope, Awaits, IsLoose, IsBuilt, IsMaking, Builds, of_wait, AllBuild}
 use Rattle.uc_building_laws.proofs.Memory.{FrameKeeps, same_frame, known_kept, holds_kept}
 
@@ -64,10 +64,24 @@ module _ (t : Table) (heads : ℕ → ℕ → Bool) (ps : List Ty) (c i : ℕ) (
 
   -- what another field is bound to has been found
   pub lands : (todo : List Todo) (v : Value) (vs : List Value) → Lands t heads ps c i w K todo vs → Now t heads ps c i w K todo (v ∷ vs)
-  lands (piece.FieldNow s m ∷ todo) v vs h = inr h
+  lands (piece.FieldNow s m ∷ todo) v vs h = inr (inl h)
   lands (piece.BindNow ∷ todo) v vs h = inr h
-  lands (piece.KeepNow ∷ todo) v vs h = h
   lands todo v vs h = absurd h
+
+  -- a number has been found without a call, which is written then
+  pub stills : (todo : List Todo) (vs : List Value) → Stills t heads ps c i todo → Now t heads ps c i w K todo vs
+  stills (piece.Eval e ∷ todo) vs h = inr (inr (inr (inr h)))
+  stills (piece.LoadNow ∷ todo) vs h = h
+  stills (piece.ElementNow n s ∷ todo) vs h = h
+  stills (piece.FieldNow s m ∷ todo) vs h = inr (inr h)
+  stills (piece.NegateNow ∷ todo) vs h = h
+  stills (piece.NotNow ∷ todo) vs h = h
+  stills (piece.CharacterNow ∷ todo) vs h = h
+  stills (piece.TruthNow ∷ todo) vs h = h
+  stills (piece.OperateNow op ∷ todo) vs h = h
+  stills (piece.Choose e f ∷ todo) vs h = h
+  stills (piece.KeepNow ∷ todo) vs h = h
+  stills todo vs h = absurd h
 
 -- what is next
 

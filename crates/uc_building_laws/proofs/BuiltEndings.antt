@@ -78,6 +78,8 @@ module _ (p : Program) (formed : IsFormed p) (accepted : breaks_of p ≡ []) whe
     at_ending t few n s (λ l. OpensAtBy t few (OutwardsOrMade x.0.sigs) l s) (λ l. tt) (λ a l. tt) h,
     record {
       at = at_ending t few n s (λ l. BuildsAt t (heads_of p) few x.0.sigs source s l) (λ l. tt) (λ a l. tt) h;
+      calls = m.0.calls;
+      parts = m.0.parts;
       joins = m.0.joins;
       follows = m.0.follows;
       tails = m.0.tails;

@@ -25,7 +25,7 @@ use Rattle.uc_life_laws.proofs.Knowns.{known_more, frames_length}
 use Rattle.uc_life_laws.proofs.LifeSteps.{exec_same}
 use Rattle.uc_life_laws.proofs.LivesLemmas.{Below, below, making_here}
 use Rattle.uc_life_laws.proofs.Reading.{exec_is}
-use Rattle.uc_building_laws.specs.Building.{is_settled, heads_of, Behind, Lands, Now}
+use Rattle.uc_building_laws.specs.Building.{is_settled, heads_of, Behind, Stills, Lands, Now}
 use Rattle.uc_building_laws.specs.BuildingStates.{variable, AtScope, Awaits, IsLoose, IsBuilt, IsMaking, Builds, of_run, of_wait, AllBuild, BuiltState}
 use Rattle.uc_building_laws.specs.BuiltReads.{may_bind, ended_class, scope_class, scope_variable, is_slot, in_frame, is_variable, is_told, builds_it, is_building, reads_bound_at, reads_bound, LawBuiltReads}
 use Rattle.uc_building_laws.proofs.Heads.{fields_are_kept}
@@ -124,8 +124,21 @@ module _ (t : Table) (heads : ℕ → ℕ → Bool) (ps : List Ty) (c m : ℕ) w
   none_lands : (w : Value) (K : Ty → Value → Type 0) (todo : List Todo) (vs : List Value) → may_bind m todo ≡ false → Lands t heads ps c m w K todo vs → ⊥
   none_lands w K (piece.FieldNow s j ∷ todo) vs o h = none_lands w K todo vs o h
   none_lands w K (piece.BindNow ∷ todo) vs o h = none_left todo o h.1
-  none_lands w K (piece.KeepNow ∷ todo) vs o h = none_left todo o h
   none_lands w K todo vs o h = absurd h
+
+  none_stills : (todo : List Todo) → may_bind m todo ≡ false → Stills t heads ps c m todo → ⊥
+  none_stills (piece.Eval e ∷ todo) o h = none_stills todo o h.1
+  none_stills (piece.LoadNow ∷ todo) o h = none_stills todo o h
+  none_stills (piece.ElementNow n s ∷ todo) o h = none_stills todo o h
+  none_stills (piece.FieldNow s j ∷ todo) o h = none_stills todo o h
+  none_stills (piece.NegateNow ∷ todo) o h = none_stills todo o h
+  none_stills (piece.NotNow ∷ todo) o h = none_stills todo o h
+  none_stills (piece.CharacterNow ∷ todo) o h = none_stills todo o h
+  none_stills (piece.TruthNow ∷ todo) o h = none_stills todo o h
+  none_stills (piece.OperateNow op ∷ todo) o h = none_stills todo o h
+  none_stills (piece.Choose e f ∷ todo) o h = none_stills todo o h.1
+  none_stills (piece.KeepNow ∷ todo) o h = none_left todo o h
+  none_stills todo o h = absurd h
 
   -- nor what is read now
   not_now : (w : Value) (K : Ty → Value → Type 0) (k : Shape) (todo : List Todo) (vs : List Value) → may_bind m todo ≡ false → Now t heads ps c m w K (piece.Eval (src.OfObject (src.GetOwn k m)) ∷ todo) vs → ⊥
@@ -134,7 +147,8 @@ module _ (t : Table) (heads : ℕ → ℕ → Bool) (ps : List Ty) (c m : ℕ) w
   not_now w K k todo vs o (inl (inr (inr x))) = x.1.4.1 refl
   not_now w K k todo vs o (inr (inl x)) = x.0
   not_now w K k todo vs o (inr (inr (inl x))) = x
-  not_now w K k todo vs o (inr (inr (inr x))) = none_lands w K todo vs o x.1
+  not_now w K k todo vs o (inr (inr (inr (inl x)))) = none_lands w K todo vs o x.1
+  not_now w K k todo vs o (inr (inr (inr (inr x)))) = none_stills todo o x.1
 
 -- what is at hand outwards of a scope that opens next is at hand
 

@@ -37,6 +37,7 @@ use Rattle.uc_place_laws.specs.Opened.{role_number, ArePaired, OfPlain}
 use Rattle.uc_place_laws.specs.OpeningLaws.{Awaited, IsAt, CallsAt, IsCalled}
 use Rattle.uc_place_laws.specs.Sparing.{Sparing}
 use Rattle.uc_building_laws.specs.Building.{is_bound_in, all_clean, none_told, heads_of, InHead}
+use Rattle.uc_building_laws.specs.Pairs.{BuildsOf}
 use Rattle.uc_building_laws.specs.BuildingStates.{variable}
 use Rattle.uc_building_laws.specs.BuildingLaws.{AreAddressed, IsSpanned, IsConstructed, Constructs, BuildsAt, Fair}
 use Rattle.uc_building_laws.specs.BuildingRuns.{LawHeads}
@@ -141,6 +142,9 @@ module _ (p : Program) (formed : IsFormed p) (accepted : breaks_of p ≡ []) whe
         by None e = ap (λ n. (t.routine n).this) (x.ends ∙ ap (role_number p x.class role.Destructor) e) ∙ m.unwritten_this e
         by (Some n) e = ap (λ n. (t.routine n).this) (x.ends ∙ ap (role_number p x.class role.Destructor) e) ∙ (m.written n e).this
 
+    pub kinded : BuildsOf t (t.routine r) d
+    kinded = (whole, constructs ∙ sym this)
+
     class_is : (i : ℕ) → (t.routine d).this ≡ Some i → x.class ≡ i
     class_is i e = let q : Some x.class ≡ Some i = sym this ∙ e in cc
 
@@ -201,7 +205,7 @@ module _ (p : Program) (formed : IsFormed p) (accepted : breaks_of p ≡ []) whe
     at l e h = tt
 
     pub fair : AreAddressed s → Sparing p s → IsCalled p source s → Fair t (heads_of p) few x.sigs source s p
-    fair short spares c = record { at = at s.run.control refl c.calls; joins = c.joins; follows = c.follows; tails = c.tails; spares = spares; addresses = short }
+    fair short spares c = record { at = at s.run.control refl c.calls; calls = c.calls; parts = c.parts; joins = c.joins; follows = c.follows; tails = c.tails; spares = spares; addresses = short }
 
 -- a declared object has all its cells
 pub is_spanned : (p : Program) → IsFormed p → breaks_of p ≡ [] → IsSpanned p (table_of p)
@@ -217,6 +221,7 @@ pub law_heads : LawHeads
 law_heads = record {
   binds = λ p formed accepted r d x q e i h. binds p formed accepted r d x q e i h;
   spans = λ p formed accepted d n i x of. is_spanned p formed accepted d n i x of;
+  kinds = λ p formed accepted r d x. kinded p formed accepted r d x;
   given = λ t few source sound s x r line c rest todo e q is j b i. given t few source sound s x r q is line c rest todo e j b i;
   numbered = λ t s c todo o vs p b n h. numbered_holds t s c todo o vs p b n h;
 }

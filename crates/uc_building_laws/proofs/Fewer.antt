@@ -123,11 +123,13 @@ module _ (t : Table) (heads : ℕ → ℕ → Bool) (few : Few) (numbers : Ty �
             anew = h.1.anew;
             run = builds_less gs n (AtHand t few n gs (x.run ∷ x.callers)) lasts of_wait of_wait (λ K l ps c i w y. y) x.frames x.run.frame x.run.this x.callers more made h.1.run;
             callers = all_less gs n (AtHand t few n gs (x.run ∷ x.callers)) lasts x.frames x.callers more made h.1.callers;
+            pairs = h.1.pairs;
           }
       by (inr fresh) = record {
         anew = h.1.anew;
         run = subst (λ cs. Builds t heads less gs n of_wait x.frames x.run.frame x.run.this cs) (sym fresh.callers) tt;
         callers = subst (λ cs. AllBuild t heads less gs n x.frames cs) (sym fresh.callers) tt;
+        pairs = h.1.pairs;
       }
 
   pub slot_built : (n : Exec) (x : Ex) → ClaimsSlot t few (Built t heads few) n x → ExLasts t few numbers n x → ClaimsSlot t less (Built t heads less) n x
@@ -168,7 +170,7 @@ module _ (t : Table) (heads : ℕ → ℕ → Bool) (few : Few) (numbers : Ty �
           callers = waits_fewer t few numbers keeps s.env.exec (others x.0.sigs) s.callers r.waiting x.0.callers;
           env = env_claims t few numbers keeps (Built t heads few) (Built t heads less) built_turns s.env x.0.env e;
         },
-        (running_lives t few numbers keeps s.env.exec x.0.sigs (stopped s) same x.1.0 r.waiting r.operands, builds r.waiting, stands_less s x.0.sigs r.operands made_here s.run.control refl x.1.2, x.1.3),
+        (running_lives t few numbers keeps s.env.exec x.0.sigs (stopped s) same x.1.0 r.waiting r.operands, builds r.waiting, stands_less s x.0.sigs r.operands made_here s.run.control refl x.1.2, x.1.3, x.1.4),
       )
     where
       same_length : length s.env.frames ≡ length x.0.sigs

@@ -41,6 +41,9 @@ use Rattle.uc_life_laws.proofs.LifeWalk.{walk}
 use Rattle.uc_life_laws.proofs.LivesLemmas.{below, lives_kept, lives_parks, lives_read, lives_turned, nothing_kept}
 use Rattle.uc_life_laws.proofs.Parked.{Ex, each_env}
 use Rattle.uc_building_laws.specs.Anew.{IsAnew}
+use Rattle.uc_place_laws.specs.OpeningLaws.{CallsAt, PartsAt}
+use Rattle.uc_building_laws.specs.Pairs.{AreKinded}
+use Rattle.uc_building_laws.proofs.Pairs.{pairs_turned}
 use Rattle.uc_building_laws.specs.BuildingStates.{variable, of_run, of_wait, BuildsEx, BuildsBy, BuildsAsk, BuildsStep, Stands, Starts, Left, Built, BuiltState}
 use Rattle.uc_building_laws.specs.BuildingLaws.{IsSpanned, Fair, LawKept}
 use Rattle.uc_building_laws.proofs.Building.{all_keep, all_kept, builds_kept, builds_more}
@@ -106,13 +109,14 @@ module _ (t : Table) (heads : ℕ → ℕ → Bool) (few : Few) where
   -- executions that do not run keep it
 
   ex_unwound : (n : Exec) (kinds : List Sig) (x : Ex) (why : UnwindReason) → BuildsEx t heads few n kinds x → BuildsEx t heads few n kinds (unwound_there why x)
-  ex_unwound n kinds x why r = record { anew = (r.anew.0, r.anew.1); run = r.run; callers = r.callers }
+  ex_unwound n kinds x why r = record { anew = (r.anew.0, r.anew.1); run = r.run; callers = r.callers; pairs = r.pairs }
 
   ex_written : (n : Exec) (kinds : List Sig) (x : Ex) (d k : ℕ) (z : ℤ) → BuildsEx t heads few n kinds x → BuildsEx t heads few n kinds (record x { frames = frame_changed d (value_changed k (stored (Number z)) nought) x.frames })
   ex_written n kinds x d k z r = record {
     anew = all_anew t heads x.frames fs (x.run ∷ x.callers) (all_loosen t heads x.frames fs (λ e. frame_number x.frames d k e z) (x.run ∷ x.callers)) r.anew;
     run = builds_kept t heads few kinds n x.frames fs x.run.frame x.run.this x.callers (keep x.run.frame) (all_keep t heads few kinds n x.frames fs keep x.callers) r.run;
     callers = all_kept t heads few kinds n x.frames fs x.callers (all_keep t heads few kinds n x.frames fs keep x.callers) r.callers;
+    pairs = r.pairs;
   }
     where
       fs : List (List Value)
@@ -136,12 +140,12 @@ module _ (t : Table) (heads : ℕ → ℕ → Bool) (few : Few) where
   pub built_kept : IsKept J
   built_kept = record {
     written = λ n gs x d k z h. ((life_kept t few (OutwardsOrMade gs)).written n x d k (Number z) h.0, ex_written n gs x d k z h.1);
-    linked = λ n gs x l h. ((lives_kept t few).linked n gs x l h.0, record { anew = h.1.anew; run = h.1.run; callers = h.1.callers });
+    linked = λ n gs x l h. ((lives_kept t few).linked n gs x l h.0, record { anew = h.1.anew; run = h.1.run; callers = h.1.callers; pairs = h.1.pairs });
     unwound = λ n gs x why other h. ((lives_kept t few).unwound n gs x why other h.0, ex_unwound n gs x why h.1);
   }
 
   pub fresh_built : (n : Exec) (kinds : List Sig) (r : Routine) (this : Value) → BuildsEx t heads few n kinds (fresh r this)
-  fresh_built n kinds r this = record { anew = (behind_calling (IsAnew t heads (fresh r this).frames (fresh r this).run.frame) r.purpose r.line, tt); run = tt; callers = tt }
+  fresh_built n kinds r this = record { anew = (behind_calling (IsAnew t heads (fresh r this).frames (fresh r this).run.frame) r.purpose r.line, tt); run = tt; callers = tt; pairs = ((λ g at. tt), tt) }
 
   module _ (source : Source) (p : Program) (s : State) (x : S [] s) where
     abbrev Z : ℕ → ℕ → Type 0
@@ -165,6 +169,7 @@ module _ (t : Table) (heads : ℕ → ℕ → Bool) (few : Few) where
           anew = (calls (subst (Calling (IsAnew t heads s.env.frames s.run.frame)) e x.1.1.anew.0), x.1.1.anew.1);
           run = builds_more t heads few gs s.env.exec (of_run t heads s.run) of_wait (λ ps c i w K h. none ps c i w K (subst (λ l. of_run t heads (at l s.run.operands s).run ps c i w K) e h)) s.env.frames s.run.frame s.run.this s.callers x.1.1.run;
           callers = x.1.1.callers;
+          pairs = x.1.4;
         }
 
         by : (l : List Todo) → s.run.control ≡ l → SparesAt Z source l s → Parks (Lives t few) t source gs s l → Parks J t source gs s l
@@ -192,8 +197,12 @@ module _ (t : Table) (heads : ℕ → ℕ → Bool) (few : Few) where
     abbrev Walked : State → Type 0
     Walked u = LifeStateBy t few (OutwardsOrMade gs) (λ n x. Unit {0}) u
 
+    -- what is called where, and by what kinds
+    abbrev Pairing : Type 0
+    Pairing = AreKinded p t × (CallsAt p source s.run.control s × PartsAt p source s.run.control s)
+
     -- what is known, what is in scope and what is built, in one
-    module _ (given : List Ty) (u : State) (y : FollowsOn J t few source s gs given u) (h : Walked u) where
+    module _ (fair : Pairing) (given : List Ty) (u : State) (y : FollowsOn J t few source s gs given u) (h : Walked u) where
       lives : Lives t few u.env.exec y.0.sigs (stopped u)
       lives = lives_turned t few s gs same claim source u y.0.sigs h y.1
 
@@ -205,26 +214,26 @@ module _ (t : Table) (heads : ℕ → ℕ → Bool) (few : Few) where
       left_more (b ∷ given) K L m ps c i w z = z
 
       joined : BuildsBy t heads few gs (Left t heads given u.run) u → Stands t heads few gs u → Starts t heads few gs u → S given u
-      joined b st way = (y.0, (lives, by_kinds t heads few gs y.0.sigs (Left t heads given u.run) (Left t heads given u.run) u (left_more given) more b, stands_by t heads few gs y.0.sigs u more st, way))
+      joined b st way = (y.0, (lives, by_kinds t heads few gs y.0.sigs (Left t heads given u.run) (Left t heads given u.run) u (left_more given) more b, stands_by t heads few gs y.0.sigs u more st, way, pairs_turned t p fair.0 source s gs same x.1.4 fair.1.0 fair.1.1 u y.0.sigs y.1))
 
-    asks : (r : Request) (u : State) → Walked u → BuildsAsk t heads few gs r u → AskedBy t few (FollowsOn J t few source s gs) (ClaimsEnv t few J) source r u → AskedBy t few S (ClaimsEnv t few J) source r u
-    asks ask.End u h b y = y
-    asks (ask.Fault n) u h b y = tt
-    asks r u h b y = asked_more t few source (FollowsOn J t few source s gs) S (ClaimsEnv t few J) (ClaimsEnv t few J) (λ e k. k) u (λ given z. joined given u z h (rest_left gs given u b.builds) b.stands b.starts) r y
+    asks : Pairing → (r : Request) (u : State) → Walked u → BuildsAsk t heads few gs r u → AskedBy t few (FollowsOn J t few source s gs) (ClaimsEnv t few J) source r u → AskedBy t few S (ClaimsEnv t few J) source r u
+    asks fair ask.End u h b y = y
+    asks fair (ask.Fault n) u h b y = tt
+    asks fair r u h b y = asked_more t few source (FollowsOn J t few source s gs) S (ClaimsEnv t few J) (ClaimsEnv t few J) (λ e k. k) u (λ given z. joined fair given u z h (rest_left gs given u b.builds) b.stands b.starts) r y
 
-    goes : (step : Step) → StepIs Walked step → BuildsStep t heads few gs step → StepBy t few (FollowsOn J t few source s gs) (ClaimsEnv t few J) source step → StepBy t few S (ClaimsEnv t few J) source step
-    goes (Goes u) h b y = joined [] u y h b.builds b.stands b.starts
-    goes (Ticks u) h b y = joined [] u y h (rest_left gs [] u b.builds) b.stands b.starts
-    goes (Asks r u) h b y = (y.0, asks r u h b y.1)
+    goes : Pairing → (step : Step) → StepIs Walked step → BuildsStep t heads few gs step → StepBy t few (FollowsOn J t few source s gs) (ClaimsEnv t few J) source step → StepBy t few S (ClaimsEnv t few J) source step
+    goes fair (Goes u) h b y = joined fair [] u y h b.builds b.stands b.starts
+    goes fair (Ticks u) h b y = joined fair [] u y h (rest_left gs [] u b.builds) b.stands b.starts
+    goes fair (Asks r u) h b y = (y.0, asks fair r u h b y.1)
 
     -- another execution goes on, by kinds of its own
     stops : (GoesOn s.run.control s.run.raised → ⊥) → (step : Step) → OnlyFaults step → StepJoins s step → StepFollows p s step → StepBy t few (Claimed J t few) (ClaimsEnv t few J) source step → StepBy t few S (ClaimsEnv t few J) source step
-    stops other (Goes u) only j f y = (y.0, (y.1.0, rest_left y.0.sigs [] u (record { anew = y.1.1.anew; run = y.1.1.run; callers = y.1.1.callers }), others_stand s other t heads few y.0.sigs u u.run.control j, others_start p s other (IsAnew t heads u.env.frames u.run.frame) u.run.control f))
+    stops other (Goes u) only j f y = (y.0, (y.1.0, rest_left y.0.sigs [] u (record { anew = y.1.1.anew; run = y.1.1.run; callers = y.1.1.callers }), others_stand s other t heads few y.0.sigs u u.run.control j, others_start p s other (IsAnew t heads u.env.frames u.run.frame) u.run.control f, y.1.1.pairs))
     stops other (Ticks u) only j f y = absurd only
     stops other (Asks (ask.Fault n) u) only j f y = (y.0, tt)
     stops other (Asks r u) only j f y = absurd only
 
-    module _ (sound : Sound t source) (laid : IsLaidOut (Sized p) t) (spanned : IsSpanned p t) (st : StackState (Sized p) s) (l : Finds t few gs x.0.run.sig x.0.run.scope s s.run.control x.0.run.own) (o : OpensBy t few (OutwardsOrMade gs) s) (fair : Fair t heads few gs source s p) where
+    module _ (sound : Sound t source) (laid : IsLaidOut (Sized p) t) (spanned : IsSpanned p t) (kinded : AreKinded p t) (st : StackState (Sized p) s) (l : Finds t few gs x.0.run.sig x.0.run.scope s s.run.control x.0.run.own) (o : OpensBy t few (OutwardsOrMade gs) s) (fair : Fair t heads few gs source s p) where
       steps : StepBy t few S (ClaimsEnv t few J) source (quiet source s)
       steps = by (goes_or s.run.control s.run.raised)
         where
@@ -233,7 +242,7 @@ module _ (t : Table) (heads : ℕ → ℕ → Bool) (few : Few) where
 
           by : GoesOn s.run.control s.run.raised ⊎ (GoesOn s.run.control s.run.raised → ⊥) → StepBy t few S (ClaimsEnv t few J) source (quiet source s)
           by (inl calm) =
-              goes (quiet source s) (walk t few (OutwardsOrMade gs) (λ n x. Unit {0}) (nothing_kept t few) source s walked o (clearing.clears (Sized p) t laid s st) calm) (law_steps.steps t heads few gs source p laid spanned s st (record { builds = x.1.1; stands = x.1.2; starts = x.1.3 }) calm (clears (Sized p) t laid s st) fair) ((law_claims J built_kept).goes t few source sound s x.0 (lives_read t few s gs same claim) l (parks s.run.control refl fair.spares) calm)
+              goes (kinded, (fair.calls, fair.parts)) (quiet source s) (walk t few (OutwardsOrMade gs) (λ n x. Unit {0}) (nothing_kept t few) source s walked o (clearing.clears (Sized p) t laid s st) calm) (law_steps.steps t heads few gs source p laid spanned s st (record { builds = x.1.1; stands = x.1.2; starts = x.1.3 }) calm (clears (Sized p) t laid s st) fair) ((law_claims J built_kept).goes t few source sound s x.0 (lives_read t few s gs same claim) l (parks s.run.control refl fair.spares) calm)
           by (inr other) =
               stops other (quiet source s) (stops_only source s s.run.control other) fair.joins fair.follows ((law_claims J built_kept).stops t few source sound s x.0 (lives_read t few s gs same claim) l (parks s.run.control refl fair.spares) other)
 
@@ -243,6 +252,6 @@ module _ (t : Table) (heads : ℕ → ℕ → Bool) (few : Few) where
 
 pub law_kept : LawKept
 law_kept = record {
-  steps = λ t heads few source p sound laid spanned s st x l o fair. steps t heads few source p s x sound laid spanned st l o fair;
+  steps = λ t heads few source p sound laid spanned kinded s st x l o fair. steps t heads few source p s x sound laid spanned kinded st l o fair;
   opens = λ t heads few s x c rest todo e k i d m f told. opens t heads few s x c rest todo e k i d m f told;
 }

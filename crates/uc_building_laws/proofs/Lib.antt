@@ -14,6 +14,7 @@ pub mod Walk
 pub mod Heads
 pub mod Given
 pub mod Turning
+pub mod Pairs
 pub mod Kept
 pub mod Spanning
 pub mod Constructors

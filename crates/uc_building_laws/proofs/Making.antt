@@ -17,22 +17,23 @@ use Rattle.uc_machine.specs.Raising as raising
 use Rattle.uc_machine.specs.Raising.{Event, Found}
 use Rattle.uc_machine.specs.Quiet as quiet
 use Rattle.uc_machine.specs.Pieces as piece
-use Rattle.uc_machine.specs.Pieces.{Link, Slot, FieldAt, Value, Number, Place, Running, Object, Nothing, Todo, Active, State, Env, Goes, at, in_env, top, below, further, loaded, stored, written, address, variable_at, nought, LAST_ADDRESS}
+use Rattle.uc_machine.specs.Pieces.{Link, Slot, FieldAt, Value, Number, Place, Running, Object, Nothing, Todo, Active, State, Env, Outcome, Gives, Faults, Goes, at, in_env, top, below, further, loaded, stored, written, address, variable_at, nought, LAST_ADDRESS}
 use Rattle.uc_typing.specs.Typing.{Ty, Cell, Obj, Row, Sig, Table, CleansAt, IsParam, IsPlaced}
 use Rattle.uc_typing.specs.States.{IsObjectBy}
 use Rattle.uc_place_laws.specs.Opened.{OfPlain}
-use Rattle.uc_place_laws.specs.OpeningLaws.{Awaited}
+use Rattle.uc_place_laws.specs.OpeningLaws.{Awaited, NoneAwaited}
 use Rattle.uc_place_laws.specs.Calling.{Calling}
 use Rattle.uc_place_laws.specs.Sparing.{Spares}
 use Rattle.uc_life_laws.specs.Things.{Few, IsField, Within, itself, field, element, IsUnbound, Known, Holds, LiesBefore}
 use Rattle.uc_life_laws.specs.LifeRuns.{span, IsLaidOut}
 use Rattle.uc_life_laws.specs.LifeStates.{frame_at}
 use Rattle.uc_state_laws.specs.RoomStacks.{StackState}
+use Rattle.uc_sound.proofs.Lists.{left_is, right_is}
 use Rattle.uc_life_laws.proofs.Cells.{either}
 use Rattle.uc_life_laws.proofs.LifeSteps.{exec_same}
 use Rattle.uc_life_laws.proofs.Knowns as known
 use Rattle.uc_life_laws.proofs.Parked as parked
-use Rattle.uc_building_laws.specs.Building.{IsGivenBy, IsBeside, IsLed, InHead, Stays, Behind, Starts, StartsAside, Onwards, Now}
+use Rattle.uc_building_laws.specs.Building.{is_still, IsGivenBy, IsBeside, IsLed, InHead, Stays, Behind, Stills, Starts, StartsAside, Onwards, Now}
 use Rattle.uc_building_laws.specs.Anew.{IsFree, IsAnew, AllAnew}
 use Rattle.uc_building_laws.specs.BuildingStates.{variable, AtScope, Awaits, IsLoose, IsBuilt, IsMaking, Builds, of_wait, AllBuild}
 use Rattle.uc_building_laws.specs.BuildingLaws.{IsPlain, AreAddressed, IsConstructed, Constructs}
@@ -43,9 +44,9 @@ use Rattle.uc_building_laws.proofs.Building.{awaits_more, none_bound, Lying, all
 use Rattle.uc_building_laws.proofs.Keeping as kept
 use Rattle.uc_building_laws.proofs.Keeping.{Binds, Keeps}
 use Rattle.uc_building_laws.proofs.Plain.{plain_of}
-use Rattle.uc_building_laws.proofs.Settled.{settled_lands, one_place, head_cell, behind_cell}
+use Rattle.uc_building_laws.proofs.Settled.{settled_lands, still_onwards, one_place, head_cell, behind_cell}
 use Rattle.uc_building_laws.proofs.Steps as steps
-use Rattle.uc_building_laws.proofs.Steps.{StepBuilds, newer_all}
+use Rattle.uc_building_laws.proofs.Steps.{StepBuilds, newer_all, IsStill, only_still}
 
 -- a binding has no parts
 pub within_cell : (t : Table) (w : Value) (b : Ty) (v : Value) (d : Ty) → Within t w (Cell b) v d → (v ≡ w) × (d ≡ Cell b)
@@ -69,8 +70,8 @@ module _ (t : Table) (heads : ℕ → ℕ → Bool) (ps : List Ty) (c i : ℕ) (
   -- that of another is
   starts_aside : (k : Shape) (j : ℕ) (this : Value) → this ≡ w → (todo : List Todo) (vs : List Value) → StartsAside t heads ps c i w K (src.OfObject (src.OwnField k j)) todo → Now t heads ps c i w K todo (further (FieldAt k j) this ∷ vs)
   starts_aside k j this e (piece.Eval x ∷ (piece.BindNow ∷ todo)) vs f =
-      inr (inr (inr (f.0.1, ((j, ap (λ k. further (FieldAt k j) this) f.0.0 ∙ ap (further (FieldAt (t.shape c) j)) e, f.0.2), f.1))))
-  starts_aside k j this e (piece.Eval x ∷ (piece.KeepNow ∷ todo)) vs f = inr (inr (inr f))
+      inr (inr (inr (inl (f.0.1, ((j, ap (λ k. further (FieldAt k j) this) f.0.0 ∙ ap (further (FieldAt (t.shape c) j)) e, f.0.2), f.1)))))
+  starts_aside k j this e (piece.Eval x ∷ (piece.KeepNow ∷ todo)) vs f = inr (inr (inr (inr f)))
   starts_aside k j this e todo vs f = absurd f
 
   -- so is a field that it is bound to, or in which that lies
@@ -82,7 +83,8 @@ module _ (t : Table) (heads : ℕ → ℕ → Bool) (ps : List Ty) (c i : ℕ) (
       onwards x.0 (further (FieldAt k j) this) todo vs x.2 (subst (λ a. K a (further (FieldAt k j) this)) (sym g.0) (subst (K (t.fields c j)) (sym (ap (λ k. further (FieldAt k j) this) g.1 ∙ ap (further (FieldAt (t.shape c) j)) e)) (h j g.2 g.3)))
   owns k j this e h todo vs (inr (inl x)) = absurd x.0
   owns k j this e h todo vs (inr (inr (inl x))) = starts_aside k j this e todo vs x
-  owns k j this e h todo vs (inr (inr (inr x))) = building.lands t heads ps c i w K todo _ vs x.1
+  owns k j this e h todo vs (inr (inr (inr (inl x)))) = building.lands t heads ps c i w K todo _ vs x.1
+  owns k j this e h todo vs (inr (inr (inr (inr x)))) = building.stills t heads ps c i w K todo (further (FieldAt k j) this ∷ vs) x.1
 
   gets : (m : ℕ) (v : Value) → ((b : Ty) → IsParam ps m b → m ≤ LAST_ADDRESS → K b v) → (todo : List Todo) (vs : List Value) → Now t heads ps c i w K (piece.Eval (src.Get m) ∷ todo) vs → Now t heads ps c i w K todo (v ∷ vs)
   gets m v h todo vs (inl (inl x)) = absurd x
@@ -90,7 +92,8 @@ module _ (t : Table) (heads : ℕ → ℕ → Bool) (ps : List Ty) (c i : ℕ) (
   gets m v h todo vs (inl (inr (inr x))) = onwards x.0 v todo vs x.2 (h x.0 x.1.0 x.1.1)
   gets m v h todo vs (inr (inl x)) = absurd x.0
   gets m v h todo vs (inr (inr (inl x))) = absurd x
-  gets m v h todo vs (inr (inr (inr x))) = building.lands t heads ps c i w K todo v vs x.1
+  gets m v h todo vs (inr (inr (inr (inl x)))) = building.lands t heads ps c i w K todo v vs x.1
+  gets m v h todo vs (inr (inr (inr (inr x)))) = building.stills t heads ps c i w K todo (v ∷ vs) x.1
 
   tells : (n : ℤ) (v : Value) (todo : List Todo) (vs : List Value) → Now t heads ps c i w K (piece.Eval (src.Literal n) ∷ todo) vs → Now t heads ps c i w K todo (v ∷ vs)
   tells n v todo vs (inl (inl x)) = absurd x
@@ -98,7 +101,8 @@ module _ (t : Table) (heads : ℕ → ℕ → Bool) (ps : List Ty) (c i : ℕ) (
   tells n v todo vs (inl (inr (inr x))) = absurd x.1
   tells n v todo vs (inr (inl x)) = absurd x.0
   tells n v todo vs (inr (inr (inl x))) = absurd x
-  tells n v todo vs (inr (inr (inr x))) = building.lands t heads ps c i w K todo v vs x.1
+  tells n v todo vs (inr (inr (inr (inl x)))) = building.lands t heads ps c i w K todo v vs x.1
+  tells n v todo vs (inr (inr (inr (inr x)))) = building.stills t heads ps c i w K todo (v ∷ vs) x.1
 
   -- what such a field has been bound to
   bound_to : (k : Shape) (j : ℕ) (v : Value) (todo : List Todo) (vs : List Value) → ((b : Ty) → Onwards t heads ps c i w K b todo vs → IsGivenBy t ps c (λ m. Stays t heads ps c i todo m) (src.GetOwn k j) b → K b v) → Now t heads ps c i w K (piece.Eval (src.OfObject (src.GetOwn k j)) ∷ todo) vs → Now t heads ps c i w K todo (v ∷ vs)
@@ -107,7 +111,8 @@ module _ (t : Table) (heads : ℕ → ℕ → Bool) (ps : List Ty) (c i : ℕ) (
   bound_to k j v todo vs h (inl (inr (inr x))) = onwards x.0 v todo vs x.2 (h x.0 x.2 x.1)
   bound_to k j v todo vs h (inr (inl x)) = absurd x.0
   bound_to k j v todo vs h (inr (inr (inl x))) = absurd x
-  bound_to k j v todo vs h (inr (inr (inr x))) = building.lands t heads ps c i w K todo v vs x.1
+  bound_to k j v todo vs h (inr (inr (inr (inl x)))) = building.lands t heads ps c i w K todo v vs x.1
+  bound_to k j v todo vs h (inr (inr (inr (inr x)))) = building.stills t heads ps c i w K todo (v ∷ vs) x.1
 
   -- first the object, then the field in it
   parts : (k : Shape) (j : ℕ) (a : Expr) (todo : List Todo) (vs : List Value) → Now t heads ps c i w K (piece.Eval (src.OfObject (src.FieldOf k j a)) ∷ todo) vs → Now t heads ps c i w K (piece.Eval a ∷ (piece.FieldNow k j ∷ todo)) vs
@@ -118,14 +123,16 @@ module _ (t : Table) (heads : ℕ → ℕ → Bool) (ps : List Ty) (c i : ℕ) (
       inl (inr (inr (Obj g.0, g.1, (g.0, refl, g.3, g.4, g.5, subst (λ b. Onwards t heads ps c i w K b todo vs) g.2 x.2))))
   parts k j a todo vs (inr (inl x)) = absurd x.0
   parts k j a todo vs (inr (inr (inl x))) = absurd x
-  parts k j a todo vs (inr (inr (inr x))) = inr (inr (inr x))
+  parts k j a todo vs (inr (inr (inr (inl x)))) = inr (inr (inr (inl x)))
+  parts k j a todo vs (inr (inr (inr (inr x)))) = inr (inr (inr (inr x)))
 
   fields : (k : Shape) (j : ℕ) → ((d : ℕ) (v : Value) → IsField t d j → IsPlaced t (t.fields d j) → K (Obj d) v → K (t.fields d j) (further (FieldAt (t.shape d) j) v)) → (todo : List Todo) (vs : List Value) → Now t heads ps c i w K (piece.FieldNow k j ∷ todo) vs → Now t heads ps c i w K todo (further (FieldAt k j) (top vs) ∷ below vs)
   fields k j h todo vs (inl x) =
       let o = x.1 in
       let d = o.0 in
       onwards (t.fields d j) (further (FieldAt k j) (top vs)) todo (below vs) o.5 (subst (λ k. K (t.fields d j) (further (FieldAt k j) (top vs))) (sym o.2) (h d (top vs) o.3 o.4 (subst (λ a. K a (top vs)) o.1 x.2)))
-  fields k j h todo vs (inr x) = building.lands t heads ps c i w K todo _ (below vs) x
+  fields k j h todo vs (inr (inl x)) = building.lands t heads ps c i w K todo _ (below vs) x
+  fields k j h todo vs (inr (inr x)) = building.stills t heads ps c i w K todo (further (FieldAt k j) (top vs) ∷ below vs) x
 
 slot_address : (k : ℕ) → k ≤ LAST_ADDRESS → address (Slot k ∷ []) ≡ k
 slot_address k l = omega (arith, l)
@@ -189,7 +196,8 @@ module _ (t : Table) (heads : ℕ → ℕ → Bool) (few : Few) (kinds : List Si
       not_left (inl (inr (inr x))) = given.4.1 (one_place t heads ps c s.env.exec g m i j (Known t few s.env.exec K) b x.0 todo s.run.operands on x.2)
       not_left (inr (inl x)) = x.0
       not_left (inr (inr (inl x))) = x
-      not_left (inr (inr (inr x))) = settled_lands t heads ps c (variable s.env.exec g m) (Known t few s.env.exec K) j todo s.run.operands given.4.2 x.1
+      not_left (inr (inr (inr (inr x)))) = still_onwards t heads ps c s.env.exec g m i j (Known t few s.env.exec K) b todo s.run.operands on x.1
+      not_left (inr (inr (inr (inl x)))) = settled_lands t heads ps c (variable s.env.exec g m) (Known t few s.env.exec K) j todo s.run.operands given.4.2 x.1
 
       read_known : s.run.this ≡ variable s.env.exec g m → Holds t few s.env.exec K (Frame s.env.exec g) (frame_at g s.env.frames) (further (FieldAt (t.shape c) j) (variable s.env.exec g m)) (t.fields c j) ⊎ (Reads ps c j (variable s.env.exec g m) (Known t few s.env.exec K) × IsLoose s.env.frames g (further (FieldAt (t.shape c) j) (variable s.env.exec g m))) → Known t few s.env.exec K b read
       read_known e (inl h) =
@@ -215,6 +223,46 @@ module _ (t : Table) (heads : ℕ → ℕ → Bool) (few : Few) (kinds : List Si
 
   pub assign : (a b : Expr) (todo : List Todo) → Calling Anew todo → With (λ ps c i w K. Now t heads ps c i w K (piece.Eval (src.Assign a b) ∷ todo) s.run.operands) → StepBuilds t heads few kinds (quiet.eval_step (src.Assign a b) todo s)
   assign a b todo c h = goes (piece.Eval a ∷ (piece.Eval b ∷ (piece.KeepNow ∷ todo))) s.run.operands (λ ps c i w K. Now t heads ps c i w K (piece.Eval (src.Assign a b) ∷ todo) s.run.operands) (tt, (tt, c)) (λ g m ps c i K e p o x. steps.assigns t heads ps c i (variable s.env.exec g m) (Known t few s.env.exec K) a b todo s.run.operands x) h
+
+  -- a number is being found without a call: what is found now, or what is found first for it
+  module _ (todo : List Todo) (a : Calling Anew todo) where
+    pub passed : (vs : List Value) → With (λ ps c i w K. Stills t heads ps c i todo) → StepBuilds t heads few kinds (Goes (at todo vs s))
+    passed vs h = goes todo vs (λ ps c i w K. Stills t heads ps c i todo) a (λ g m ps c i K e p o x. building.stills t heads ps c i (variable s.env.exec g m) (Known t few s.env.exec K) todo vs x) h
+
+    pub reckoned : (x : Outcome) (vs : List Value) → With (λ ps c i w K. Stills t heads ps c i todo) → StepBuilds t heads few kinds (piece.outcome_step x todo vs s)
+    reckoned (Gives n) vs h = passed (Number n ∷ vs) h
+    reckoned (Faults f) vs h = tt
+
+    pub element_at : (k : Shape) (o : Option ℕ) (v : Value) (vs : List Value) → With (λ ps c i w K. Stills t heads ps c i todo) → StepBuilds t heads few kinds (piece.element_step k o todo v vs s)
+    element_at k None v vs h = tt
+    element_at k (Some j) v vs h = passed (further (piece.At k j) v ∷ vs) h
+
+    chosen : (b : Bool) (e f : Expr) → (is_still e ≡ true) × (is_still f ≡ true) → is_still (if b then f else e) ≡ true
+    chosen true e f h = h.1
+    chosen false e f h = h.0
+
+    pub chooses : Awaited Anew todo → (b : Bool) (e f : Expr) (vs : List Value) → With (λ ps c i w K. ((is_still e ≡ true) × (is_still f ≡ true)) × Stills t heads ps c i todo) → StepBuilds t heads few kinds (Goes (at (piece.Eval (if b then f else e) ∷ todo) vs s))
+    chooses next b e f vs h = goes (piece.Eval (if b then f else e) ∷ todo) vs (λ ps c i w K. ((is_still e ≡ true) × (is_still f ≡ true)) × Stills t heads ps c i todo) (next, a) (λ g m ps c i K q p o x. inr (inr (inr (inr (chosen b e f x.0, x.1))))) h
+
+    -- its parts are found first
+    pub found_first : (e : Expr) → IsStill e → (l : List Todo) (vs : List Value) → Calling Anew l → ((ps : List Ty) (c i : ℕ) → is_still e ≡ true → Stills t heads ps c i todo → Stills t heads ps c i l) → With (λ ps c i w K. Now t heads ps c i w K (piece.Eval e ∷ todo) s.run.operands) → StepBuilds t heads few kinds (Goes (at l vs s))
+    found_first e is l vs u f h = goes l vs (λ ps c i w K. Now t heads ps c i w K (piece.Eval e ∷ todo) s.run.operands) u (λ g m ps c i K q p o x. let y = only_still t heads ps c i (variable s.env.exec g m) (Known t few s.env.exec K) e todo s.run.operands is x in building.stills t heads ps c i (variable s.env.exec g m) (Known t few s.env.exec K) l vs (f ps c i y.0 y.1)) h
+
+    -- an expression that is no calm one
+    pub still : (e : Expr) → IsStill e → NoneAwaited (piece.DropNow ∷ todo) → With (λ ps c i w K. Now t heads ps c i w K (piece.Eval e ∷ todo) s.run.operands) → StepBuilds t heads few kinds (quiet.eval_step e todo s)
+    still (src.Variable k) is n h = found_first (src.Variable k) is todo _ a (λ ps c i q y. y) h
+    still (src.Element m k x y) is n h = found_first (src.Element m k x y) is _ _ (tt, (tt, a)) (λ ps c i q z. (left_is (is_still x) (is_still y) q, (right_is (is_still x) (is_still y) q, z))) h
+    still (src.Load x) is n h = found_first (src.Load x) is _ _ (tt, a) (λ ps c i q z. (q, z)) h
+    still (src.Negated x) is n h = found_first (src.Negated x) is _ _ (tt, a) (λ ps c i q z. (q, z)) h
+    still (src.Not x) is n h = found_first (src.Not x) is _ _ (tt, a) (λ ps c i q z. (q, z)) h
+    still (src.AsCharacter x) is n h = found_first (src.AsCharacter x) is _ _ (tt, a) (λ ps c i q z. (q, z)) h
+    still (src.AsTruth x) is n h = found_first (src.AsTruth x) is _ _ (tt, a) (λ ps c i q z. (q, z)) h
+    still (src.Operate op x y) is n h = found_first (src.Operate op x y) is _ _ (tt, (tt, a)) (λ ps c i q z. (left_is (is_still x) (is_still y) q, (right_is (is_still x) (is_still y) q, z))) h
+    still (src.And x y) is n h = found_first (src.And x y) is _ _ (tt, a) (λ ps c i q z. (left_is (is_still x) (is_still y) q, ((right_is (is_still x) (is_still y) q, refl), z))) h
+    still (src.Or x y) is n h = found_first (src.Or x y) is _ _ (tt, a) (λ ps c i q z. (left_is (is_still x) (is_still y) q, ((refl, right_is (is_still x) (is_still y) q), z))) h
+    still (src.OfObject src.This) is n h = found_first (src.OfObject src.This) is todo _ a (λ ps c i q y. y) h
+    still (src.OfObject src.Counted) is n h = found_first (src.OfObject src.Counted) is todo _ a (λ ps c i q y. y) h
+    still e is n h = absurd is
 
   -- what is left is done behind this
   pub later : (todo : List Todo) (vs : List Value) → Calling Anew todo → With (λ ps c i w K. Behind t heads ps c i todo) → StepBuilds t heads few kinds (Goes (at todo vs s))
@@ -393,7 +441,7 @@ module _ (t : Table) (heads : ℕ → ℕ → Bool) (few : Few) (kinds : List Si
   pub call : (r : Option Routine) (todo : List Todo) → Awaits (λ c rest. IsPlain t c → ⊥) todo → Holding todo → StepBuilds t heads few kinds (quiet.call_step r todo s)
   call None todo n h = steps.stays t heads few kinds Z s life callers anew _ _ h
   call (Some r) todo n h =
-      either (StepBuilds t heads few kinds) (nat_lt s.env.links.calls CALLS) _ _ (begun r _ true todo (drop r.params s.run.operands) h (none_built (λ ps c i w K. Now t heads ps c i w K (quiet.routine_todo r) []) (quiet.call_frame r s.run.operands ∷ s.env.frames) (length s.env.frames) piece.Nothing (record s.run { control = todo; operands = drop r.params s.run.operands }) s.callers n)) (steps.stays t heads few kinds Z s life callers anew todo _ h)
+      either (StepBuilds t heads few kinds) (nat_lt s.env.links.calls CALLS) _ _ (begun r _ true todo (drop r.params s.run.operands) h (none_built (λ ps c i w K. Now t heads ps c i w K (quiet.routine_todo r) []) (quiet.call_frame r s.run.operands ∷ s.env.frames) (length s.env.frames) piece.Nothing (record s.run { control = todo; operands = drop r.params s.run.operands }) s.callers n)) tt
 
   -- the handler of a resumption begins
   handles : (o : Option Found) (e : Event) (todo : List Todo) → Awaits (λ c rest. IsPlain t c → ⊥) (piece.DropNow ∷ todo) → Holding todo → StepBuilds t heads few kinds (raising.handle_step o e todo s)
@@ -460,7 +508,7 @@ module _ (t : Table) (heads : ℕ → ℕ → Bool) (few : Few) (kinds : List Si
     pub call_on : (o : Option Routine) → slice_get source.routines r ≡ o → StepBuilds t heads few kinds (quiet.call_on_step o todo s)
     call_on None is = steps.stays t heads few kinds Z s life callers anew _ _ h
     call_on (Some q) is =
-        either (StepBuilds t heads few kinds) (nat_lt s.env.links.calls CALLS) _ _ (begun q (top (drop q.params s.run.operands)) true todo (below (drop q.params s.run.operands)) h (made source r q is todo (below (drop q.params s.run.operands)) free build)) (steps.stays t heads few kinds Z s life callers anew todo _ h)
+        either (StepBuilds t heads few kinds) (nat_lt s.env.links.calls CALLS) _ _ (begun q (top (drop q.params s.run.operands)) true todo (below (drop q.params s.run.operands)) h (made source r q is todo (below (drop q.params s.run.operands)) free build)) tt
 
     pub call_unwritten : (o : Option Routine) → slice_get source.routines r ≡ o → StepBuilds t heads few kinds (quiet.call_unwritten_step o todo s)
     call_unwritten None is = steps.stays t heads few kinds Z s life callers anew _ _ h

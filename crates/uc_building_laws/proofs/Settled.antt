@@ -10,7 +10,7 @@ use Rattle.uc_machine.specs.Pieces as piece
 use Rattle.uc_machine.specs.Pieces.{Slot, FieldAt, Value, Place, Todo}
 use Rattle.uc_typing.specs.Typing.{Ty, Cell, Table}
 use Rattle.uc_sound.proofs.Lists.{left_is, right_is}
-use Rattle.uc_building_laws.specs.Building.{is_other, is_settled, is_late, is_behind, BindsField, BindsBy, IsLed, IsHead, InHead, Settled, Behind, Onwards, Lands}
+use Rattle.uc_building_laws.specs.Building.{is_other, is_settled, is_late, is_behind, BindsField, BindsBy, IsLed, IsHead, InHead, Settled, Behind, Onwards, Stills, Lands}
 use Rattle.uc_building_laws.specs.BuildingStates.{variable}
 
 module _ (t : Table) (heads : ℕ → ℕ → Bool) (ps : List Ty) (c : ℕ) where
@@ -44,7 +44,6 @@ module _ (t : Table) (heads : ℕ → ℕ → Bool) (ps : List Ty) (c : ℕ) whe
     pub settled_lands : (i : ℕ) (todo : List Todo) (vs : List Value) → Settled i todo → Lands t heads ps c i w K todo vs → ⊥
     settled_lands i (piece.FieldNow s j ∷ todo) vs o h = settled_lands i todo vs o h
     settled_lands i (piece.BindNow ∷ todo) vs o h = settled_none i todo o h.1
-    settled_lands i (piece.KeepNow ∷ todo) vs o h = absurd o
     settled_lands i todo vs o h = absurd h
 
   -- such a field is bound to something
@@ -99,6 +98,12 @@ module _ (t : Table) (heads : ℕ → ℕ → Bool) (ps : List Ty) (c : ℕ) whe
   behind_cell i (piece.DropNow ∷ todo) h = behind_cell i todo h
   behind_cell i (piece.Within line ∷ todo) h = behind_cell i todo h
   behind_cell i todo h = absurd h
+
+  -- no number is written behind what is bound
+  pub still_onwards : (n : Exec) (g k i j : ℕ) (K : Ty → Value → Type 0) (a : Ty) (todo : List Todo) (vs : List Value) → Onwards t heads ps c i (variable n g k) K a todo vs → Stills t heads ps c j todo → ⊥
+  still_onwards n g k i j K a (piece.FieldNow s m ∷ todo) vs x h = still_onwards n g k i j K (t.fields x.0 m) todo vs x.5 h
+  still_onwards n g k i j K a (piece.BindNow ∷ todo) vs x h = h
+  still_onwards n g k i j K a todo vs x h = absurd x
 
   -- at one time one field is bound
   pub one_place : (n : Exec) (g k i j : ℕ) (K : Ty → Value → Type 0) (a b : Ty) (todo : List Todo) (vs : List Value) → Onwards t heads ps c i (variable n g k) K a todo vs → Onwards t heads ps c j (variable n g k) K b todo vs → j ≡ i

@@ -24,9 +24,9 @@ use Rattle.uc_machine.specs.Pieces.{Value, Number, Object, Nothing, Todo, Sort, 
 use Rattle.uc_typing.specs.Typing.{Ty, Sig, Table}
 use Rattle.uc_state_laws.specs.RoomStacks.{Stack, StackState}
 use Rattle.uc_life_laws.proofs.Cells.{either, others_length}
-use Rattle.uc_building_laws.specs.Building.{IsHead, BindsField, BindsBy, Stays, Behind, Now}
+use Rattle.uc_building_laws.specs.Building.{is_still, IsHead, BindsField, BindsBy, Stays, Behind, Stills, Now}
 use Rattle.uc_building_laws.specs.Anew.{IsAnew, AllAnew}
-use Rattle.uc_building_laws.specs.BuildingStates.{Builds, of_run, of_wait, AllBuild, BuildsBy}
+use Rattle.uc_building_laws.specs.BuildingStates.{Builds, BuildsBehind, of_run, of_wait, AllBuild, BuildsBy}
 use Rattle.uc_building_laws.proofs.Memory.{frame_newer, frame_older}
 use Rattle.uc_building_laws.proofs.Building.{AllKeep, all_keep, builds_kept, all_kept, builds_more}
 use Rattle.uc_building_laws.proofs.Anew.{all_loosen, all_anew, older_loosen, tail_calling, any_awaited, rest_awaited}
@@ -40,7 +40,7 @@ use Rattle.uc_place_laws.specs.Calling.{Calling}
 abbrev pub StepBuilds : (t : Table) (heads : ℕ → ℕ → Bool) (few : Few) (kinds : List Sig) → Step → Type 0
 StepBuilds t heads few kinds (Goes s) = BuildsBy t heads few kinds (of_run t heads s.run) s
 StepBuilds t heads few kinds (Ticks s) = BuildsBy t heads few kinds of_wait s
-StepBuilds t heads few kinds (Asks r s) = BuildsBy t heads few kinds of_wait s
+StepBuilds t heads few kinds (Asks r s) = BuildsBehind t heads few kinds r s
 
 -- frames of those that wait
 
@@ -62,16 +62,46 @@ module _ (t : Table) (heads : ℕ → ℕ → Bool) (few : Few) (kinds : List Si
 -- an expression that is neither done before fields are bound nor binds them
 abbrev pub IsOther : Expr → Type 0
 IsOther (src.Literal n) = ⊥
+IsOther (src.Variable k) = ⊥
+IsOther (src.Element n k a i) = ⊥
 IsOther (src.Get k) = ⊥
+IsOther (src.Load a) = ⊥
+IsOther (src.Negated a) = ⊥
+IsOther (src.Not a) = ⊥
+IsOther (src.AsCharacter a) = ⊥
+IsOther (src.AsTruth a) = ⊥
+IsOther (src.Operate op a b) = ⊥
+IsOther (src.And a b) = ⊥
+IsOther (src.Or a b) = ⊥
 IsOther (src.Assign p a) = ⊥
+IsOther (src.OfObject src.This) = ⊥
+IsOther (src.OfObject src.Counted) = ⊥
 IsOther (src.OfObject (src.OwnField k i)) = ⊥
 IsOther (src.OfObject (src.GetOwn k i)) = ⊥
 IsOther (src.OfObject (src.FieldOf k i a)) = ⊥
 IsOther (src.OfObject (src.Bind a b)) = ⊥
 IsOther a = Unit {0}
 
+-- one that is found without a call, but none that is calm
+abbrev pub IsStill : Expr → Type 0
+IsStill (src.Variable k) = Unit {0}
+IsStill (src.Element n k a i) = Unit {0}
+IsStill (src.Load a) = Unit {0}
+IsStill (src.Negated a) = Unit {0}
+IsStill (src.Not a) = Unit {0}
+IsStill (src.AsCharacter a) = Unit {0}
+IsStill (src.AsTruth a) = Unit {0}
+IsStill (src.Operate op a b) = Unit {0}
+IsStill (src.And a b) = Unit {0}
+IsStill (src.Or a b) = Unit {0}
+IsStill (src.OfObject src.This) = Unit {0}
+IsStill (src.OfObject src.Counted) = Unit {0}
+IsStill a = ⊥
+
 module _ (t : Table) (heads : ℕ → ℕ → Bool) (ps : List Ty) (c i : ℕ) (w : Value) (K : Ty → Value → Type 0) where
   other_object : (x : ObjectExpr) (todo : List Todo) (vs : List Value) → IsOther (src.OfObject x) → Now t heads ps c i w K (piece.Eval (src.OfObject x) ∷ todo) vs → ⊥
+  other_object src.This todo vs o h = o
+  other_object src.Counted todo vs o h = o
   other_object (src.OwnField k j) todo vs o h = o
   other_object (src.GetOwn k j) todo vs o h = o
   other_object (src.FieldOf k j a) todo vs o h = o
@@ -81,11 +111,22 @@ module _ (t : Table) (heads : ℕ → ℕ → Bool) (ps : List Ty) (c i : ℕ) (
   other_object x todo vs o (inl (inr (inr h))) = h.1
   other_object x todo vs o (inr (inl h)) = h.0
   other_object x todo vs o (inr (inr (inl h))) = h
-  other_object x todo vs o (inr (inr (inr h))) = let e = h.0 in absurd (cc)
+  other_object x todo vs o (inr (inr (inr (inl h)))) = let e = h.0 in absurd (cc)
+  other_object x todo vs o (inr (inr (inr (inr h)))) = let e = h.0 in absurd (cc)
 
   other : (a : Expr) (todo : List Todo) (vs : List Value) → IsOther a → Now t heads ps c i w K (piece.Eval a ∷ todo) vs → ⊥
   other (src.Literal n) todo vs o h = o
+  other (src.Variable k) todo vs o h = o
+  other (src.Element n k a i) todo vs o h = o
   other (src.Get k) todo vs o h = o
+  other (src.Load a) todo vs o h = o
+  other (src.Negated a) todo vs o h = o
+  other (src.Not a) todo vs o h = o
+  other (src.AsCharacter a) todo vs o h = o
+  other (src.AsTruth a) todo vs o h = o
+  other (src.Operate op a b) todo vs o h = o
+  other (src.And a b) todo vs o h = o
+  other (src.Or a b) todo vs o h = o
   other (src.Assign p a) todo vs o h = o
   other (src.OfObject x) todo vs o h = other_object x todo vs o h
   other a todo vs o (inl (inl h)) = h
@@ -93,7 +134,96 @@ module _ (t : Table) (heads : ℕ → ℕ → Bool) (ps : List Ty) (c i : ℕ) (
   other a todo vs o (inl (inr (inr h))) = h.1
   other a todo vs o (inr (inl h)) = h.0
   other a todo vs o (inr (inr (inl h))) = h
-  other a todo vs o (inr (inr (inr h))) = let e = h.0 in absurd (cc)
+  other a todo vs o (inr (inr (inr (inl h)))) = let e = h.0 in absurd (cc)
+  other a todo vs o (inr (inr (inr (inr h)))) = let e = h.0 in absurd (cc)
+
+  -- one that is found without a call is found for a number that is written
+  pub only_still : (a : Expr) (todo : List Todo) (vs : List Value) → IsStill a → Now t heads ps c i w K (piece.Eval a ∷ todo) vs → (is_still a ≡ true) × Stills t heads ps c i todo
+  only_still (src.Variable k) todo vs o (inl (inl h)) = absurd h
+  only_still (src.Variable k) todo vs o (inl (inr (inl h))) = absurd h
+  only_still (src.Variable k) todo vs o (inl (inr (inr h))) = absurd h.1
+  only_still (src.Variable k) todo vs o (inr (inl h)) = absurd h.0
+  only_still (src.Variable k) todo vs o (inr (inr (inl h))) = absurd h
+  only_still (src.Variable k) todo vs o (inr (inr (inr (inl h)))) = let e = h.0 in absurd (cc)
+  only_still (src.Variable k) todo vs o (inr (inr (inr (inr h)))) = h
+  only_still (src.Element n k a b) todo vs o (inl (inl h)) = absurd h
+  only_still (src.Element n k a b) todo vs o (inl (inr (inl h))) = absurd h
+  only_still (src.Element n k a b) todo vs o (inl (inr (inr h))) = absurd h.1
+  only_still (src.Element n k a b) todo vs o (inr (inl h)) = absurd h.0
+  only_still (src.Element n k a b) todo vs o (inr (inr (inl h))) = absurd h
+  only_still (src.Element n k a b) todo vs o (inr (inr (inr (inl h)))) = let e = h.0 in absurd (cc)
+  only_still (src.Element n k a b) todo vs o (inr (inr (inr (inr h)))) = h
+  only_still (src.Load a) todo vs o (inl (inl h)) = absurd h
+  only_still (src.Load a) todo vs o (inl (inr (inl h))) = absurd h
+  only_still (src.Load a) todo vs o (inl (inr (inr h))) = absurd h.1
+  only_still (src.Load a) todo vs o (inr (inl h)) = absurd h.0
+  only_still (src.Load a) todo vs o (inr (inr (inl h))) = absurd h
+  only_still (src.Load a) todo vs o (inr (inr (inr (inl h)))) = let e = h.0 in absurd (cc)
+  only_still (src.Load a) todo vs o (inr (inr (inr (inr h)))) = h
+  only_still (src.Negated a) todo vs o (inl (inl h)) = absurd h
+  only_still (src.Negated a) todo vs o (inl (inr (inl h))) = absurd h
+  only_still (src.Negated a) todo vs o (inl (inr (inr h))) = absurd h.1
+  only_still (src.Negated a) todo vs o (inr (inl h)) = absurd h.0
+  only_still (src.Negated a) todo vs o (inr (inr (inl h))) = absurd h
+  only_still (src.Negated a) todo vs o (inr (inr (inr (inl h)))) = let e = h.0 in absurd (cc)
+  only_still (src.Negated a) todo vs o (inr (inr (inr (inr h)))) = h
+  only_still (src.Not a) todo vs o (inl (inl h)) = absurd h
+  only_still (src.Not a) todo vs o (inl (inr (inl h))) = absurd h
+  only_still (src.Not a) todo vs o (inl (inr (inr h))) = absurd h.1
+  only_still (src.Not a) todo vs o (inr (inl h)) = absurd h.0
+  only_still (src.Not a) todo vs o (inr (inr (inl h))) = absurd h
+  only_still (src.Not a) todo vs o (inr (inr (inr (inl h)))) = let e = h.0 in absurd (cc)
+  only_still (src.Not a) todo vs o (inr (inr (inr (inr h)))) = h
+  only_still (src.AsCharacter a) todo vs o (inl (inl h)) = absurd h
+  only_still (src.AsCharacter a) todo vs o (inl (inr (inl h))) = absurd h
+  only_still (src.AsCharacter a) todo vs o (inl (inr (inr h))) = absurd h.1
+  only_still (src.AsCharacter a) todo vs o (inr (inl h)) = absurd h.0
+  only_still (src.AsCharacter a) todo vs o (inr (inr (inl h))) = absurd h
+  only_still (src.AsCharacter a) todo vs o (inr (inr (inr (inl h)))) = let e = h.0 in absurd (cc)
+  only_still (src.AsCharacter a) todo vs o (inr (inr (inr (inr h)))) = h
+  only_still (src.AsTruth a) todo vs o (inl (inl h)) = absurd h
+  only_still (src.AsTruth a) todo vs o (inl (inr (inl h))) = absurd h
+  only_still (src.AsTruth a) todo vs o (inl (inr (inr h))) = absurd h.1
+  only_still (src.AsTruth a) todo vs o (inr (inl h)) = absurd h.0
+  only_still (src.AsTruth a) todo vs o (inr (inr (inl h))) = absurd h
+  only_still (src.AsTruth a) todo vs o (inr (inr (inr (inl h)))) = let e = h.0 in absurd (cc)
+  only_still (src.AsTruth a) todo vs o (inr (inr (inr (inr h)))) = h
+  only_still (src.Operate op a b) todo vs o (inl (inl h)) = absurd h
+  only_still (src.Operate op a b) todo vs o (inl (inr (inl h))) = absurd h
+  only_still (src.Operate op a b) todo vs o (inl (inr (inr h))) = absurd h.1
+  only_still (src.Operate op a b) todo vs o (inr (inl h)) = absurd h.0
+  only_still (src.Operate op a b) todo vs o (inr (inr (inl h))) = absurd h
+  only_still (src.Operate op a b) todo vs o (inr (inr (inr (inl h)))) = let e = h.0 in absurd (cc)
+  only_still (src.Operate op a b) todo vs o (inr (inr (inr (inr h)))) = h
+  only_still (src.And a b) todo vs o (inl (inl h)) = absurd h
+  only_still (src.And a b) todo vs o (inl (inr (inl h))) = absurd h
+  only_still (src.And a b) todo vs o (inl (inr (inr h))) = absurd h.1
+  only_still (src.And a b) todo vs o (inr (inl h)) = absurd h.0
+  only_still (src.And a b) todo vs o (inr (inr (inl h))) = absurd h
+  only_still (src.And a b) todo vs o (inr (inr (inr (inl h)))) = let e = h.0 in absurd (cc)
+  only_still (src.And a b) todo vs o (inr (inr (inr (inr h)))) = h
+  only_still (src.Or a b) todo vs o (inl (inl h)) = absurd h
+  only_still (src.Or a b) todo vs o (inl (inr (inl h))) = absurd h
+  only_still (src.Or a b) todo vs o (inl (inr (inr h))) = absurd h.1
+  only_still (src.Or a b) todo vs o (inr (inl h)) = absurd h.0
+  only_still (src.Or a b) todo vs o (inr (inr (inl h))) = absurd h
+  only_still (src.Or a b) todo vs o (inr (inr (inr (inl h)))) = let e = h.0 in absurd (cc)
+  only_still (src.Or a b) todo vs o (inr (inr (inr (inr h)))) = h
+  only_still (src.OfObject src.This) todo vs o (inl (inl h)) = absurd h
+  only_still (src.OfObject src.This) todo vs o (inl (inr (inl h))) = absurd h
+  only_still (src.OfObject src.This) todo vs o (inl (inr (inr h))) = absurd h.1
+  only_still (src.OfObject src.This) todo vs o (inr (inl h)) = absurd h.0
+  only_still (src.OfObject src.This) todo vs o (inr (inr (inl h))) = absurd h
+  only_still (src.OfObject src.This) todo vs o (inr (inr (inr (inl h)))) = let e = h.0 in absurd (cc)
+  only_still (src.OfObject src.This) todo vs o (inr (inr (inr (inr h)))) = h
+  only_still (src.OfObject src.Counted) todo vs o (inl (inl h)) = absurd h
+  only_still (src.OfObject src.Counted) todo vs o (inl (inr (inl h))) = absurd h
+  only_still (src.OfObject src.Counted) todo vs o (inl (inr (inr h))) = absurd h.1
+  only_still (src.OfObject src.Counted) todo vs o (inr (inl h)) = absurd h.0
+  only_still (src.OfObject src.Counted) todo vs o (inr (inr (inl h))) = absurd h
+  only_still (src.OfObject src.Counted) todo vs o (inr (inr (inr (inl h)))) = let e = h.0 in absurd (cc)
+  only_still (src.OfObject src.Counted) todo vs o (inr (inr (inr (inr h)))) = h
+  only_still a todo vs o h = absurd o
 
   -- the parts of what binds, and of what writes a number
   pub binds : (a b : Expr) (todo : List Todo) (vs : List Value) → Now t heads ps c i w K (piece.Eval (src.OfObject (src.Bind a b)) ∷ todo) vs → Now t heads ps c i w K (piece.Eval a ∷ (piece.Eval b ∷ (piece.BindNow ∷ todo))) vs
@@ -106,7 +236,8 @@ module _ (t : Table) (heads : ℕ → ℕ → Bool) (ps : List Ty) (c i : ℕ) (
   binds (src.OfObject x) b todo vs (inr (inl h)) = absurd h.0
   binds a b todo vs (inr (inl h)) = absurd h.0
   binds a b todo vs (inr (inr (inl h))) = absurd h
-  binds a b todo vs (inr (inr (inr h))) = let e = h.0 in absurd (cc)
+  binds a b todo vs (inr (inr (inr (inl h)))) = let e = h.0 in absurd (cc)
+  binds a b todo vs (inr (inr (inr (inr h)))) = let e = h.0 in absurd (cc)
 
   pub assigns : (a b : Expr) (todo : List Todo) (vs : List Value) → Now t heads ps c i w K (piece.Eval (src.Assign a b) ∷ todo) vs → Now t heads ps c i w K (piece.Eval a ∷ (piece.Eval b ∷ (piece.KeepNow ∷ todo))) vs
   assigns a b todo vs (inl (inl h)) = absurd h
@@ -116,7 +247,8 @@ module _ (t : Table) (heads : ℕ → ℕ → Bool) (ps : List Ty) (c i : ℕ) (
   assigns (src.OfObject x) b todo vs (inr (inl h)) = absurd h.0
   assigns a b todo vs (inr (inl h)) = absurd h.0
   assigns a b todo vs (inr (inr (inl h))) = absurd h
-  assigns a b todo vs (inr (inr (inr h))) = let e = h.0 in absurd (cc)
+  assigns a b todo vs (inr (inr (inr (inl h)))) = let e = h.0 in absurd (cc)
+  assigns a b todo vs (inr (inr (inr (inr h)))) = let e = h.0 in absurd (cc)
 
 module _ (t : Table) (heads : ℕ → ℕ → Bool) (few : Few) (kinds : List Sig) (Z : ℕ → ℕ → Type 0) (s : State) (life : StackState Z s) (callers : AllBuild t heads few kinds s.env.exec s.env.frames s.callers) (anew : AllAnew t heads s.env.frames s.callers) where
   abbrev pub With : (List Ty → ℕ → ℕ → Value → (Ty → Value → Type 0) → Type 0) → Type 0
@@ -230,21 +362,13 @@ module _ (t : Table) (heads : ℕ → ℕ → Bool) (few : Few) (kinds : List Si
     pass_on (Some why) c cs l h b p = passed s.run.result (raising.why_by why c.raised) c cs l h b p
 
     leave_for : (b : Bool) (c : Active) (cs : List Active) → length s.env.frames ≡ suc (length (c ∷ cs)) → Stack Z s.env.frames (c ∷ cs) → AllBuild t heads few kinds s.env.exec s.env.frames (c ∷ cs) → AllAnew t heads s.env.frames (c ∷ cs) → StepBuilds t heads few kinds (raising.leave_for b c cs s)
-    leave_for true c cs l h b p = stay
+    leave_for true c cs l h b p = tt
     leave_for false c cs l h b p = pass_on s.run.raised c cs l h b p
 
     pub leaves : (cs : List Active) → length s.env.frames ≡ suc (length cs) → Stack Z s.env.frames cs → AllBuild t heads few kinds s.env.exec s.env.frames cs → AllAnew t heads s.env.frames cs → StepBuilds t heads few kinds (raising.leave_step cs s)
     leaves [] l h b p = stay
     leaves (c ∷ cs) l h b p =
         either (StepBuilds t heads few kinds) (raising.arrives s.run.raised (length (c ∷ cs))) _ _ (returned s.run.result (c ∷ cs) l h b p) (leave_for _ c cs l h b p)
-
-  pub outcome : (x : Outcome) (todo : List Todo) (vs : List Value) → Holding todo → StepBuilds t heads few kinds (piece.outcome_step x todo vs s)
-  outcome (Gives n) todo vs h = go todo _ h
-  outcome (Faults f) todo vs h = stays todo _ h
-
-  pub element : (n : Shape) (i : Option ℕ) (todo : List Todo) (v : Value) (vs : List Value) → Holding todo → StepBuilds t heads few kinds (piece.element_step n i todo v vs s)
-  element n None todo v vs h = stays todo _ h
-  element n (Some i) todo v vs h = go todo _ h
 
   -- expressions, and what is to do behind them
 
@@ -255,8 +379,8 @@ module _ (t : Table) (heads : ℕ → ℕ → Bool) (few : Few) (kinds : List Si
     converts k l c = c
 
     object : (x : ObjectExpr) → IsOther (src.OfObject x) → Nothing_left → StepBuilds t heads few kinds (quiet.object_step x todo s)
-    object src.This o h = go _ _ (calls, h)
-    object src.Counted o h = go _ _ (calls, h)
+    object src.This o h = absurd o
+    object src.Counted o h = absurd o
     object (src.CallOn r a args) o h = go _ _ ((tt, (next, calls)), h)
     object (src.CallLive r a args) o h = go _ _ ((tt, (next, calls)), h)
     object (src.CallUnwritten r a) o h = go _ _ ((tt, (next, calls)), h)
@@ -281,16 +405,16 @@ module _ (t : Table) (heads : ℕ → ℕ → Bool) (few : Few) (kinds : List Si
     object (src.Bind a b) o h = absurd o
 
     evaluated : (a : Expr) → IsOther a → Nothing_left → StepBuilds t heads few kinds (quiet.eval_step a todo s)
-    evaluated (src.Variable k) o h = go _ _ (calls, h)
-    evaluated (src.Element n k a b) o h = go _ _ ((tt, (tt, calls)), h)
-    evaluated (src.Load a) o h = go _ _ ((tt, calls), h)
-    evaluated (src.Negated a) o h = go _ _ ((tt, calls), h)
-    evaluated (src.Not a) o h = go _ _ ((tt, calls), h)
-    evaluated (src.AsCharacter a) o h = go _ _ ((tt, calls), h)
-    evaluated (src.AsTruth a) o h = go _ _ ((tt, calls), h)
-    evaluated (src.Operate op a b) o h = go _ _ ((tt, (tt, calls)), h)
-    evaluated (src.And a b) o h = go _ _ ((tt, calls), h)
-    evaluated (src.Or a b) o h = go _ _ ((tt, calls), h)
+    evaluated (src.Variable k) o h = absurd o
+    evaluated (src.Element n k a b) o h = absurd o
+    evaluated (src.Load a) o h = absurd o
+    evaluated (src.Negated a) o h = absurd o
+    evaluated (src.Not a) o h = absurd o
+    evaluated (src.AsCharacter a) o h = absurd o
+    evaluated (src.AsTruth a) o h = absurd o
+    evaluated (src.Operate op a b) o h = absurd o
+    evaluated (src.And a b) o h = absurd o
+    evaluated (src.Or a b) o h = absurd o
     evaluated (src.Update op k p a) o h = go _ _ ((tt, (tt, converts k (piece.KeepNow ∷ todo) calls)), h)
     evaluated (src.StepBehind op k p) o h = go _ _ ((tt, (tt, converts k (piece.StoreNow ∷ (piece.DropBelowNow ∷ todo)) calls)), h)
     evaluated src.Fail o h = stays todo _ (calls, h)
@@ -416,7 +540,7 @@ module _ (t : Table) (heads : ℕ → ℕ → Bool) (few : Few) (kinds : List Si
 
   pub live : (r : Option Routine) (todo : List Todo) → Holding todo → StepBuilds t heads few kinds (quiet.live_step r todo s)
   live None todo h = stays _ _ h
-  live (Some r) todo h = either (StepBuilds t heads few kinds) (sw.is_live (piece.exec_at (top (drop r.params s.run.operands)) s.env) s.env) _ _ (go todo _ h) (stays todo _ h)
+  live (Some r) todo h = either (StepBuilds t heads few kinds) (sw.is_live (piece.exec_at (top (drop r.params s.run.operands)) s.env) s.env) _ _ (go todo _ h) tt
 
   pub land : (w : Option UnwindReason) (todo : List Todo) → Holding todo → StepBuilds t heads few kinds (quiet.land_step w todo s)
   land None todo h = go _ _ h
@@ -425,7 +549,7 @@ module _ (t : Table) (heads : ℕ → ℕ → Bool) (few : Few) (kinds : List Si
   -- mutex objects
 
   pub unless : (q : ℕ) (step : Step) (todo : List Todo) → Holding todo → StepBuilds t heads few kinds step → StepBuilds t heads few kinds (monitors.unless_held_up q step todo s)
-  unless q step todo h k = either (StepBuilds t heads few kinds) (inside.is_held_up q s.env) _ step (stays todo _ h) k
+  unless q step todo h k = either (StepBuilds t heads few kinds) (inside.is_held_up q s.env) _ step tt k
 
   enter_at : (d : Option ℕ) (q m : ℕ) (todo : List Todo) → Holding todo → StepBuilds t heads few kinds (monitors.enter_at d q m todo s)
   enter_at (Some d) q m todo h = go_in _ _ _ (same refl refl) h
@@ -435,7 +559,7 @@ module _ (t : Table) (heads : ℕ → ℕ → Bool) (few : Few) (kinds : List Si
   enter m None todo h = stays _ _ h
   enter m (Some r) todo h =
       let q = piece.object_in (top (drop r.params s.run.operands)) in
-      either (StepBuilds t heads few kinds) (monitors.may_call r.written s) _ _ (enter_at (find q s.env.depths) q m todo h) (stays todo _ h)
+      either (StepBuilds t heads few kinds) (monitors.may_call r.written s) _ _ (enter_at (find q s.env.depths) q m todo h) tt
 
   polled : (w : Option UnwindReason) (todo : List Todo) → Holding todo → Holding (monitors.leave_todo w todo)
   polled None todo h = h
@@ -449,10 +573,10 @@ module _ (t : Table) (heads : ℕ → ℕ → Bool) (few : Few) (kinds : List Si
   pub make : (c n : ℕ) (r : Option Routine) (todo : List Todo) → Holding todo → StepBuilds t heads few kinds (monitors.make_step c n r todo s)
   make c n None todo h = stays _ _ h
   make c n (Some r) todo h =
-      either (StepBuilds t heads few kinds) (monitors.may_call r.written s) _ _ (stays_in _ _ _ (same refl refl) h) (stays todo _ h)
+      either (StepBuilds t heads few kinds) (monitors.may_call r.written s) _ _ (stays_in _ _ _ (same refl refl) h) tt
 
   pub condition : (n : ℕ) (i : Option ℕ) (todo : List Todo) → Holding todo → StepBuilds t heads few kinds (monitors.condition_step n i todo s)
-  condition n None todo h = stays todo _ h
+  condition n None todo h = tt
   condition n (Some i) todo h = go todo _ h
 
   pub accept_by : (mask q site : ℕ) (todo : List Todo) (vs : List Value) → Holding todo → StepBuilds t heads few kinds (monitors.accept_by mask q site todo vs s)
@@ -467,11 +591,11 @@ module _ (t : Table) (heads : ℕ → ℕ → Bool) (few : Few) (kinds : List Si
 
   pend : (n : Exec) (e : Event) (todo : List Todo) (vs : List Value) → Holding todo → StepBuilds t heads few kinds (polls.pend_step n e todo vs s)
   pend n e todo vs h =
-      either (StepBuilds t heads few kinds) (nat_lt (length (inside.pending_at n s.env)) PENDING_EVENTS) _ _ (go_in _ _ _ (kept.links_keeps (λ l. record l { pending = l.pending ++ (record { event = e.number; x = e.x; y = e.y }) ∷ [] }) n s.env) h) (stays todo vs h)
+      either (StepBuilds t heads few kinds) (nat_lt (length (inside.pending_at n s.env)) PENDING_EVENTS) _ _ (go_in _ _ _ (kept.links_keeps (λ l. record l { pending = l.pending ++ (record { event = e.number; x = e.x; y = e.y }) ∷ [] }) n s.env) h) tt
 
   pend_at : (x : Option Exec) (e : Event) (todo : List Todo) (vs : List Value) → Holding todo → StepBuilds t heads few kinds (polls.pend_at x e todo vs s)
-  pend_at None e todo vs h = stays todo vs h
-  pend_at (Some n) e todo vs h = either (StepBuilds t heads few kinds) (sw.is_live (Some n) s.env) _ _ (pend n e todo vs h) (stays todo vs h)
+  pend_at None e todo vs h = tt
+  pend_at (Some n) e todo vs h = either (StepBuilds t heads few kinds) (sw.is_live (Some n) s.env) _ _ (pend n e todo vs h) tt
 
   pub raise_at : (v : Value) (e : Event) (todo : List Todo) (vs : List Value) → Holding todo → StepBuilds t heads few kinds (polls.raise_at_step v e todo vs s)
   raise_at (Object q) e todo vs h = stays todo vs h
@@ -524,7 +648,7 @@ module _ (t : Table) (heads : ℕ → ℕ → Bool) (few : Few) (kinds : List Si
 
   main_left : (w : Option UnwindReason) (todo : List Todo) → Holding todo → StepBuilds t heads few kinds (raising.main_left w todo s)
   main_left (Some (reason.ReturnTo n)) todo h = told _ refl refl h
-  main_left w todo h = stays todo [] h
+  main_left w todo h = tt
 
   coroutine_left : (w : Option UnwindReason) (todo : List Todo) → Returns w → Holding todo → StepBuilds t heads few kinds (raising.coroutine_left w todo s)
   coroutine_left (Some (reason.ReturnTo n)) todo calm h = told _ refl refl h

@@ -30,7 +30,6 @@ module _ (t : Table) (heads : ℕ → ℕ → Bool) (ps : List Ty) (c i : ℕ) (
   lands_more : (todo : List Todo) (vs : List Value) → Lands t heads ps c i w K todo vs → Lands t heads ps c i w L todo vs
   lands_more (piece.FieldNow s m ∷ todo) vs h = lands_more todo vs h
   lands_more (piece.BindNow ∷ todo) vs h = h
-  lands_more (piece.KeepNow ∷ todo) vs h = h
   lands_more todo vs h = absurd h
 
   starts_aside_more : (e : Expr) (todo : List Todo) → StartsAside t heads ps c i w K e todo → StartsAside t heads ps c i w L e todo
@@ -47,9 +46,11 @@ module _ (t : Table) (heads : ℕ → ℕ → Bool) (ps : List Ty) (c i : ℕ) (
   now_more (piece.Eval e ∷ todo) vs (inl (inr (inr h))) = inl (inr (inr (h.0, h.1, onwards_more h.0 todo vs h.2)))
   now_more (piece.Eval e ∷ todo) vs (inr (inl h)) = inr (inl h)
   now_more (piece.Eval e ∷ todo) vs (inr (inr (inl h))) = inr (inr (inl (starts_aside_more e todo h)))
-  now_more (piece.Eval e ∷ todo) vs (inr (inr (inr h))) = inr (inr (inr (h.0, lands_more todo vs h.1)))
+  now_more (piece.Eval e ∷ todo) vs (inr (inr (inr (inl h)))) = inr (inr (inr (inl (h.0, lands_more todo vs h.1))))
+  now_more (piece.Eval e ∷ todo) vs (inr (inr (inr (inr h)))) = inr (inr (inr (inr h)))
   now_more (piece.FieldNow s m ∷ todo) vs (inl h) = inl (h.0, onwards_more h.0 (piece.FieldNow s m ∷ todo) (piece.below vs) h.1, more h.0 (piece.top vs) h.2)
-  now_more (piece.FieldNow s m ∷ todo) vs (inr h) = inr (lands_more todo (piece.below vs) h)
+  now_more (piece.FieldNow s m ∷ todo) vs (inr (inl h)) = inr (inl (lands_more todo (piece.below vs) h))
+  now_more (piece.FieldNow s m ∷ todo) vs (inr (inr h)) = inr (inr h)
   now_more (piece.BindNow ∷ todo) vs (inl h) = inl (h.0, onwards_more h.0 (piece.BindNow ∷ todo) (piece.below vs) h.1, more h.0 (piece.top vs) h.2)
   now_more (piece.BindNow ∷ todo) vs (inr h) = inr h
   now_more todo vs h = h

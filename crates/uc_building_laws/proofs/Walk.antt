@@ -89,6 +89,18 @@ module _ (g : Program) (t : Table) (heads : ℕ → ℕ → Bool) (few : Few) (k
   evals (src.OfObject (src.GetOwn k j)) todo b h = making.value t heads few kinds Z s life st.callers st.anew.1 k j todo h.0.1 h.1
   evals (src.OfObject (src.FieldOf k j a)) todo b h = making.field_of t heads few kinds Z s life st.callers st.anew.1 k j a todo h.0.1 h.1
   evals (src.OfObject (src.Bind x a)) todo b h = making.bind_to t heads few kinds Z s life st.callers st.anew.1 x a todo h.0.1 h.1
+  evals (src.Variable k) todo b h = making.still t heads few kinds Z s life st.callers st.anew.1 todo h.0.1 (src.Variable k) tt b h.1
+  evals (src.Element m k a i) todo b h = making.still t heads few kinds Z s life st.callers st.anew.1 todo h.0.1 (src.Element m k a i) tt b h.1
+  evals (src.Load a) todo b h = making.still t heads few kinds Z s life st.callers st.anew.1 todo h.0.1 (src.Load a) tt b h.1
+  evals (src.Negated a) todo b h = making.still t heads few kinds Z s life st.callers st.anew.1 todo h.0.1 (src.Negated a) tt b h.1
+  evals (src.Not a) todo b h = making.still t heads few kinds Z s life st.callers st.anew.1 todo h.0.1 (src.Not a) tt b h.1
+  evals (src.AsCharacter a) todo b h = making.still t heads few kinds Z s life st.callers st.anew.1 todo h.0.1 (src.AsCharacter a) tt b h.1
+  evals (src.AsTruth a) todo b h = making.still t heads few kinds Z s life st.callers st.anew.1 todo h.0.1 (src.AsTruth a) tt b h.1
+  evals (src.Operate op a c) todo b h = making.still t heads few kinds Z s life st.callers st.anew.1 todo h.0.1 (src.Operate op a c) tt b h.1
+  evals (src.And a c) todo b h = making.still t heads few kinds Z s life st.callers st.anew.1 todo h.0.1 (src.And a c) tt b h.1
+  evals (src.Or a c) todo b h = making.still t heads few kinds Z s life st.callers st.anew.1 todo h.0.1 (src.Or a c) tt b h.1
+  evals (src.OfObject src.This) todo b h = making.still t heads few kinds Z s life st.callers st.anew.1 todo h.0.1 (src.OfObject src.This) tt b h.1
+  evals (src.OfObject src.Counted) todo b h = making.still t heads few kinds Z s life st.callers st.anew.1 todo h.0.1 (src.OfObject src.Counted) tt b h.1
   evals (src.OfObject y) todo b h = steps.eval t heads few kinds Z s life st.callers st.anew.1 todo h.0.0 h.0.1 b (src.OfObject y) tt h.1
   evals a todo b h = steps.eval t heads few kinds Z s life st.callers st.anew.1 todo h.0.0 h.0.1 b a tt h.1
 
@@ -99,16 +111,20 @@ module _ (g : Program) (t : Table) (heads : ℕ → ℕ → Bool) (few : Few) (k
 
   acts : (p : Todo) (todo : List Todo) → s.run.control ≡ p ∷ todo → GoesOn (p ∷ todo) s.run.raised → BuildsAt t heads few kinds source s (p ∷ todo) → ClearsAt t (p ∷ todo) s → TailAt g (p ∷ todo) → SparesAt Z source (p ∷ todo) s → OnWay Anew (p ∷ todo) → Before (p ∷ todo) → StepBuilds t heads few kinds (quiet.act source p todo s)
   acts (piece.Eval a) todo e calm f l b x y h = evals a todo b.1 h
-  acts (piece.ElementNow m k) todo e calm f l b x y h = steps.element t heads few kinds Z s life st.callers st.anew.1 k _ todo _ _ h
-  acts piece.NegateNow todo e calm f l b x y h = steps.outcome t heads few kinds Z s life st.callers st.anew.1 _ todo _ h
-  acts (piece.OperateNow op) todo e calm f l b x y h = steps.outcome t heads few kinds Z s life st.callers st.anew.1 _ todo _ h
+  acts piece.LoadNow todo e calm f l b x y h = making.passed t heads few kinds Z s life st.callers st.anew.1 todo h.0 _ h.1
+  acts piece.NotNow todo e calm f l b x y h = making.passed t heads few kinds Z s life st.callers st.anew.1 todo h.0 _ h.1
+  acts piece.CharacterNow todo e calm f l b x y h = making.passed t heads few kinds Z s life st.callers st.anew.1 todo h.0 _ h.1
+  acts piece.TruthNow todo e calm f l b x y h = making.passed t heads few kinds Z s life st.callers st.anew.1 todo h.0 _ h.1
+  acts (piece.ElementNow m k) todo e calm f l b x y h = making.element_at t heads few kinds Z s life st.callers st.anew.1 todo h.0 k _ _ _ h.1
+  acts piece.NegateNow todo e calm f l b x y h = making.reckoned t heads few kinds Z s life st.callers st.anew.1 todo h.0 _ _ h.1
+  acts (piece.OperateNow op) todo e calm f l b x y h = making.reckoned t heads few kinds Z s life st.callers st.anew.1 todo h.0 _ _ h.1
   acts piece.StoreNow todo e calm f l b x y h = steps.go_in t heads few kinds Z s life st.callers st.anew.1 _ _ _ (kept.number_keeps (top (below s.run.operands)) (number (top s.run.operands)) s.env) h
   acts piece.KeepNow todo e calm f l b x y h = making.writes t heads few kinds Z s life st.callers st.anew.1 todo _ (top (below s.run.operands)) (number (top s.run.operands)) h.0 h.1
   acts (piece.SetNow k) todo e calm f l b x y h = steps.go_in t heads few kinds Z s life st.callers st.anew.1 _ _ _ (kept.number_keeps (piece.variable_at k s) (number (top s.run.operands)) s.env) h
   acts (piece.FieldNow k j) todo e calm f l b x y h = making.field_now t heads few kinds Z s life st.callers st.anew.1 k j todo h.0 h.1
   acts piece.BindNow todo e calm f l b x y h = making.bind_now t heads few kinds Z s life st.callers st.anew.1 laid short todo _ x lies h.0 h.1
   acts (piece.Branch a c) todo e calm f l b x y h = go _ _ ((any_rest Anew todo b.1, h.0), h.1)
-  acts (piece.Choose a c) todo e calm f l b x y h = go _ _ ((any_awaited Anew todo b.0, h.0), h.1)
+  acts (piece.Choose a c) todo e calm f l b x y h = making.chooses t heads few kinds Z s life st.callers st.anew.1 todo h.0 (any_awaited Anew todo b.0) (is_zero (number (top s.run.operands))) a c _ h.1
   acts piece.DropNow todo e calm f l b x y h = making.later t heads few kinds Z s life st.callers st.anew.1 todo _ h.0 h.1
   acts (piece.Within line) todo e calm f l b x y h = making.later t heads few kinds Z s life st.callers st.anew.1 todo _ h.0 h.1
   acts (piece.Arguments src.NoExprs) todo e calm f l b x y h = go _ _ h
@@ -141,7 +157,7 @@ module _ (g : Program) (t : Table) (heads : ℕ → ℕ → Bool) (few : Few) (k
   acts (piece.Do a) todo e calm f l b x y h = steps.stmt t heads few kinds Z s life st.callers st.anew.1 a todo h.0.0 h.0.1 h.1
   acts (piece.Rest ss) todo e calm f l b x y h = rests ss todo y h
   acts (piece.Exit w) todo e calm f l b x y h = steps.exits t heads few kinds Z s life st.callers st.anew.1 (stay h.1) w todo h
-  acts piece.NoReturnNow todo e calm f l b x y h = stays _ _ h
+  acts piece.NoReturnNow todo e calm f l b x y h = tt
   acts (piece.InLoop order c step body) todo e calm f l b x y h = go _ _ (steps.turns t heads few kinds Z s life st.callers st.anew.1 step order c body todo h)
   acts piece.InWhole todo e calm f l b x y h = go _ _ h
   acts (piece.Clean z) todo e calm f l b x y h = go _ _ (steps.cleans t heads few kinds Z s life st.callers st.anew.1 z todo (any_awaited Anew (piece.DropNow ∷ todo) b.2) h)

@@ -46,6 +46,7 @@ use Rattle.uc_sound.specs.Tables.{table_of}
 use Rattle.uc_sound.proofs.MainLemmas.{law_mains}
 use Rattle.uc_sound.proofs.SoundLemmas.{law_sound}
 use Rattle.uc_place_laws.specs.Opened.{OpensNone, BuildsNone, OpenedRoutine}
+use Rattle.uc_place_laws.proofs.OpeningMarks.{next_opens}
 use Rattle.uc_place_laws.proofs.Openings.{law_opened}
 use Rattle.uc_place_laws.proofs.OpeningRuns.{law_runs as called}
 use Rattle.uc_place_laws.proofs.SparingRuns.{law_sparing as sparing}
@@ -75,6 +76,7 @@ use Rattle.uc_life_laws.proofs.Parked.{Ex}
 use Rattle.uc_life_laws.proofs.WorldsBy as by
 use Rattle.uc_life_laws.proofs.WorldsBy.{KeepsBy}
 use Rattle.uc_building_laws.specs.Building.{heads_of}
+use Rattle.uc_building_laws.specs.Pairs.{AllCalled}
 use Rattle.uc_building_laws.specs.BuildingStates.{variable, of_wait, BuildsBy, Stands, Starts, BuildsRest, Left, Built, BuiltState}
 use Rattle.uc_building_laws.specs.BuiltLasting.{FindsBuilt}
 use Rattle.uc_building_laws.specs.BuildingRuns.{OthersHold, MeetsBuilding, LawBuilt}
@@ -115,7 +117,7 @@ module _ (source : Source) (opts : Options) (P Q : State → Type 0) where
 -- no routine begins with the scope of an object that is a variable, nor with what builds one
 begins_open : (p : Program) (r : Option Routine) → OpenedRoutine p r → OpensNone (routine_or_none r).body
 begins_open p None h = tt
-begins_open p (Some r) h = h.0
+begins_open p (Some r) h = next_opens (λ d x. ⊥) r.body h.0
 
 begins_built : (p : Program) (r : Option Routine) → OpenedRoutine p r → BuildsNone (routine_or_none r).body
 begins_built p None h = tt
@@ -157,19 +159,19 @@ module _ (p : Program) (formed : IsFormed p) (accepted : breaks_of p ≡ []) whe
 
     -- of the running execution
     abbrev Runs_by : List Sig → List Ty → State → Type 0
-    Runs_by gs given s = Lives t few s.env.exec gs (stopped s) × BuildsBy t (heads_of p) few gs (Left t (heads_of p) given s.run) s × Stands t (heads_of p) few gs s × Starts t (heads_of p) few gs s
+    Runs_by gs given s = Lives t few s.env.exec gs (stopped s) × BuildsBy t (heads_of p) few gs (Left t (heads_of p) given s.run) s × Stands t (heads_of p) few gs s × Starts t (heads_of p) few gs s × AllCalled t gs (s.run ∷ s.callers)
 
     operand : (a : Ty) (given : List Ty) (v : Value) (s : State) → S (a ∷ given) s → ((gs : List Sig) → Known t few s.env.exec (AtHand t few s.env.exec gs (s.run ∷ s.callers)) a v) → S given (with_operand v s)
     operand a given v s x i =
         let y = answers.brought_claims t few J a given v s x.0 i in
         let b : BuildsBy t (heads_of p) few x.0.sigs of_wait (with_operand v s) = record { anew = x.1.1.anew; run = x.1.1.run; callers = x.1.1.callers } in
-        (y.0, subst (λ gs. Runs_by gs given (with_operand v s)) (sym y.1) (record { frames = x.1.0.frames; stack = (x.1.0.stack.0, x.1.0.stack.1, x.1.0.stack.2) }, rest_left t (heads_of p) few x.0.sigs given (with_operand v s) b, x.1.2, x.1.3))
+        (y.0, subst (λ gs. Runs_by gs given (with_operand v s)) (sym y.1) (record { frames = x.1.0.frames; stack = (x.1.0.stack.0, x.1.0.stack.1, x.1.0.stack.2) }, rest_left t (heads_of p) few x.0.sigs given (with_operand v s) b, x.1.2, x.1.3, x.1.4))
 
     member : (given : List Ty) (m : Option Members) (o : ℕ) (s : State) → MembersBy P (home.Object o) m → S given s → S given (entered m o s)
     member given None o s k x = x
     member given (Some m) o s k x =
         let y = answers.entered_claims t few J given (Some m) o s k x.0 in
-        (y.0, subst (λ gs. Runs_by gs given (entered (Some m) o s)) (sym y.1) (x.1.0, record { anew = x.1.1.anew; run = x.1.1.run; callers = x.1.1.callers }, x.1.2, x.1.3))
+        (y.0, subst (λ gs. Runs_by gs given (entered (Some m) o s)) (sym y.1) (x.1.0, record { anew = x.1.1.anew; run = x.1.1.run; callers = x.1.1.callers }, x.1.2, x.1.3, x.1.4))
 
     fresh_main : (r : ℕ) (x : Routine) (n : ℕ) → slice_get source.routines r ≡ Some x → IsTask t r → J (main_of n) (t.routine r ∷ []) (fresh x (Object n))
     fresh_main r x n e h = ((life_kept t few (OutwardsOrMade (t.routine r ∷ []))).begins (main_of n) x (Object n), fresh_built t (heads_of p) few (main_of n) (t.routine r ∷ []) x (Object n))
@@ -177,7 +179,7 @@ module _ (p : Program) (formed : IsFormed p) (accepted : breaks_of p ≡ []) whe
     first : (r n : ℕ) → Claimed J t few [] (first_state (routine_of source r) n) → S [] (first_state (routine_of source r) n)
     first r n y =
         let b : BuildsRest t (heads_of p) few y.0.sigs (first_state (routine_of source r) n) = law_steps.begins t (heads_of p) few y.0.sigs source r n (begins_open p (slice_get source.routines r) (law_opened p r)) (begins_built p (slice_get source.routines r) (law_opened p r)) in
-        (y.0, (y.1.0, record { anew = y.1.1.anew; run = y.1.1.run; callers = y.1.1.callers }, b.stands, b.starts))
+        (y.0, (y.1.0, record { anew = y.1.1.anew; run = y.1.1.run; callers = y.1.1.callers }, b.stands, b.starts, y.1.1.pairs))
 
     -- a step finds what it is to find, in a state in which that is known
     abbrev pub Follows : State → Type 0
@@ -186,11 +188,11 @@ module _ (p : Program) (formed : IsFormed p) (accepted : breaks_of p ≡ []) whe
     pub keeps : KeepsBy t few source (λ s. Unit {0}) S P Follows
     keeps = record {
       hand = λ given s x. x.0.env.hand;
-      handed = λ given hand s x h. (record { sigs = x.0.sigs; frames = x.0.frames; run = x.0.run; callers = x.0.callers; env = record { house = x.0.env.house; hand = h } }, (x.1.0, record { anew = x.1.1.anew; run = x.1.1.run; callers = x.1.1.callers }, x.1.2, x.1.3));
+      handed = λ given hand s x h. (record { sigs = x.0.sigs; frames = x.0.frames; run = x.0.run; callers = x.0.callers; env = record { house = x.0.env.house; hand = h } }, (x.1.0, record { anew = x.1.1.anew; run = x.1.1.run; callers = x.1.1.callers }, x.1.2, x.1.3, x.1.4));
       told = λ q a s x h i. answers.told t few S P operand member source q a s x h i;
       spawned = λ o n s x i. first (child_main source s.run.control) n (answers.begins t few J (built_kept t (heads_of p) few) source sound fresh_main (child_main source s.run.control) n x.0 i);
       begins = λ i. first source.main 0 (answers.begins t few J (built_kept t (heads_of p) few) source sound fresh_main source.main 0 main i);
-      steps = λ s clear m l x. let y = m.1 x in law_kept.steps t (heads_of p) few source p sound laid (law_heads.spans p formed accepted) s m.0 y.0 y.1 y.2 y.3;
+      steps = λ s clear m l x. let y = m.1 x in law_kept.steps t (heads_of p) few source p sound laid (law_heads.spans p formed accepted) (law_heads.kinds p formed accepted) s m.0 y.0 y.1 y.2 y.3;
     }
 
     module _ (input : List ℕ) (opts : Options) (range : InRange opts) (j : Journal) (w : World) (r : Runs source input opts j w) (fits : RunFits source input opts j w r) (on : is_over j ≡ false) (world : by.KnownWorld t few source Z laid known (λ s. Unit {0}) (λ w. Unit {0}) S P Follows (nothing_beside t source S Follows) keeps j w) where

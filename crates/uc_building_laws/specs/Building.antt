@@ -3,7 +3,7 @@ use Rattle.std.specs.Prelude.{◌≡◌, ℕ, ◌≤◌, ◌⊎◌, ◌&&◌, �
 use Rattle.uc_tree.specs.declared.kinds.Role.TheVariants as role
 use Rattle.uc_tree.specs.Objects.{written_at}
 use Rattle.uc_tree.specs.Programs.{Program}
-use Rattle.uc_tree.specs.Source.{field_cells, Expr, ObjectExpr, Literal, Get, Assign, OfObject, OwnField, GetOwn, FieldOf, Bind, Stmt, Stmts, Evaluate, Fill, OfTasks, SetUp, Nil, Then, Scoped, Built, routine_of}
+use Rattle.uc_tree.specs.Source.{field_cells, Expr, ObjectExpr, Literal, Variable, Element, Get, Load, Negated, Not, AsCharacter, AsTruth, Operate, And, Or, Assign, OfObject, This, OwnField, GetOwn, FieldOf, Counted, Bind, Stmt, Stmts, Evaluate, Fill, OfTasks, SetUp, Nil, Then, Scoped, Built, routine_of}
 use Rattle.uc_machine.specs.Pieces as piece
 use Rattle.uc_machine.specs.Pieces.{FieldAt, Value, Todo, LAST_ADDRESS, top, below, further}
 use Rattle.uc_resolve.specs.Resolve.{source_of}
@@ -28,10 +28,36 @@ abbrev mutual
   is_calm_object (FieldOf s m e) = is_calm e
   is_calm_object o = false
 
--- another field of the object at hand than this is bound to what is found so, or a number that is is written to one
+-- found without a call, and without anything that is written or bound; a fault may end it
+abbrev mutual
+  pub is_still : Expr → Bool
+  is_still (Literal n) = true
+  is_still (Variable k) = true
+  is_still (Element n s e i) = is_still e && is_still i
+  is_still (Get k) = true
+  is_still (Load e) = is_still e
+  is_still (Negated e) = is_still e
+  is_still (Not e) = is_still e
+  is_still (AsCharacter e) = is_still e
+  is_still (AsTruth e) = is_still e
+  is_still (Operate op e f) = is_still e && is_still f
+  is_still (And e f) = is_still e && is_still f
+  is_still (Or e f) = is_still e && is_still f
+  is_still (OfObject o) = is_still_object o
+  is_still e = false
+
+  pub is_still_object : ObjectExpr → Bool
+  is_still_object This = true
+  is_still_object (OwnField s m) = true
+  is_still_object (GetOwn s m) = true
+  is_still_object (FieldOf s m e) = is_still e
+  is_still_object Counted = true
+  is_still_object o = false
+
+-- another field of the object at hand than this is bound to what is calm, or a number that is found without a call is written to one
 abbrev pub is_aside : ℕ → Expr → Bool
 is_aside i (OfObject (Bind (OfObject (OwnField s m)) e)) = (if nat_eq m i then false else true) && is_calm e
-is_aside i (Assign (OfObject (OwnField s m)) e) = is_calm e
+is_aside i (Assign (OfObject (OwnField s m)) e) = is_still e
 is_aside i e = false
 
 -- an expression binds another field of the object at hand than this, or none
@@ -157,10 +183,10 @@ module _ (t : Table) (c i : ℕ) where
   abbrev pub IsBeside : ℕ → Type 0
   IsBeside m = (m ≡ i → ⊥) × IsField t c m × ((a : Ty) × (t.fields c m ≡ Cell a))
 
-  -- another field is bound to what is found so, or a number that is is written
+  -- another field is bound to what is calm, or a number is written that is found without a call
   abbrev pub Asides : Expr → Type 0
   Asides (OfObject (Bind (OfObject (OwnField s m)) e)) = (s ≡ t.shape c) × (is_calm e ≡ true) × IsBeside m
-  Asides (Assign (OfObject (OwnField s m)) e) = is_calm e ≡ true
+  Asides (Assign (OfObject (OwnField s m)) e) = is_still e ≡ true
   Asides e = ⊥
 
   -- a cell stands before it, in which an execution is named that is set up
@@ -204,6 +230,21 @@ module _ (t : Table) (heads : ℕ → ℕ → Bool) (ps : List Ty) (c i : ℕ) w
   Behind (piece.Within line ∷ todo) = Behind todo
   Behind todo = ⊥
 
+  -- so it is behind a number that is being found without a call, and is written then
+  abbrev pub Stills : List Todo → Type 0
+  Stills (piece.Eval e ∷ todo) = (is_still e ≡ true) × Stills todo
+  Stills (piece.LoadNow ∷ todo) = Stills todo
+  Stills (piece.ElementNow n s ∷ todo) = Stills todo
+  Stills (piece.FieldNow s m ∷ todo) = Stills todo
+  Stills (piece.NegateNow ∷ todo) = Stills todo
+  Stills (piece.NotNow ∷ todo) = Stills todo
+  Stills (piece.CharacterNow ∷ todo) = Stills todo
+  Stills (piece.TruthNow ∷ todo) = Stills todo
+  Stills (piece.OperateNow op ∷ todo) = Stills todo
+  Stills (piece.Choose e f ∷ todo) = ((is_still e ≡ true) × (is_still f ≡ true)) × Stills todo
+  Stills (piece.KeepNow ∷ todo) = Behind todo
+  Stills todo = ⊥
+
   -- `w`: the place of the object; `K`: what the values of parameters are known to
   module _ (w : Value) (K : Ty → Value → Type 0) where
     abbrev pub place : Value
@@ -229,28 +270,35 @@ module _ (t : Table) (heads : ℕ → ℕ → Bool) (ps : List Ty) (c i : ℕ) w
     abbrev pub Found : List Todo → List Value → Type 0
     Found todo vs = (a : Ty) × Onwards a todo (below vs) × K a (top vs)
 
-    -- what is found now is what another field is bound to, the place of which is the first of these operands, or a number that is written
+    -- what is found now is what another field is bound to, the place of which is the first of these operands
     abbrev pub Lands : List Todo → List Value → Type 0
     Lands (piece.FieldNow s m ∷ todo) vs = Lands todo vs
     Lands (piece.BindNow ∷ todo) vs = ((m : ℕ) × (top vs ≡ further (FieldAt (t.shape c) m) w) × IsBeside t c i m) × Behind todo
-    Lands (piece.KeepNow ∷ todo) vs = Behind todo
     Lands todo vs = ⊥
 
     -- the place of that is found, and then what it is bound to
     abbrev pub StartsAside : Expr → List Todo → Type 0
     StartsAside (OfObject (OwnField s m)) (piece.Eval e ∷ (piece.BindNow ∷ todo)) = Asides t c i (OfObject (Bind (OfObject (OwnField s m)) e)) × Behind todo
-    StartsAside (OfObject (OwnField s m)) (piece.Eval e ∷ (piece.KeepNow ∷ todo)) = (is_calm e ≡ true) × Behind todo
+    StartsAside (OfObject (OwnField s m)) (piece.Eval e ∷ (piece.KeepNow ∷ todo)) = (is_still e ≡ true) × Behind todo
     StartsAside e todo = ⊥
 
     abbrev pub Passes : Expr → List Todo → List Value → Type 0
-    Passes e todo vs = (Asides t c i e × Behind todo) ⊎ (StartsAside e todo ⊎ ((is_calm e ≡ true) × Lands todo vs))
+    Passes e todo vs = (Asides t c i e × Behind todo) ⊎ (StartsAside e todo ⊎ (((is_calm e ≡ true) × Lands todo vs) ⊎ ((is_still e ≡ true) × Stills todo)))
 
     -- the field is still to be bound, by an activation that has this to do, with these operands
     abbrev pub Now : List Todo → List Value → Type 0
     Now (piece.Do a ∷ todo) vs = BindsBy t ps c (λ m. Stays todo m) i a ⊎ Behind (piece.Do a ∷ todo)
     Now (piece.Eval e ∷ todo) vs = (BindsField t ps c (λ m. Stays todo m) i e ⊎ (Starts e todo ⊎ Finds e todo vs)) ⊎ Passes e todo vs
-    Now (piece.FieldNow s m ∷ todo) vs = Found (piece.FieldNow s m ∷ todo) vs ⊎ Lands (piece.FieldNow s m ∷ todo) (below vs)
+    Now (piece.FieldNow s m ∷ todo) vs = Found (piece.FieldNow s m ∷ todo) vs ⊎ (Lands (piece.FieldNow s m ∷ todo) (below vs) ⊎ Stills todo)
     Now (piece.BindNow ∷ todo) vs = Found (piece.BindNow ∷ todo) vs ⊎ Lands (piece.BindNow ∷ todo) (below vs)
+    Now (piece.LoadNow ∷ todo) vs = Stills todo
+    Now (piece.ElementNow n s ∷ todo) vs = Stills todo
+    Now (piece.NegateNow ∷ todo) vs = Stills todo
+    Now (piece.NotNow ∷ todo) vs = Stills todo
+    Now (piece.CharacterNow ∷ todo) vs = Stills todo
+    Now (piece.TruthNow ∷ todo) vs = Stills todo
+    Now (piece.OperateNow op ∷ todo) vs = Stills todo
+    Now (piece.Choose e f ∷ todo) vs = ((is_still e ≡ true) × (is_still f ≡ true)) × Stills todo
     Now (piece.KeepNow ∷ todo) vs = Behind todo
     Now (piece.SetUpNow r ∷ todo) vs = IsLed t c i × Behind todo
     Now todo vs = Behind todo

@@ -21,9 +21,10 @@ use Rattle.uc_life_laws.specs.Lives.{OutwardsOrMade}
 use Rattle.uc_life_laws.specs.LifeRuns.{IsLaidOut}
 use Rattle.uc_place_laws.specs.Opened.{OpensNone, BuildsNone, Spans}
 use Rattle.uc_place_laws.specs.CalledStates.{StepJoins, StepFollows}
-use Rattle.uc_place_laws.specs.OpeningLaws.{TailAt}
+use Rattle.uc_place_laws.specs.OpeningLaws.{CallsAt, PartsAt, TailAt}
 use Rattle.uc_place_laws.specs.Sparing.{SparesAt}
 use Rattle.uc_building_laws.specs.Building.{InHead}
+use Rattle.uc_building_laws.specs.Pairs.{AreKinded}
 use Rattle.uc_building_laws.specs.BuildingStates.{Awaits, variable, AtScope, BuildsState, BuildsRest, BuildsStep, Built, BuiltState}
 
 -- an object that is a variable is cleaned up
@@ -68,6 +69,8 @@ module _ (t : Table) (heads : ℕ → ℕ → Bool) (few : Few) (kinds : List Si
   -- be built; and all cells of frames have addresses
   pub record Fair (p : Program) : Type 0 where
     pub at : BuildsAt s.run.control
+    pub calls : CallsAt p source s.run.control s
+    pub parts : PartsAt p source s.run.control s
     pub joins : StepJoins s (quiet source s)
     pub follows : StepFollows p s (quiet source s)
     pub tails : TailAt p s.run.control
@@ -111,7 +114,7 @@ pub record LawSteps : Type 0 where
 -- these fields of an object that is a variable hold what is known
 pub record LawKept : Type 0 where
   pub steps : (t : Table) (heads : ℕ → ℕ → Bool) (few : Few) (source : Source) (p : Program) → Sound t source → IsLaidOut (Sized p) t →
-      IsSpanned p t → (s : State) → StackState (Sized p) s → (x : BuiltState t heads few [] s) →
+      IsSpanned p t → AreKinded p t → (s : State) → StackState (Sized p) s → (x : BuiltState t heads few [] s) →
       Finds t few x.0.sigs x.0.run.sig x.0.run.scope s s.run.control x.0.run.own →
       OpensBy t few (OutwardsOrMade x.0.sigs) s → Fair t heads few x.0.sigs source s p →
       StepBy t few (BuiltState t heads few) (ClaimsEnv t few (Built t heads few)) source (quiet source s)

@@ -30,6 +30,7 @@ use Rattle.uc_life_laws.specs.Opened.{any}
 use Rattle.uc_life_laws.specs.OpenedRuns.{MeetsObjects}
 use Rattle.uc_place_laws.specs.Opened.{ArePaired}
 use Rattle.uc_building_laws.specs.Building.{heads_of, InHead}
+use Rattle.uc_building_laws.specs.Pairs.{AreKinded}
 use Rattle.uc_building_laws.specs.BuildingStates.{variable, AtScope, BuiltState}
 use Rattle.uc_building_laws.specs.BuildingLaws.{IsSpanned}
 
@@ -71,6 +72,7 @@ pub record LawHeads : Type 0 where
       heads_of p x.class i ≡ true →
       InHead (table_of p) (heads_of p) ((table_of p).routine r).params x.class i q.body ⊎ IsUnbound (table_of p) ((table_of p).fields x.class i)
   pub spans : (p : Program) → IsFormed p → breaks_of p ≡ [] → IsSpanned p (table_of p)
+  pub kinds : (p : Program) → IsFormed p → breaks_of p ≡ [] → AreKinded p (table_of p)
   pub given : (t : Table) (few : Few) (source : Source) → Sound t source → (s : State) (x : KnowsState t few [] s) →
       (r line : ℕ) (c : CleanUp) (rest : Stmts) (todo : List Todo) →
       (s.run.control ≡ CallOnNow r ∷ (DropNow ∷ (Within line ∷ (Rest (Scoped c rest) ∷ todo)))) ⊎

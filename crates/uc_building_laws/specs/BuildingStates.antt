@@ -16,6 +16,7 @@ use Rattle.uc_life_laws.specs.Knowing.{ClaimsState}
 use Rattle.uc_life_laws.specs.Lives.{MakingAt, MakingIn, Lives}
 use Rattle.uc_building_laws.specs.Building.{Now}
 use Rattle.uc_building_laws.specs.Anew.{IsFree, OnWay, IsAnew, AllAnew}
+use Rattle.uc_building_laws.specs.Pairs.{AllCalled}
 
 -- a scope opens next, once the value of the statement before it is dropped
 abbrev pub Awaits : (CleanUp → List Todo → Type 0) → List Todo → Type 0
@@ -94,6 +95,7 @@ module _ (t : Table) (heads : ℕ → ℕ → Bool) (few : Few) where
     pub anew : AllAnew t heads x.frames (x.run ∷ x.callers)
     pub run : Builds t heads few kinds n of_wait x.frames x.run.frame x.run.this x.callers
     pub callers : AllBuild t heads few kinds n x.frames x.callers
+    pub pairs : AllCalled t kinds (x.run ∷ x.callers)
 
 module _ (t : Table) (heads : ℕ → ℕ → Bool) (few : Few) (kinds : List Sig) where
   -- a task whose running activation has this still to do
@@ -132,9 +134,13 @@ module _ (t : Table) (heads : ℕ → ℕ → Bool) (few : Few) (kinds : List Si
   StartsBehind (ask.Fault f) s = Unit {0}
   StartsBehind r s = Starts s
 
+  abbrev pub BuildsBehind : Request → State → Type 0
+  BuildsBehind (ask.Fault f) s = Unit {0}
+  BuildsBehind r s = BuildsBy of_wait s
+
   -- one that has asked this
   pub record BuildsAsk (r : Request) (s : State) : Type 0 where
-    pub builds : BuildsBy of_wait s
+    pub builds : BuildsBehind r s
     pub stands : StandsBehind r s
     pub starts : StartsBehind r s
 
@@ -157,4 +163,4 @@ module _ (t : Table) (heads : ℕ → ℕ → Bool) (few : Few) where
   -- are built
   abbrev pub BuiltState : List Ty → State → Type 0
   BuiltState given s = (x : ClaimsState t few Built given s) ×
-      (Lives t few s.env.exec x.sigs (stopped s) × BuildsBy t heads few x.sigs (Left t heads given s.run) s × Stands t heads few x.sigs s × Starts t heads few x.sigs s)
+      (Lives t few s.env.exec x.sigs (stopped s) × BuildsBy t heads few x.sigs (Left t heads given s.run) s × Stands t heads few x.sigs s × Starts t heads few x.sigs s × AllCalled t x.sigs (s.run ∷ s.callers))

@@ -1,5 +1,6 @@
 pub mod Building
 pub mod Anew
+pub mod Pairs
 pub mod BuildingStates
 pub mod BuildingLaws
 pub mod BuildingRuns

@@ -1,5 +1,5 @@
 -- Whoever lets go of an object has no other mark of it in the running activation, and older ones have none.
-use Rattle.std.proofs.Common.{◌≡◌, ℕ, suc, ◌+◌, ◌≤◌, Bool, true, false, List, [], ◌∷◌, refl, subst, arith}
+use Rattle.std.proofs.Common.{◌≡◌, ℕ, suc, ◌+◌, ◌≤◌, Bool, true, false, List, [], ◌∷◌, refl, sym, subst, arith}
 use Rattle.std.specs.Prelude.{nat_eq, if◌then◌else◌}
 use Rattle.std.proofs.lemmas.Bool.{eqb-true}
 use Rattle.uc_tree.specs.Source.{Source}
@@ -7,7 +7,7 @@ use Rattle.uc_machine.specs.Monitors.{this_object}
 use Rattle.uc_machine.specs.Pieces as piece
 use Rattle.uc_machine.specs.Pieces.{Todo, State, at}
 use Rattle.uc_depth_laws.specs.Entering.{Aspect, New, Other}
-use Rattle.uc_depth_laws.specs.Owing.{Tests, marks, counted, owed, owed_first, owed_waiting, owed_own, owed_resting, owed_elsewhere, owed_outside, First, Any, Done, Skipped, CallOf, Bound, is_told, Allowed, Entered, Deep, SoleAt, AloneAt}
+use Rattle.uc_depth_laws.specs.Owing.{Tests, marks, counted, owed_first, owed_waiting, owed_own, owed_elsewhere, owed_outside, First, Any, Done, Skipped, CallOf, Bound, is_told, Allowed, Entered, Deep, SoleAt, AloneAt}
 use Rattle.uc_depth_laws.specs.DepthLaws.{LawAlone}
 use Rattle.uc_depth_laws.proofs.Depths.{both_hold, true_false, counted_least, counted_none, none_first}
 
@@ -22,9 +22,6 @@ module _ (source : Source) (news : Tests) (s : State) (deep : Deep source news s
       let b = counted_least (this_object s) s.run.this (marks todo) 0 (omega (arith, l)) in
       let c = counted_none (this_object s) s.run.this in
       omega (arith, a, b, c)
-
-  behind : (todo : List Todo) → Entered source told Any todo → suc (marks todo) ≤ 1 → owed_waiting (this_object s) s.callers + owed_own (this_object s) s.env.own ≡ 0 → owed_resting (this_object s) s.env ≡ 0 → owed source (this_object s) (at todo s.run.operands s) ≡ 0
-  behind todo h l k e = let a = here todo h l in omega (arith, a, k, e)
 
   outside : (todo : List Todo) → Entered source told Any todo → suc (marks todo) ≤ 1 → owed_waiting (this_object s) s.callers + owed_own (this_object s) s.env.own ≡ 0 → owed_elsewhere (this_object s) s.env ≡ 0 → owed_outside source (this_object s) (at todo s.run.operands s) ≡ 0
   outside todo h l k e = let a = here todo h l in omega (arith, a, k, e)
@@ -82,6 +79,24 @@ module _ (source : Source) (news : Tests) (s : State) (deep : Deep source news s
   gone (CallOf r) h = absurd h
   gone Bound h = absurd h
 
+  -- what is let go of however deep the task is is not its own object
+  other : (k : Aspect) → told k ≡ true → s.env.own ≡ this_object s → ⊥
+  other k n e =
+      let h = both_hold (news s.env.exec.home k (this_object s)) (nat_eq (owed_waiting (this_object s) s.callers) 0) n in
+      true_false (subst (λ o. news s.env.exec.home k o ≡ true) (sym e) h.0) (mine k)
+
+  pub other_made : (todo : List Todo) → s.run.control ≡ piece.MadeNow ∷ todo → s.env.own ≡ this_object s → ⊥
+  other_made todo e = other New (made deep.first (list (piece.MadeNow ∷ todo) e).0)
+
+  pub other_spawned : (r : ℕ) (todo : List Todo) → s.run.control ≡ piece.SpawnNow r ∷ todo → s.env.own ≡ this_object s → ⊥
+  other_spawned r todo e = other New (spawned deep.first r (list (piece.SpawnNow r ∷ todo) e).0)
+
+  pub other_gone : (todo : List Todo) → s.run.control ≡ piece.GoneNow ∷ todo → s.env.own ≡ this_object s → ⊥
+  other_gone todo e = other Other (gone deep.first (list (piece.GoneNow ∷ todo) e).0)
+
+  pub other_given_up : (todo : List Todo) → s.run.control ≡ piece.GiveUpNow ∷ todo → s.env.own ≡ this_object s → ⊥
+  other_given_up todo e = other New (given_up deep.first (list (piece.GiveUpNow ∷ todo) e).0)
+
   sole : (l : List Todo) → s.run.control ≡ l → AloneAt source l s → SoleAt source l s
   sole (piece.MadeNow ∷ todo) e a =
       let h = list (piece.MadeNow ∷ todo) e in
@@ -92,10 +107,10 @@ module _ (source : Source) (news : Tests) (s : State) (deep : Deep source news s
   sole (piece.EnterNow m r ∷ todo) e a = a
   sole (piece.GoneNow ∷ todo) e a =
       let h = list (piece.GoneNow ∷ todo) e in
-      behind todo h.1 (one (piece.GoneNow ∷ todo) e) (nothing_older Other (gone deep.first h.0)) a
+      outside todo h.1 (one (piece.GoneNow ∷ todo) e) (nothing_older Other (gone deep.first h.0)) a
   sole (piece.GiveUpNow ∷ todo) e a =
       let h = list (piece.GiveUpNow ∷ todo) e in
-      behind todo h.1 (one (piece.GiveUpNow ∷ todo) e) (nothing_older New (given_up deep.first h.0)) a
+      outside todo h.1 (one (piece.GiveUpNow ∷ todo) e) (nothing_older New (given_up deep.first h.0)) a
   sole [] e a = tt
   sole (p ∷ todo) e a = tt
 

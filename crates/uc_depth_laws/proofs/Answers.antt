@@ -10,9 +10,10 @@ use Rattle.uc_entry.specs.declared.request.Request.{Request}
 use Rattle.uc_entry.specs.declared.request.Request.TheVariants as ask
 use Rattle.uc_machine.specs.declared.exec.Home.TheVariants as home
 use Rattle.uc_machine.specs.Quiet.{first_state, routine_todo, zeros}
+use Rattle.uc_machine.specs.Switches.{without}
 use Rattle.uc_machine.specs.Pieces as piece
 use Rattle.uc_machine.specs.Pieces.{Value, Object, Todo, State, Members}
-use Rattle.uc_machine.specs.Answering.{answered, child_main, child_of, entered, new_members, with_operand}
+use Rattle.uc_machine.specs.Answering.{answered, child_main, child_of, entered, new_members, with_hand, with_operand}
 use Rattle.uc_depth_laws.specs.Entering.{Aspect, holds_object, is_holding, EnteredSource}
 use Rattle.uc_depth_laws.specs.Owing.{Tests, more, marks, counted, Any, is_told, IsToldFirst, Entered, EngagedHand, owed_waiting, owed_hand, owed_first, owed_own, owed, depth_in, IsBinding, Deep, DeepBehind, DeepAlone, DeepAsk, Done}
 use Rattle.uc_depth_laws.specs.DepthLaws.{Suits, LawSteps}
@@ -145,11 +146,21 @@ made source news o s [] h k d e x = absurd h
 made source news o s (piece.BindMadeNow c r ∷ todo) h k d e x = brought source news _ o s k d e x
 made source news o s (p ∷ todo) h k d e x = absurd h
 
+-- what is not there is not taken out
+without_none : (o : ℕ) (hand : List (ℕ × Members)) → find o hand ≡ None → without o hand ≡ hand
+without_none o [] e = refl
+without_none o (p ∷ hand) e = by (nat_eq p.0 o) e (without_none o hand)
+  where
+    by : (b : Bool) → (if b then Some p.1 else find o hand) ≡ None → (find o hand ≡ None → without o hand ≡ hand) → (if b then hand else p ∷ without o hand) ≡ p ∷ hand
+    by true h rest = absurd (cc)
+    by false h rest = ap (λ hs. p ∷ hs) (rest h)
+
 pub told : (source : Source) (news : Tests) (r : Request) (given : Answer) (s : State) → DeepAsk source news r s → Suits news r given s → Deep source news (answered source given s)
 told source news (ask.Call o m) given s d e = subst (λ g. Deep source news (answered source g s)) (sym e.0) (d e.1)
 told source news ask.Slice given s d e = subst (λ g. Deep source news (answered source g s)) (sym e) d
 told source news (ask.Make c) given s d e = subst (λ g. Deep source news (answered source g s)) (sym e.1) (made source news e.0 s s.run.control d.0 d.0 d.1 e.2 e.3)
 told source news (ask.Spawn o) given s d e = alone source news given s d.0
+told source news (ask.Gone o) given s d e = alone source news given s (subst (λ h. DeepAlone source news (with_hand h s)) (without_none o s.env.hand e) d.0)
 told source news ask.End given s d e = absurd e
 told source news (ask.Fault f) given s d e = absurd e
 told source news r given s d e = alone source news given s d

@@ -8,6 +8,8 @@ use Rattle.uc_machine.specs.declared.exec.Home.{Home}
 use Rattle.uc_machine.specs.declared.exec.Home.TheVariants as home
 use Rattle.uc_machine.specs.declared.exec.Stage.{Stage}
 use Rattle.uc_machine.specs.declared.exec.Stage.TheVariants.{Fresh, Started, Ended}
+use Rattle.uc_machine.specs.Switches.{without}
+use Rattle.uc_machine.specs.Answering.{with_hand}
 use Rattle.uc_machine.specs.Pieces as piece
 use Rattle.uc_machine.specs.Pieces.{Value, Todo, Active, State, Env, Members, object_in, top}
 use Rattle.uc_depth_laws.specs.Entering.{Aspect, New, Other, lets_go, holds_object}
@@ -192,6 +194,7 @@ module _ (source : Source) (news now : Tests) where
   asked f (ask.Make c) s h = (h.0, behind_again s h.1 (λ i k q n. inl (f i k q n)))
   asked f ask.Slice s h = deep_again s h (λ i k q n. inl (f i k q n))
   asked f (ask.Spawn o) s h = (alone_again s h.0 (λ i k q n. inl (f i k q n)), f s.env.exec.home New o h.1, h.2)
+  asked f (ask.Gone o) s h = (alone_again (with_hand (without o s.env.hand) s) h.0 (λ i k q n. inl (f i k q n)), hand_again s.env.hand h.1 (λ i k q n. inl (f i k q n)))
   asked f ask.End s h = env_again s.env h (λ i k q n. inl (f i k q n))
   asked f (ask.Fault n) s h = tt
   asked f r s h = alone_again s h (λ i k q n. inl (f i k q n))

@@ -1,5 +1,5 @@
 -- Laws over one state: who is inside, what is free, and what a hand owes that is drawn again.
-use Rattle.std.proofs.Common.{◌≡◌, ℕ, suc, ◌+◌, ◌≤◌, ◌<◌, Bool, true, false, ◌||◌, List, [], ◌∷◌, Option, Some, None, inl, inr, zero, refl, sym, subst, ap, arith}
+use Rattle.std.proofs.Common.{◌≡◌, ℕ, suc, ◌+◌, ◌≤◌, ◌<◌, Bool, true, false, ◌||◌, List, [], ◌∷◌, Option, Some, None, inl, inr, zero, refl, sym, subst, ap, ◌∙◌, arith}
 use Rattle.std.specs.Prelude.{nat_eq, slice_get, ◌⊎◌, if◌then◌else◌}
 use Rattle.std.specs.List.{list_any}
 use Rattle.std.proofs.lemmas.Bool.{eqb-true, eq-eqb, ltb-false}
@@ -139,6 +139,15 @@ taken q k (p ∷ hand) =
     let h = taken q k hand in
     both (λ (xs : List (ℕ × Members)) (x : Option Members). owed_hand q xs + owed_found q x ≤ owed_parked q p.1.parked + owed_hand q hand) (nat_eq p.0 k) hand (p ∷ without k hand) (Some p.1) (find k hand) (omega arith) (omega (arith, h))
 
+-- so it is in order without what is at home in an object, and owes no more
+pub engaged_without : (source : Source) (news : Tests) (k : ℕ) (hand : List (ℕ × Members)) → EngagedHand source news hand → EngagedHand source news (without k hand)
+engaged_without source news k [] h = tt
+engaged_without source news k (p ∷ hand) h =
+    both (λ (xs : List (ℕ × Members)) (x : Option Members). EngagedHand source news xs) (nat_eq p.0 k) hand (p ∷ without k hand) (Some p.1) (find k hand) h.1 (h.0, engaged_without source news k hand h.1)
+
+pub owed_without : (q k : ℕ) (hand : List (ℕ × Members)) → owed_hand q (without k hand) ≤ owed_hand q hand
+owed_without q k hand = let a = taken q k hand in omega (arith, a)
+
 -- where nothing holds a task up, what is at home in the object owes it nothing
 left : (q k : ℕ) (hand : List (ℕ × Members)) → owed_hand q hand ≤ owed_hand q (without k hand) + owed_found q (find k hand)
 left q k [] = omega arith
@@ -177,6 +186,18 @@ redrawn_without source k old (p ∷ hand) n h = by (nat_eq p.0 k) refl (redrawn_
         kept_side : Free source p.1 ⊎ (find p.0 old ≡ Some p.1) → Free source p.1 ⊎ (find p.0 (without k old) ≡ Some p.1)
         kept_side (inl x) = inl x
         kept_side (inr x) = inr (subst (λ y. y ≡ Some p.1) (sym (found_without p.0 k old (other p.0 k e))) x)
+
+redrawn_both : (source : Source) (k : ℕ) (old hand : List (ℕ × Members)) → Redrawn source old hand → Redrawn source (without k old) (without k hand)
+redrawn_both source k old [] h = tt
+redrawn_both source k old (p ∷ hand) h = by (nat_eq p.0 k) refl (redrawn_both source k old hand h.2)
+  where
+    kept_side : nat_eq p.0 k ≡ false → Free source p.1 ⊎ (find p.0 old ≡ Some p.1) → Free source p.1 ⊎ (find p.0 (without k old) ≡ Some p.1)
+    kept_side e (inl x) = inl x
+    kept_side e (inr x) = inr (found_without p.0 k old (other p.0 k e) ∙ x)
+
+    by : (b : Bool) → nat_eq p.0 k ≡ b → Redrawn source (without k old) (without k hand) → Redrawn source (without k old) (if b then hand else p ∷ without k hand)
+    by true e rest = redrawn_without source k old hand (subst (λ q. find q hand ≡ None) (eqb-true p.0 k e) h.1) h.2
+    by false e rest = (kept_side e h.0, found_without p.0 k hand (other p.0 k e) ∙ h.1, rest)
 
 redrawn_owed : (source : Source) (q : ℕ) (old hand : List (ℕ × Members)) → Redrawn source old hand → owed_hand q hand ≤ owed_hand q old
 redrawn_owed source q old [] h = omega arith
@@ -228,6 +249,10 @@ module _ (source : Source) (news : Tests) where
   drawn_asked (ask.Make c) hand s h k = (h.0, drawn_behind hand s h.1 k)
   drawn_asked ask.Slice hand s h k = drawn hand s h k
   drawn_asked (ask.Spawn o) hand s h k = (record { alone = h.0.alone; deep = drawn hand s h.0.deep k }, h.1, let a = redrawn_owed source o s.env.hand hand k in let b = h.2 in omega (arith, a, b))
+  drawn_asked (ask.Gone o) hand s h k = (
+    record { alone = h.0.alone; deep = drawn (without o hand) (with_hand (without o s.env.hand) s) h.0.deep (redrawn_both source o s.env.hand hand k) },
+    redrawn_engaged source news s.env.hand hand h.1 k,
+  )
   drawn_asked ask.End hand s h k = record { house = h.house; hand = redrawn_engaged source news s.env.hand hand h.hand k }
   drawn_asked (ask.Fault f) hand s h k = tt
   drawn_asked r hand s h k = record { alone = h.alone; deep = drawn hand s h.deep k }

@@ -534,14 +534,14 @@ module _ (source : Source) (news : Tests) where
         }) (stop Depth todo _)
 
     -- an object is let go of however deep the task is, which is owed nothing else
-    pub gone_here : (e : Env) (todo : List Todo) → Entered source told Any todo → suc (marks todo) ≤ many → owed source (object_in s.run.this) (at todo s.run.operands s) ≡ 0 → e.exec ≡ s.env.exec → e.own ≡ s.env.own → e.house ≡ s.env.house → e.hand ≡ s.env.hand → e.depths ≡ without (object_in s.run.this) s.env.depths → entries s.env.links ≤ suc (entries e.links) → Deep source news (at todo s.run.operands (in_env e s))
-    gone_here e todo h l f ex eo eh ei ed el = record {
+    pub gone_here : (e : Env) (todo : List Todo) → Entered source told Any todo → suc (marks todo) ≤ many → owed source (object_in s.run.this) (at todo s.run.operands (in_env e s)) ≡ 0 → e.exec ≡ s.env.exec → e.own ≡ s.env.own → e.house ≡ s.env.house → EngagedHand source news e.hand → ((q : ℕ) → owed_hand q e.hand ≤ owed_hand q s.env.hand) → e.depths ≡ without (object_in s.run.this) s.env.depths → entries s.env.links ≤ suc (entries e.links) → Deep source news (at todo s.run.operands (in_env e s))
+    gone_here e todo h l f ex eo eh hi ei ed el = record {
       first = Any;
       run = subst (λ n. Entered source (is_told (news n.home) s.run.this s.callers) Any todo) (sym ex) h;
       new = none_told source told (news e.exec.home) s.run.this s.callers todo s.run.operands h;
       one = let c = b.one in omega (arith, c, l);
       callers = subst (λ n. AllEntered source (news n.home) s.callers) (sym ex) b.callers;
-      env = engaged_as e eo eh ei;
+      env = record { house = subst (λ (m : Members). EngagedParked source (news (home.Task e.own)) m.parked) (sym eh) (subst (λ (q : ℕ). EngagedParked source (news (home.Task q)) s.env.house.parked) (sym eo) b.env.house); hand = hi };
       engaged =
           let a1 = none_marked source told todo h in
           let a6 = b.engaged in
@@ -551,16 +551,13 @@ module _ (source : Source) (news : Tests) where
       where
         by : (q : ℕ) (c : Bool) → nat_eq (object_in s.run.this) q ≡ c → owed source q (at todo s.run.operands (in_env e s)) ≤ depth_at q e
         by q true g =
-            let a9 = ap (λ (m : Members). owed_parked q m.parked) eh in
-            let a10 = ap (owed_hand q) ei in
-            let a13 = ap (owed_own q) eo in
-            let f1 = subst (λ k. owed source k (at todo s.run.operands s) ≡ 0) (eqb-true (object_in s.run.this) q g) f in
-            omega (arith, a9, a10, a13, f1)
+            let f1 = subst (λ k. owed source k (at todo s.run.operands (in_env e s)) ≡ 0) (eqb-true (object_in s.run.this) q g) f in
+            omega (arith, f1)
         by q false g =
             let a1 = none_first source told q todo s.run.operands h in
             let a5 = counted_least q s.run.this (marks todo) many (omega (arith, l)) in
             let a9 = ap (λ (m : Members). owed_parked q m.parked) eh in
-            let a10 = ap (owed_hand q) ei in
+            let a10 = ei q in
             let a13 = ap (owed_own q) eo in
             let a11 = ap (λ (ds : List (ℕ × ℕ)). depth_in (find q ds)) ed in
             let a12 = ap depth_in (without_other q (object_in s.run.this) s.env.depths g) in

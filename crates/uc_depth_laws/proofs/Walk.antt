@@ -9,6 +9,7 @@ use Rattle.uc_machine.specs.Insides as inside
 use Rattle.uc_machine.specs.Raising as raising
 use Rattle.uc_machine.specs.Monitors as monitors
 use Rattle.uc_machine.specs.Quiet as quiet
+use Rattle.uc_machine.specs.Switches.{without}
 use Rattle.uc_machine.specs.Pieces as piece
 use Rattle.uc_machine.specs.Pieces.{Value, Todo, Active, State, Step, at, top, below, number, object_in}
 use Rattle.uc_depth_laws.specs.Entering.{Aspect, New, Other, EnteredSource}
@@ -19,7 +20,7 @@ use Rattle.uc_depth_laws.proofs.Kept as kept
 use Rattle.uc_depth_laws.proofs.Kept.{either}
 use Rattle.uc_depth_laws.proofs.TodoLists as lists
 use Rattle.uc_depth_laws.proofs.TodoLists.{Ok, OkDone}
-use Rattle.uc_depth_laws.proofs.Standing.{all_owed}
+use Rattle.uc_depth_laws.proofs.Standing.{all_owed, engaged_without, owed_without}
 use Rattle.uc_depth_laws.proofs.Steps as steps
 use Rattle.uc_depth_laws.proofs.Steps.{Budget}
 use Rattle.uc_depth_laws.proofs.Calls as calls
@@ -120,10 +121,10 @@ module _ (source : Source) (news : Tests) (known : EnteredSource source) where
     acts piece.LeaveNow todo c n h l f = steps.leave source news s (marks s.run.control) b _ todo h l
     acts (piece.MakeNow k r) todo c n h l f = steps.make source news s (marks s.run.control) b k r (slice_get source.routines r) todo h l
     acts (piece.BindMadeNow k r) todo c n h l f = absurd n
-    acts piece.MadeNow todo c n h l f = steps.unless source news s (marks s.run.control) b (monitors.this_object s) _ todo (λ u. record { state = record { alone = h; deep = (steps.gone_here source news s (marks s.run.control) b (inside.build_ended (monitors.this_object s) s.env) todo h l (all_owed source news s deep todo u f) refl refl refl refl refl (omega arith)) }; inside = steps.is_inside source news s (marks s.run.control) b (marks todo) l; unheld = u })
-    acts (piece.SpawnNow r) todo c n h l f = steps.unless source news s (marks s.run.control) b (monitors.this_object s) _ (piece.ChildNow r ∷ todo) (λ u. record { state = (record { alone = (n.1, h); deep = (steps.gone_here source news s (marks s.run.control) b (inside.build_ended (monitors.this_object s) s.env) (piece.ChildNow r ∷ todo) (n.1, h) l (spawned source told s r todo h (all_owed source news s deep todo u f)) refl refl refl refl refl (omega arith)) }, told_object (news s.env.exec.home) s.run.this s.callers New n.0, spawned source told s r todo h (all_owed source news s deep todo u f)); inside = steps.is_inside source news s (marks s.run.control) b (marks todo) l; unheld = u })
-    acts piece.GoneNow todo c n h l f = record { state = record { alone = h; deep = (steps.gone_here source news s (marks s.run.control) b (inside.call_gone (monitors.this_object s) s.env) todo h l f refl refl refl refl refl (omega arith)) }; inside = (steps.is_inside source news s (marks s.run.control) b (marks todo) l, (Other, told_object (news s.env.exec.home) s.run.this s.callers Other n)); unheld = tt }
-    acts piece.GiveUpNow todo c n h l f = record { state = record { alone = h; deep = (steps.gone_here source news s (marks s.run.control) b (inside.build_ended (monitors.this_object s) s.env) todo h l f refl refl refl refl refl (omega arith)) }; inside = (steps.is_inside source news s (marks s.run.control) b (marks todo) l, (New, told_object (news s.env.exec.home) s.run.this s.callers New n)); unheld = tt }
+    acts piece.MadeNow todo c n h l f = steps.unless source news s (marks s.run.control) b (monitors.this_object s) _ todo (λ u. record { state = record { alone = h; deep = (steps.gone_here source news s (marks s.run.control) b (inside.build_ended (monitors.this_object s) s.env) todo h l (all_owed source news s deep todo u f) refl refl refl deep.env.hand (λ q. omega arith) refl (omega arith)) }; inside = steps.is_inside source news s (marks s.run.control) b (marks todo) l; unheld = u })
+    acts (piece.SpawnNow r) todo c n h l f = steps.unless source news s (marks s.run.control) b (monitors.this_object s) _ (piece.ChildNow r ∷ todo) (λ u. record { state = (record { alone = (n.1, h); deep = (steps.gone_here source news s (marks s.run.control) b (inside.build_ended (monitors.this_object s) s.env) (piece.ChildNow r ∷ todo) (n.1, h) l (spawned source told s r todo h (all_owed source news s deep todo u f)) refl refl refl deep.env.hand (λ q. omega arith) refl (omega arith)) }, told_object (news s.env.exec.home) s.run.this s.callers New n.0, spawned source told s r todo h (all_owed source news s deep todo u f)); inside = steps.is_inside source news s (marks s.run.control) b (marks todo) l; unheld = u })
+    acts piece.GoneNow todo c n h l f = record { state = (record { alone = h; deep = (steps.gone_here source news s (marks s.run.control) b (record (inside.call_gone (monitors.this_object s) s.env) { hand = without (monitors.this_object s) s.env.hand }) todo h l (omega (arith, f)) refl refl refl (engaged_without source news (monitors.this_object s) s.env.hand deep.env.hand) (λ q. owed_without q (monitors.this_object s) s.env.hand) refl (omega arith)) }, deep.env.hand); inside = (steps.is_inside source news s (marks s.run.control) b (marks todo) l, (Other, told_object (news s.env.exec.home) s.run.this s.callers Other n)); unheld = tt }
+    acts piece.GiveUpNow todo c n h l f = record { state = (record { alone = h; deep = (steps.gone_here source news s (marks s.run.control) b (record (inside.build_ended (monitors.this_object s) s.env) { hand = without (monitors.this_object s) s.env.hand }) todo h l (omega (arith, f)) refl refl refl (engaged_without source news (monitors.this_object s) s.env.hand deep.env.hand) (λ q. owed_without q (monitors.this_object s) s.env.hand) refl (omega arith)) }, deep.env.hand); inside = (steps.is_inside source news s (marks s.run.control) b (marks todo) l, (New, told_object (news s.env.exec.home) s.run.this s.callers New n)); unheld = tt }
     acts piece.ClusterNow todo c n h l f = steps.asked source news s (marks s.run.control) b _ _ _ (λ x. x) tt tt h l
     acts piece.ProcessorNow todo c n h l f = steps.asked source news s (marks s.run.control) b _ _ _ (λ x. x) tt tt h l
     acts piece.ClusterEndNow todo c n h l f = steps.asked source news s (marks s.run.control) b _ _ _ (λ x. x) tt tt h l

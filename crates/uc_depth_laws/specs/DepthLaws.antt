@@ -16,11 +16,12 @@ use Rattle.uc_depth_laws.specs.Entering.{Aspect, Other, is_holding, EnteredSourc
 use Rattle.uc_depth_laws.specs.Owing.{Tests, marks, EngagedParked, Free, Redrawn, IsInside, Deep, DeepAsk, DeepStep, Fair, Sole, Alone}
 
 -- an answer to a request: what is called is not where the running execution is at home; an object that is made is none of those in which the task
--- is, new, and another
+-- is, new, and another; and what has gone is in its hand no more
 abbrev pub Suits : Tests → Request → Answer → State → Type 0
 Suits news (ask.Call o m) a s = (a ≡ answer.Go) × (s.env.exec.home ≡ home.Object o → ⊥)
 Suits news ask.Slice a s = a ≡ answer.Go
 Suits news (ask.Make c) a s = (o : ℕ) × (a ≡ answer.Object o) × (find o s.env.depths ≡ None) × ((k : Aspect) → news s.env.exec.home k o ≡ true)
+Suits news (ask.Gone o) a s = find o s.env.hand ≡ None
 Suits news ask.End a s = ⊥
 Suits news (ask.Fault f) a s = ⊥
 Suits news r a s = Unit {0}

@@ -12,6 +12,7 @@ use Rattle.uc_machine.specs.declared.exec.Stage.TheVariants.{Ended}
 use Rattle.uc_machine.specs.Executions.{Links, Execution}
 use Rattle.uc_machine.specs.Insides.{is_held_up}
 use Rattle.uc_machine.specs.Switches.{without}
+use Rattle.uc_machine.specs.Answering.{with_hand}
 use Rattle.uc_machine.specs.Monitors.{this_object}
 use Rattle.uc_machine.specs.Pieces as piece
 use Rattle.uc_machine.specs.Pieces.{Value, Todo, Active, State, Env, Members, Step, Goes, Ticks, Asks, at, top, below, object_in}
@@ -267,10 +268,7 @@ owed_hand q (p ∷ ps) = owed_parked q p.1.parked + owed_hand q ps
 abbrev pub owed_env : ℕ → Env → ℕ
 owed_env q e = owed_own q e.own + (owed_parked q e.house.parked + owed_hand q e.hand)
 
--- of that, what executions owe that do not run: all, and those at home elsewhere than in the object
-abbrev pub owed_resting : ℕ → Env → ℕ
-owed_resting q e = owed_parked q e.house.parked + owed_hand q e.hand
-
+-- of that, what executions owe that do not run, and are at home elsewhere than in the object
 abbrev pub owed_elsewhere : ℕ → Env → ℕ
 owed_elsewhere q e = owed_parked q e.house.parked + owed_hand q (without q e.hand)
 
@@ -359,12 +357,14 @@ module _ (source : Source) (news : Tests) where
 
   -- a task that has asked something, which the answer lets go on; what it calls is not where the running execution is at home; what it spawns is
   -- new until then, and nothing is owed to it any more;
+  -- what goes takes out with it what is at home there;
   -- behind an end and a fault nothing goes on, but what a task has in hand at its end stays in order
   abbrev pub DeepAsk : Request → State → Type 0
   DeepAsk (ask.Call o m) s = (s.env.exec.home ≡ home.Object o → ⊥) → Deep s
   DeepAsk (ask.Make c) s = IsBinding s.run.control × DeepBehind s
   DeepAsk ask.Slice s = Deep s
   DeepAsk (ask.Spawn o) s = DeepAlone s × (news s.env.exec.home New o ≡ true) × (owed source o s ≡ 0)
+  DeepAsk (ask.Gone o) s = DeepAlone (with_hand (without o s.env.hand) s) × EngagedHand source news s.env.hand
   DeepAsk ask.End s = EngagedEnv source news s.env
   DeepAsk (ask.Fault f) s = Unit {0}
   DeepAsk r s = DeepAlone s
@@ -394,7 +394,7 @@ module _ (source : Source) where
 
   -- what a step is to find: where an object has been made, the place that is bound to it; where one in which the task is already is entered to be
   -- destroyed, that the running execution is not at home there, and that neither its activations owe anything there nor its task; where one is let
-  -- go of however deep the task is, nothing else that is owed to it, but by what is at home there where that is asked to let others in
+  -- go of however deep the task is, nothing else that is owed to it, but by what is at home there
   abbrev pub FairAt : List Todo → State → Type 0
   FairAt (piece.BindMadeNow c r ∷ todo) s = (routine_of source r).params < length (below s.run.operands)
   FairAt (piece.EnterNow m r ∷ todo) s =
@@ -402,8 +402,8 @@ module _ (source : Source) where
       (s.env.exec.home ≡ home.Object (entering r s) → ⊥) × (owed_here (entering r s) s ≡ 0)
   FairAt (piece.MadeNow ∷ todo) s = owed_outside (this_object s) (at todo s.run.operands s) ≡ 0
   FairAt (piece.SpawnNow r ∷ todo) s = owed_outside (this_object s) (at todo s.run.operands s) ≡ 0
-  FairAt (piece.GoneNow ∷ todo) s = owed source (this_object s) (at todo s.run.operands s) ≡ 0
-  FairAt (piece.GiveUpNow ∷ todo) s = owed source (this_object s) (at todo s.run.operands s) ≡ 0
+  FairAt (piece.GoneNow ∷ todo) s = owed_outside (this_object s) (at todo s.run.operands s) ≡ 0
+  FairAt (piece.GiveUpNow ∷ todo) s = owed_outside (this_object s) (at todo s.run.operands s) ≡ 0
   FairAt todo s = Unit {0}
 
   -- but for the first of these
@@ -419,8 +419,8 @@ module _ (source : Source) where
   AloneAt (piece.EnterNow m r ∷ todo) s = FairAt (piece.EnterNow m r ∷ todo) s
   AloneAt (piece.MadeNow ∷ todo) s = owed_elsewhere (this_object s) s.env ≡ 0
   AloneAt (piece.SpawnNow r ∷ todo) s = owed_elsewhere (this_object s) s.env ≡ 0
-  AloneAt (piece.GoneNow ∷ todo) s = owed_resting (this_object s) s.env ≡ 0
-  AloneAt (piece.GiveUpNow ∷ todo) s = owed_resting (this_object s) s.env ≡ 0
+  AloneAt (piece.GoneNow ∷ todo) s = owed_elsewhere (this_object s) s.env ≡ 0
+  AloneAt (piece.GiveUpNow ∷ todo) s = owed_elsewhere (this_object s) s.env ≡ 0
   AloneAt todo s = Unit {0}
 
   abbrev pub Alone : State → Type 0

@@ -26,7 +26,7 @@ use Rattle.uc_life_laws.proofs.Parked as parked
 use Rattle.uc_life_laws.proofs.Parked.{Ex, at_home}
 use Rattle.uc_life_laws.specs.Things.{Few}
 use Rattle.uc_putting_laws.specs.Putting.{IsHome}
-use Rattle.uc_homed_ends.specs.BoundHomes.{AllUnbound, AtCall, IsUnset, BoundStack, BoundEx, BoundEnv, BoundState}
+use Rattle.uc_homed_ends.specs.BoundHomes.{AllUnbound, AtCall, IsUnset, BoundStack, BoundThere, BoundBy, BoundEx, BoundEnv, BoundState}
 use Rattle.uc_homed_ends.proofs.BoundCells.{cell_either, stack_number, list_number, stack_aside, list_aside, call_list_aside}
 
 module _ (few : Few) where
@@ -74,15 +74,25 @@ module _ (few : Few) where
   abbrev KeepsFrames : (List (List Value) → List (List Value)) → Type 0
   KeepsFrames f = (n : Exec) (fs : List (List Value)) → (length (f fs) ≡ length fs) × KeepsLists fs (f fs) × ((v : Value) (cs : List Active) → BoundStack few n fs v cs → BoundStack few n (f fs) v cs)
 
+  framed : (f : List (List Value) → List (List Value)) → KeepsFrames f → (g : Stage) (n : Exec) (x : Ex) → BoundBy few g n x → BoundBy few g n (record x { frames = f x.frames })
+  framed f same Fresh n x r = record {
+    frames = (same n x.frames).0 ∙ r.frames;
+    frame = r.frame;
+    run = (same n x.frames).1 x.run.frame x.run.control r.run;
+    callers = (same n x.frames).2 x.run.this x.callers r.callers;
+  }
+  framed f same Started n x r = record {
+    frames = (same n x.frames).0 ∙ r.frames;
+    frame = r.frame;
+    run = (same n x.frames).1 x.run.frame x.run.control r.run;
+    callers = (same n x.frames).2 x.run.this x.callers r.callers;
+  }
+  framed f same Ended n x r = tt
+
   frames_kept : (h : Home) (n : ℕ) (f : List (List Value) → List (List Value)) (o : Option Ex) (m : Members) → KeepsFrames f → SlotBy (BoundEx few) (at_home h n) o → ParkedBy (BoundEx few) h m.parked → ParkedBy (BoundEx few) h (frames_by n f o m).parked
   frames_kept h n f None m same r s = s
   frames_kept h n f (Some x) m same r s =
-      parked.update_parked (BoundEx few) h n (Some (record x { frames = f x.frames })) m.parked (record {
-        frames = (same (at_home h n) x.frames).0 ∙ r.frames;
-        frame = r.frame;
-        run = (same (at_home h n) x.frames).1 x.run.frame x.run.control r.run;
-        callers = (same (at_home h n) x.frames).2 x.run.this x.callers r.callers;
-      }) s
+      parked.update_parked (BoundEx few) h n (Some (record x { frames = f x.frames })) m.parked (framed f same x.links.stage (at_home h n) x r) s
 
   with_frames_keeps : (n : Exec) (f : List (List Value) → List (List Value)) (e : Env) → KeepsFrames f → BoundEnv few e → Keeps e (with_frames n f e)
   with_frames_keeps n f e same s =
@@ -179,17 +189,27 @@ module _ (few : Few) where
   forgotten_keeps None e s = keeps_like s refl refl refl refl refl
   forgotten_keeps (Some n) e s = keeps_change n.home (sw.slot_gone n.serial) e (λ m h. parked.without_parked (BoundEx few) n.home n.serial m.parked h) s
 
-  links_kept : (h : Home) (g : Links → Links) (n : ℕ) (o : Option Ex) (m : Members) → SlotBy (BoundEx few) (at_home h n) o → ParkedBy (BoundEx few) h m.parked → ParkedBy (BoundEx few) h (sw.links_by g n o m).parked
-  links_kept h g n None m r s = s
-  links_kept h g n (Some x) m r s = parked.update_parked (BoundEx few) h n (Some (record x { links = g x.links })) m.parked (record { frames = r.frames; frame = r.frame; run = r.run; callers = r.callers }) s
+  -- the stage stays, or is the end
+  abbrev pub Stages : (Links → Links) → Type 0
+  Stages g = (l : Links) (n : Exec) (x : Ex) → BoundBy few l.stage n x → BoundBy few (g l).stage n x
 
-  pub links_keeps : (g : Links → Links) (n : Exec) (e : Env) → BoundEnv few e → Keeps e (sw.with_links g n e)
-  links_keeps g n e s =
-      either (Keeps e) (exec_eq n e.exec) (record e { links = g e.links }) (change n.home (sw.links_changed g n.serial) e) (keeps_like s refl refl refl refl refl) (keeps_change n.home (sw.links_changed g n.serial) e (λ m h. links_kept n.home g n.serial (joined (find n.serial m.parked)) m (parked.found_parked (BoundEx few) n.home n.serial m.parked h) h) s)
+  -- with other links, and other reasons to be unwound
+  relinked : (l : Links) (g : Stage) (n : Exec) (x : Ex) → BoundBy few g n x → BoundBy few g n (record x { links = l })
+  relinked l Fresh n x r = record { frames = r.frames; frame = r.frame; run = r.run; callers = r.callers }
+  relinked l Started n x r = record { frames = r.frames; frame = r.frame; run = r.run; callers = r.callers }
+  relinked l Ended n x r = tt
+
+  links_kept : (h : Home) (g : Links → Links) → Stages g → (n : ℕ) (o : Option Ex) (m : Members) → SlotBy (BoundEx few) (at_home h n) o → ParkedBy (BoundEx few) h m.parked → ParkedBy (BoundEx few) h (sw.links_by g n o m).parked
+  links_kept h g k n None m r s = s
+  links_kept h g k n (Some x) m r s = parked.update_parked (BoundEx few) h n (Some (record x { links = g x.links })) m.parked (relinked (g x.links) (g x.links).stage (at_home h n) x (k x.links (at_home h n) x r)) s
+
+  pub links_keeps : (g : Links → Links) → Stages g → (n : Exec) (e : Env) → BoundEnv few e → Keeps e (sw.with_links g n e)
+  links_keeps g k n e s =
+      either (Keeps e) (exec_eq n e.exec) (record e { links = g e.links }) (change n.home (sw.links_changed g n.serial) e) (keeps_like s refl refl refl refl refl) (keeps_change n.home (sw.links_changed g n.serial) e (λ m h. links_kept n.home g k n.serial (joined (find n.serial m.parked)) m (parked.found_parked (BoundEx few) n.home n.serial m.parked h) h) s)
 
   pub enlivened_keeps : (o : Option Exec) (e : Env) → BoundEnv few e → Keeps e (sw.enlivened o e)
   enlivened_keeps None e s = keeps_like s refl refl refl refl refl
-  enlivened_keeps (Some n) e s = links_keeps (λ l. record l { live = true }) n e s
+  enlivened_keeps (Some n) e s = links_keeps (λ l. record l { live = true }) (λ l n x h. h) n e s
 
   module _ (source : Source) where
     -- switches
@@ -201,18 +221,23 @@ module _ (few : Few) where
     -- who may be activated
     abbrev LifeNext : Option (Exec × Ex) → Type 0
     LifeNext None = Unit {0}
-    LifeNext (Some p) = BoundEx few p.0 p.1
+    LifeNext (Some p) = BoundThere few p.0 p.1
 
-    switched_rests : (n : Exec) (x : Ex) (s : State) → BoundEx few n x → BoundState few source false s → BoundState few source false (sw.switched n x s)
+    stopping : (g : Stage) (s : State) → BoundState few source false s → BoundBy few g s.env.exec (sw.stopped s)
+    stopping Fresh s h = record { frames = h.frames; frame = h.frame; run = h.run; callers = h.callers }
+    stopping Started s h = record { frames = h.frames; frame = h.frame; run = h.run; callers = h.callers }
+    stopping Ended s h = tt
+
+    switched_rests : (n : Exec) (x : Ex) (s : State) → BoundThere few n x → BoundState few source false s → BoundState few source false (sw.switched n x s)
     switched_rests n x s r h = record {
       frames = r.frames;
       frame = r.frame;
       run = r.run;
       callers = r.callers;
-      env = like (parked.slot_rests (BoundEx few) s.env.exec (Some (sw.stopped s)) (sw.set_slot n None s.env) (record { frames = h.frames; frame = h.frame; run = h.run; callers = h.callers }) (parked.slot_rests (BoundEx few) n None s.env tt h.env)) refl refl refl;
+      env = like (parked.slot_rests (BoundEx few) s.env.exec (Some (sw.stopped s)) (sw.set_slot n None s.env) (stopping s.env.links.stage s h) (parked.slot_rests (BoundEx few) n None s.env tt h.env)) refl refl refl;
     }
 
-    able_stage : (g : Stage) (n : Exec) (x : Ex) → BoundEx few n x → LifeNext (sw.able_at g n x)
+    able_stage : (g : Stage) (n : Exec) (x : Ex) → BoundBy few g n x → LifeNext (sw.able_at g n x)
     able_stage Fresh n x r = tt
     able_stage Started n x r = r
     able_stage Ended n x r = tt
@@ -233,7 +258,7 @@ module _ (few : Few) where
     go_on_rests None s r h = tt
     go_on_rests (Some p) s r h = switched_rests p.0 p.1 s r h
 
-    wake_stage : (g : Stage) (n : Exec) (x : Ex) (s : State) → BoundEx few n x → BoundState few source false s → LifeMoved (sw.wake_at g n x s)
+    wake_stage : (g : Stage) (n : Exec) (x : Ex) (s : State) → BoundBy few g n x → BoundState few source false s → LifeMoved (sw.wake_at g n x s)
     wake_stage Fresh n x s r h = switched_rests n _ s (record { frames = r.frames; frame = r.frame; run = r.run; callers = r.callers }) h
     wake_stage Started n x s r h = switched_rests n _ s (record { frames = r.frames; frame = r.frame; run = r.run; callers = r.callers }) h
     wake_stage Ended n x s r h = tt
@@ -280,9 +305,9 @@ module _ (few : Few) where
     }
 
     over_rests : (n : Exec) (s : State) → BoundState few source false s → BoundState few source false (sw.over n s)
-    over_rests n s h = with_env s h (links_keeps (λ l. record l { live = false; stage = Ended }) n s.env h.env)
+    over_rests n s h = with_env s h (links_keeps (λ l. record l { live = false; stage = Ended }) (λ l n x h. tt) n s.env h.env)
 
-    take_down_stage : (g : Stage) (n : Exec) (x : Ex) (s : State) → BoundEx few n x → BoundState few source false s → LifeMoved (sw.take_down_at g n x s)
+    take_down_stage : (g : Stage) (n : Exec) (x : Ex) (s : State) → BoundBy few g n x → BoundState few source false s → LifeMoved (sw.take_down_at g n x s)
     take_down_stage Fresh n x s r h = over_rests n s h
     take_down_stage Started n x s r h = switched_rests n _ s (record { frames = r.frames; frame = r.frame; run = r.run; callers = r.callers }) h
     take_down_stage Ended n x s r h = over_rests n s h

@@ -270,27 +270,27 @@ module _ (P Q : ℕ → Type 0) (f : (k : ℕ) → P k → Q k) where
   drop_more (piece.DropNow ∷ (piece.Within line ∷ (piece.Rest ss ∷ todo))) h = opens_more ss h
   drop_more todo h = tt
 
-  call_more : (todo : List Todo) → CallMutex P todo → CallMutex Q todo
+  pub call_more : (todo : List Todo) → CallMutex P todo → CallMutex Q todo
   call_more (piece.CallOnNow r ∷ todo) h = drop_more todo h
   call_more (piece.CallUnwrittenNow r ∷ todo) h = drop_more todo h
   call_more todo h = tt
 
 -- what a step finds but for homes
 
-abbrev FoundAt : Source → List Todo → State → Type 0
+abbrev pub FoundAt : Source → List Todo → State → Type 0
 FoundAt source (piece.BindMadeNow c r ∷ todo) s = CallMutex (λ k. top (drop (params source r) (below s.run.operands)) ≡ variable_at k s) todo
 FoundAt source (piece.Rest (src.Then a ss) ∷ todo) s = OpensMutex (λ k. MakesBy a × IsUnset (frame_at s.run.frame s.env.frames) k) ss
 FoundAt source todo s = Unit {0}
 
-record Known (p : Program) (s : State) : Type 0 where
-  fair : there.Fair (source_of p) s
-  puts : Puts (source_of p) s
-  found : FoundAt (source_of p) s.run.control s
-  stack : StackState (Sized p) s
-  addressed : Addressed s
+pub record Known (p : Program) (s : State) : Type 0 where
+  pub fair : there.Fair (source_of p) s
+  pub puts : Puts (source_of p) s
+  pub found : FoundAt (source_of p) s.run.control s
+  pub stack : StackState (Sized p) s
+  pub addressed : Addressed s
 
 module _ (p : Program) (formed : IsFormed p) (accepted : breaks_of p ≡ []) (within : IsWithinLimits p) (input : List ℕ) (opts : Options) (range : InRange opts) where
-  known : (j : Journal) (w : World) (r : Runs (source_of p) input opts j w) → RunFits (source_of p) input opts j w r → is_over j ≡ false → (t : ℕ) (s : State) → Comes (source_of p) j w t s → Known p s
+  pub known : (j : Journal) (w : World) (r : Runs (source_of p) input opts j w) → RunFits (source_of p) input opts j w r → is_over j ≡ false → (t : ℕ) (s : State) → Comes (source_of p) j w t s → Known p s
   known j w r fits on t s c = record {
     fair = law_fair.fair p (source_of p) s stack (law_opens.comes p formed accepted within input opts range j w r fits on t s c);
     puts = aside_runs.comes p formed accepted input opts range j w r fits on t s c;
@@ -354,7 +354,7 @@ module _ (p : Program) (few : Few) (s : State) (k : Known p s) (b : BoundState f
       by (inr h) = let x = subst Set e h in x.0 (scope_low p s k.stack k.addressed d i w rest todo e)
   set_clean c rest todo e = tt
 
-  opens_set : OpensSet few s
+  pub opens_set : OpensSet few s
   opens_set = by s.run.control refl
     where
       by : (l : List Todo) → s.run.control ≡ l → OpensSetAt few l s
@@ -371,10 +371,10 @@ module _ (p : Program) (formed : IsFormed p) (accepted : breaks_of p ≡ []) (wi
   finds_run : RunMeets (Finds few (source_of p)) (source_of p) input opts j w r
   finds_run = run_zip (Known p) Told (Finds few (source_of p)) (finds p formed accepted within input opts range few (home_of (source_of p) input opts j w r) (object_count j) same) r known_run (law_binds.runs (source_of p) input opts j w r range fits)
 
-  begins : there.SourceBegins (source_of p)
+  pub begins : there.SourceBegins (source_of p)
   begins = law_fair.begins p (source_of p) (law_accepted p accepted)
 
-  bound_run : RunMeets (BoundState few (source_of p) true) (source_of p) input opts j w r
+  pub bound_run : RunMeets (BoundState few (source_of p) true) (source_of p) input opts j w r
   bound_run = (run_bound few (source_of p) begins input opts range r fits finds_run).1
 
   set_run : RunMeets (OpensSet few) (source_of p) input opts j w r
@@ -468,7 +468,7 @@ module _ (t : Table) (owns : Owns) where
         subst (λ l. IsAtHome t owns few n (slice_index_or vs (address l) nought) (Place o l)) (sym q) (h.number, h.object, h.home)
 
   -- what cleans up a variable that is a mutex object
-  cleans_cell : (e k : ℕ) (P : ℕ → Type 0) (c : CleanUp) → CleansAt t (Cell (Obj e)) (src.Variable k) c → OfMutex P c → P k
+  pub cleans_cell : (e k : ℕ) (P : ℕ → Type 0) (c : CleanUp) → CleansAt t (Cell (Obj e)) (src.Variable k) c → OfMutex P c → P k
   cleans_cell e k P (src.Destroys (src.OfObject (src.EndOn r written (src.Load y)))) h o =
       subst (λ (x : Expr). OfMutex P (src.Destroys (src.OfObject (src.EndOn r written (src.Load x))))) (sym h.0) o
   cleans_cell e k P c h o = absurd h

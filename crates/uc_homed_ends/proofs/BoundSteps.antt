@@ -604,7 +604,7 @@ module _ (few : Few) (source : Source) where
 
     pend : (n : Exec) (e : Event) (todo : List Todo) (vs : List Value) → There todo → BoundStep few source (polls.pend_step n e todo vs s)
     pend n e todo vs h =
-        either (BoundStep few source) (nat_lt (length (inside.pending_at n s.env)) PENDING_EVENTS) _ _ (go_in _ _ _ (kept.links_keeps few (λ l. record l { pending = l.pending ++ (record { event = e.number; x = e.x; y = e.y }) ∷ [] }) n s.env st.env) h) (go todo vs h)
+        either (BoundStep few source) (nat_lt (length (inside.pending_at n s.env)) PENDING_EVENTS) _ _ (go_in _ _ _ (kept.links_keeps few (λ l. record l { pending = l.pending ++ (record { event = e.number; x = e.x; y = e.y }) ∷ [] }) (λ l n x h. h) n s.env st.env) h) (go todo vs h)
 
     pend_at : (x : Option Exec) (e : Event) (todo : List Todo) (vs : List Value) → There todo → BoundStep few source (polls.pend_at x e todo vs s)
     pend_at None e todo vs h = go todo vs h

@@ -47,11 +47,11 @@ module _ (few : Few) (source : Source) where
   home_bound o None hand h k = k
   home_bound o (Some m) hand h k = (h, k)
 
-  hand_bound : (os : List ℕ) (members : ℕ → Option Members) → ((o : ℕ) → BoundMembers few (home.Object o) (members o)) → HandBy (BoundEx few) (hand_of os members)
+  pub hand_bound : (os : List ℕ) (members : ℕ → Option Members) → ((o : ℕ) → BoundMembers few (home.Object o) (members o)) → HandBy (BoundEx few) (hand_of os members)
   hand_bound [] members h = tt
   hand_bound (o ∷ os) members h = home_bound o (members o) (hand_of os members) (h o) (hand_bound os members h)
 
-  or_bound : (o : ℕ) (x y : Option Members) → BoundMembers few (home.Object o) x → BoundMembers few (home.Object o) y → BoundMembers few (home.Object o) (or_else x y)
+  pub or_bound : (o : ℕ) (x y : Option Members) → BoundMembers few (home.Object o) x → BoundMembers few (home.Object o) y → BoundMembers few (home.Object o) (or_else x y)
   or_bound o None y h k = k
   or_bound o (Some m) y h k = h
 

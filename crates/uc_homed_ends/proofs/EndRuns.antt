@@ -22,7 +22,7 @@ use Rattle.uc_acts.specs.KernelRuns.{InRange, MayAsk, KernelRuns}
 use Rattle.uc_acts.proofs.Living.{going_row}
 use Rattle.uc_acts.proofs.Bounds.{over_limit}
 use Rattle.uc_machine.specs.declared.exec.Exec.{Exec}
-use Rattle.uc_machine.specs.Pieces.{Value, LoadNow, Members, State, loaded, top}
+use Rattle.uc_machine.specs.Pieces.{Todo, Value, LoadNow, Members, State, loaded, top}
 use Rattle.uc_machine.specs.Quiet.{no_members, first_state}
 use Rattle.uc_machine.specs.Answering.{answered, child_main, child_of}
 use Rattle.uc_meaning.specs.Runs.{World, May, Runs, AsksIn, first_world, world_after, bare, with_home, hand_of, drawn, or_else, gives, no_room, acts, begun, more}
@@ -43,6 +43,7 @@ use Rattle.uc_life_laws.specs.Lasting.{RunMeetsAt}
 use Rattle.uc_life_laws.proofs.Spawning.{Spawned, spawner, ended_before}
 use Rattle.uc_life_laws.proofs.Owned.{tasks_grow}
 use Rattle.uc_life_laws.proofs.NamedWorlds.{run_named, known}
+use Rattle.uc_life_laws.specs.Ending.{calling}
 use Rattle.uc_homed_ends.specs.EndCode.{EndSite, FreeSource}
 use Rattle.uc_homed_ends.specs.EndLists.{FreeActive, FreeMembers, FreeState}
 use Rattle.uc_homed_ends.specs.EndWays as ways
@@ -64,7 +65,7 @@ module _ (tb : Table) where
   or_free (Some m) y h k = h
 
   -- with another hand
-  module _ (Q : Exec → Value → Type 0) where
+  module _ (Q : Exec → List Todo → Value → Type 0) where
     state_handed : (s : State) (hand : List (ℕ × Members)) → RestsHand (FreeActive tb) (FreeActive tb) hand → FreeState tb s → FreeState tb (record s { env = record s.env { hand = hand } })
     state_handed s hand k h = record { run = h.run; callers = h.callers; env = record { house = h.env.house; hand = k } }
 
@@ -94,20 +95,20 @@ module _ (tb : Table) where
     by_told source r given s f n h = rest_free tb (λ v. Unit {0}) Q (answered source given s) (answered_free tb source given s h)
 
   -- with what else is told of what is loaded
-  rest_map : (Q R : Exec → Value → Type 0) (s : State) → ((v : Value) → Q s.env.exec v → R s.env.exec v) → RestState tb Q s → RestState tb R s
+  rest_map : (Q R : Exec → List Todo → Value → Type 0) (s : State) → ((l : List Todo) (v : Value) → Q s.env.exec l v → R s.env.exec l v) → RestState tb Q s → RestState tb R s
   rest_map Q R s f h = record { run = by h.run; callers = h.callers; env = h.env }
     where
       by : FreeActive tb s.run ⊎ Enters tb Q s → FreeActive tb s.run ⊎ Enters tb R s
       by (inl c) = inl c
-      by (inr e) = inr (record { routine = e.routine; todo = e.todo; control = e.control; free = e.free; params = e.params; told = f (top s.run.operands) e.told })
+      by (inr e) = inr (record { routine = e.routine; todo = e.todo; control = e.control; free = e.free; params = e.params; told = f e.todo (top s.run.operands) e.told })
 
-  by_map : (Q R : Exec → Value → Type 0) (r : Request) (s : State) → (r ≡ ask.Slice → (v : Value) → Q s.env.exec v → R s.env.exec v) → RestBy tb Q r s → RestBy tb R r s
+  by_map : (Q R : Exec → List Todo → Value → Type 0) (r : Request) (s : State) → (r ≡ ask.Slice → (l : List Todo) (v : Value) → Q s.env.exec l v → R s.env.exec l v) → RestBy tb Q r s → RestBy tb R r s
   by_map Q R ask.Slice s f h = rest_map Q R s (f refl) h
   by_map Q R (ask.Fault m) s f h = h
   by_map Q R r s f h = h
 
 -- what is told of executions and of what they load may depend on the journal
-module _ (tb : Table) (P : Journal → State → Type 0) (Q : Journal → Exec → Value → Type 0) (loads : (j : Journal) (s : State) → P j s → (w : Way tb (P j) s) (x : EndSite) (b : Bool) → s.run.control ≡ LoadNow ∷ ways.entering w.routine b w.todo → Found ways.Reads x s → Leaves x w.routine b w.start.run.control → Q j s.env.exec (loaded (top s.run.operands) s.env)) (source : Source) (code : FreeSource tb source) where
+module _ (tb : Table) (P : Journal → State → Type 0) (Q : Journal → Exec → List Todo → Value → Type 0) (loads : (j : Journal) (s : State) → P j s → (w : Way tb (P j) s) (x : EndSite) (b : Bool) → s.run.control ≡ LoadNow ∷ ways.entering w.routine b w.todo → Found ways.Reads x s → Leaves x w.routine b w.start.run.control → ways.Behind x w.todo w.start.run.control → ways.OneLess x w.start.run.elements s.run.elements → Q j s.env.exec (calling b w.routine ∷ w.todo) (loaded (top s.run.operands) s.env)) (source : Source) (code : FreeSource tb source) where
   -- a task at rest, by what it has asked
   pub record RestFree (j : Journal) (t : ℕ) (s : State) : Type 0 where
     request : Request
@@ -130,12 +131,12 @@ module _ (tb : Table) (P : Journal → State → Type 0) (Q : Journal → Exec �
 
     -- it is still told of them behind an act
     abbrev pub Grows : {j : Journal} {w : World} {a : List Entry} {x : World} → May source opts input j w a x → Type 0
-    Grows {j} {w} (gives p t s le) = (u : ℕ) (v : Value) → Q j (w.tasks u).env.exec v → Q (j ++ dispatch p t ∷ []) (w.tasks u).env.exec v
+    Grows {j} {w} (gives p t s le) = (u : ℕ) (l : List Todo) (v : Value) → Q j (w.tasks u).env.exec l v → Q (j ++ dispatch p t ∷ []) (w.tasks u).env.exec l v
     Grows (no_room p t s le) = Unit {0}
     Grows {j} {w} (acts p t k s asked d) =
-        ((u : ℕ) → (u == t) ≡ false → u < task_count j → has_ended u (j ++ entries j p t k asked) ≡ false → spawns (entries j p t k asked) u ≡ false → (v : Value) →
-        Q j (w.tasks u).env.exec v → Q (j ++ entries j p t k asked) (w.tasks u).env.exec v) ×
-        (asked.request ≡ ask.Slice → (v : Value) → Q j s.env.exec v → Q (j ++ entries j p t k asked) s.env.exec v)
+        ((u : ℕ) → (u == t) ≡ false → u < task_count j → has_ended u (j ++ entries j p t k asked) ≡ false → spawns (entries j p t k asked) u ≡ false → (l : List Todo) (v : Value) →
+        Q j (w.tasks u).env.exec l v → Q (j ++ entries j p t k asked) (w.tasks u).env.exec l v) ×
+        (asked.request ≡ ask.Slice → (l : List Todo) (v : Value) → Q j s.env.exec l v → Q (j ++ entries j p t k asked) s.env.exec l v)
 
     abbrev pub RunGrows : {j : Journal} {w : World} → Runs source input opts j w → Type 0
     RunGrows begun = Unit {0}
@@ -173,7 +174,7 @@ module _ (tb : Table) (P : Journal → State → Type 0) (Q : Journal → Exec �
           asks_for = x.asks_for ∙ same_form u e;
           no_fault = x.no_fault;
           spawned = λ q. let l = x.spawned q in let g = tasks_grow j a in omega (arith, l, g);
-          rests = by_map tb (Q j) (Q (j ++ a)) x.request (w.tasks u) (λ q v. grows.0 u e (x.spawned q) lives f v) x.rests;
+          rests = by_map tb (Q j) (Q (j ++ a)) x.request (w.tasks u) (λ q l v. grows.0 u e (x.spawned q) lives f l v) x.rests;
         }
 
         born_first : (u : ℕ) (r : Request) → Spawned j u r → u ≡ task_count j
@@ -217,7 +218,7 @@ module _ (tb : Table) (P : Journal → State → Type 0) (Q : Journal → Exec �
       members = λ o. either (FreeMembers tb) (o == 0) (Some no_members) None tt tt;
     }
 
-    given_free : (j : Journal) (w : World) (p t : ℕ) → ((u : ℕ) (v : Value) → Q j (w.tasks u).env.exec v → Q (j ++ dispatch p t ∷ []) (w.tasks u).env.exec v) → WorldFree j w → WorldFree (j ++ dispatch p t ∷ []) w
+    given_free : (j : Journal) (w : World) (p t : ℕ) → ((u : ℕ) (l : List Todo) (v : Value) → Q j (w.tasks u).env.exec l v → Q (j ++ dispatch p t ∷ []) (w.tasks u).env.exec l v) → WorldFree j w → WorldFree (j ++ dispatch p t ∷ []) w
     given_free j w p t grows h = record { rests = after; members = h.members }
       where
         after : (u : ℕ) → has_ended u (j ++ dispatch p t ∷ []) ≡ false → RestFree (j ++ dispatch p t ∷ []) u (w.tasks u)
@@ -228,7 +229,7 @@ module _ (tb : Table) (P : Journal → State → Type 0) (Q : Journal → Exec �
               asks_for = x.asks_for ∙ sym (form_push u j (dispatch p t));
               no_fault = x.no_fault;
               spawned = λ q. let l = x.spawned q in let g = tasks_grow j (dispatch p t ∷ []) in omega (arith, l, g);
-              rests = by_map tb (Q j) (Q (j ++ dispatch p t ∷ [])) x.request (w.tasks u) (λ q v. grows u v) x.rests;
+              rests = by_map tb (Q j) (Q (j ++ dispatch p t ∷ [])) x.request (w.tasks u) (λ q l v. grows u l v) x.rests;
             }
 
     runs_there : {j : Journal} {w : World} (r : Runs source input opts j w) → RunFits source input opts j w r → is_over j ≡ false → (p t : ℕ) → running p j ≡ t ∷ [] → t < task_count j
@@ -267,13 +268,13 @@ module _ (tb : Table) (P : Journal → State → Type 0) (Q : Journal → Exec �
 -- where the same holds whatever the journal, and nothing is told
 
 module _ (tb : Table) (P : State → Type 0) (source : Source) (code : FreeSource tb source) (input : List ℕ) (opts : Options) (range : InRange opts) where
-  nothing_loads : (j : Journal) (s : State) → P s → (w : Way tb P s) (x : EndSite) (b : Bool) → s.run.control ≡ LoadNow ∷ ways.entering w.routine b w.todo → Found ways.Reads x s → Leaves x w.routine b w.start.run.control → nothing_told s.env.exec (loaded (top s.run.operands) s.env)
-  nothing_loads j s h w x b c f l = tt
+  nothing_loads : (j : Journal) (s : State) → P s → (w : Way tb P s) (x : EndSite) (b : Bool) → s.run.control ≡ LoadNow ∷ ways.entering w.routine b w.todo → Found ways.Reads x s → Leaves x w.routine b w.start.run.control → ways.Behind x w.todo w.start.run.control → ways.OneLess x w.start.run.elements s.run.elements → nothing_told s.env.exec (calling b w.routine ∷ w.todo) (loaded (top s.run.operands) s.env)
+  nothing_loads j s h w x b c f l i m = tt
 
   none_grows : {j : Journal} {w : World} {a : List Entry} {x : World} (m : May source opts input j w a x) → Grows tb (λ j. P) (λ j. nothing_told) nothing_loads source code input opts range m
-  none_grows (gives p t s le) = λ u v h. tt
+  none_grows (gives p t s le) = λ u l v h. tt
   none_grows (no_room p t s le) = tt
-  none_grows (acts p t k s asked d) = ((λ u e l h n v q. tt), (λ e v q. tt))
+  none_grows (acts p t k s asked d) = ((λ u e l h n k v q. tt), (λ e k v q. tt))
 
   grows : {j : Journal} {w : World} (r : Runs source input opts j w) → RunGrows tb (λ j. P) (λ j. nothing_told) nothing_loads source code input opts range r
   grows begun = tt

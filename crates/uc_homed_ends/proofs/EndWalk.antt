@@ -30,11 +30,11 @@ use Rattle.uc_typing.specs.Typing.{Table}
 use Rattle.uc_state_laws.specs.RoomRuns as runs
 use Rattle.uc_state_laws.specs.RoomRuns.{Leads}
 use Rattle.uc_state_laws.specs.Opens.{RideMeets, LeadsMeet}
-use Rattle.uc_life_laws.specs.Ending.{Spot, OfVariable, OfField, place_at}
+use Rattle.uc_life_laws.specs.Ending.{Spot, OfVariable, OfField, calling, place_at}
 use Rattle.uc_homed_ends.specs.EndCode.{EndSite, AtSpot, AtElement, EndOf, FreeSweep, FreeExpr, FreeStmt, FreeClean, FreeRoutine, FreeSource}
 use Rattle.uc_homed_ends.specs.EndLists.{FreePiece, FreeList, FreeActive, FreeMembers, FreeState, FreeStep}
 use Rattle.uc_homed_ends.specs.EndWays as ways
-use Rattle.uc_homed_ends.specs.EndWays.{Stage, Ends, Loads, Finds, Arrays, Counts, Picks, Reads, todo_at, Found, Leaves, OneLess, Way, Enters, RestState, RestBy, NowBy, NowStep}
+use Rattle.uc_homed_ends.specs.EndWays.{Stage, Ends, Loads, Finds, Arrays, Counts, Picks, Reads, todo_at, Found, Leaves, Behind, OneLess, Way, Enters, RestState, RestBy, NowBy, NowStep}
 use Rattle.uc_homed_ends.proofs.EndSteps as steps
 
 -- a piece at which no mutex object is ended
@@ -48,7 +48,7 @@ same_place : (p : Spot) (todo : List Todo) (vs : List Value) (s : State) → pla
 same_place (OfVariable k) todo vs s = refl
 same_place (OfField h i) todo vs s = refl
 
-module _ (tb : Table) (P : State → Type 0) (Q : Exec → Value → Type 0) where
+module _ (tb : Table) (P : State → Type 0) (Q : Exec → List Todo → Value → Type 0) where
   -- on no such way
   free_now : (x : Step) → FreeStep tb x → NowStep tb P Q x
   free_now (Goes s) h = record { run = inl (inl h.run); callers = h.callers; env = h.env }
@@ -70,7 +70,7 @@ module _ (tb : Table) (P : State → Type 0) (Q : Exec → Value → Type 0) whe
   asked_rest (ask.Fault m) s h = h
   asked_rest r s h = h
 
-module _ (tb : Table) (P : State → Type 0) (Q : Exec → Value → Type 0) (loads : (s : State) → P s → (w : Way tb P s) (x : EndSite) (b : Bool) → s.run.control ≡ piece.LoadNow ∷ ways.entering w.routine b w.todo → Found Reads x s → Leaves x w.routine b w.start.run.control → Q s.env.exec (loaded (top s.run.operands) s.env)) (source : Source) (known : FreeSource tb source) where
+module _ (tb : Table) (P : State → Type 0) (Q : Exec → List Todo → Value → Type 0) (loads : (s : State) → P s → (w : Way tb P s) (x : EndSite) (b : Bool) → s.run.control ≡ piece.LoadNow ∷ ways.entering w.routine b w.todo → Found Reads x s → Leaves x w.routine b w.start.run.control → Behind x w.todo w.start.run.control → OneLess x w.start.run.elements s.run.elements → Q s.env.exec (calling b w.routine ∷ w.todo) (loaded (top s.run.operands) s.env)) (source : Source) (known : FreeSource tb source) where
   module _ (s : State) (callers : AllWait (FreeActive tb) (FreeActive tb) s.callers) (env : RestsEnv (FreeActive tb) (FreeActive tb) s.env) where
     go : (todo : List Todo) (vs : List Value) → FreeList tb todo → FreeState tb (at todo vs s)
     go = steps.go tb s callers env
@@ -170,8 +170,8 @@ module _ (tb : Table) (P : State → Type 0) (Q : Exec → Value → Type 0) (lo
     -- at a clean-up of one
 
     module _ (held : P s) where
-      way_from : (u : State) (x : Expr) (site : EndSite) (en : EndOf tb site x) (todo : List Todo) → u.run.control ≡ piece.Eval x ∷ todo → FreeList tb todo → Leaves site en.routine en.written s.run.control → u.env ≡ s.env → u.run.frame ≡ s.run.frame → u.run.this ≡ s.run.this → u.callers ≡ s.callers → OneLess site s.run.elements u.run.elements → Way tb P u
-      way_from u x site en todo c f l e g o k m = record {
+      way_from : (u : State) (x : Expr) (site : EndSite) (en : EndOf tb site x) (todo : List Todo) → u.run.control ≡ piece.Eval x ∷ todo → FreeList tb todo → Leaves site en.routine en.written s.run.control → Behind site todo s.run.control → u.env ≡ s.env → u.run.frame ≡ s.run.frame → u.run.this ≡ s.run.this → u.callers ≡ s.callers → OneLess site s.run.elements u.run.elements → Way tb P u
+      way_from u x site en todo c f l h e g o k m = record {
         stage = Ends;
         site = site;
         routine = en.routine;
@@ -187,6 +187,7 @@ module _ (tb : Table) (P : State → Type 0) (Q : Exec → Value → Type 0) (lo
         params = en.params;
         start = s;
         leaves = l;
+        behind = h;
         held = held;
         elements = m;
         env = e;
@@ -198,7 +199,7 @@ module _ (tb : Table) (P : State → Type 0) (Q : Exec → Value → Type 0) (lo
       cleaned : (x : CleanUp) (todo : List Todo) → s.run.control ≡ piece.Clean x ∷ todo → FreeClean tb x → FreeList tb todo → NowStep tb P Q (quiet.act source (piece.Clean x) todo s)
       cleaned (src.Destroys x) todo e (inl f) h = free_now tb P Q (quiet.act source (piece.Clean (src.Destroys x)) todo s) (go _ _ ((f, tt), (tt, h)))
       cleaned (src.Destroys x) todo e (inr (p, en)) h =
-          record { run = inr (way_from (at (piece.Eval x ∷ (piece.DropNow ∷ todo)) s.run.operands s) x (AtSpot p) en (piece.DropNow ∷ todo) refl (tt, h) (todo, inl (e ∙ ap (λ x. piece.Clean (src.Destroys x) ∷ todo) en.is)) refl refl refl refl tt); callers = callers; env = env }
+          record { run = inr (way_from (at (piece.Eval x ∷ (piece.DropNow ∷ todo)) s.run.operands s) x (AtSpot p) en (piece.DropNow ∷ todo) refl (tt, h) (todo, inl (e ∙ ap (λ x. piece.Clean (src.Destroys x) ∷ todo) en.is)) tt refl refl refl refl tt); callers = callers; env = env }
       cleaned x todo e n h = free_now tb P Q (quiet.act source (piece.Clean x) todo s) (go _ _ (steps.cleans tb x todo n h))
 
       swept : (m : ℕ) (x : Expr) (todo : List Todo) → s.run.elements ≡ m → s.run.control ≡ piece.Sweep x ∷ todo → FreeSweep tb x → FreeList tb todo → NowStep tb P Q (quiet.sweep_step m x todo s)
@@ -206,18 +207,18 @@ module _ (tb : Table) (P : State → Type 0) (Q : Exec → Value → Type 0) (lo
       swept zero x todo q e (inr (n, p, en)) h = free_now tb P Q (quiet.sweep_step zero x todo s) (go _ _ h)
       swept (suc m) x todo q e (inr (n, p, en)) h =
           let u : State = at (piece.Eval x ∷ (piece.DropNow ∷ (piece.Sweep x ∷ todo))) s.run.operands (quiet.with_elements m s) in
-          record { run = inr (way_from u x (AtElement n p) en (piece.DropNow ∷ (piece.Sweep x ∷ todo)) refl (tt, (inr (n, p, en), h)) (todo, e ∙ ap (λ x. piece.Sweep x ∷ todo) en.is) refl refl refl refl q); callers = callers; env = env }
+          record { run = inr (way_from u x (AtElement n p) en (piece.DropNow ∷ (piece.Sweep x ∷ todo)) refl (tt, (inr (n, p, en), h)) (todo, e ∙ ap (λ x. piece.Sweep x ∷ todo) en.is) (x, todo, e, refl) refl refl refl refl q); callers = callers; env = env }
 
       left_scope : (x : CleanUp) (b : Bool) (todo : List Todo) → s.run.control ≡ piece.Unwind ∷ (piece.Clean x ∷ todo) → FreeClean tb x → FreeList tb todo → NowStep tb P Q (raising.scope_left x b todo s)
       left_scope (src.Destroys x) b todo e (inl f) h = free_now tb P Q (raising.scope_left (src.Destroys x) b todo s) (steps.scope tb s callers env (src.Destroys x) b todo f h)
       left_scope (src.Destroys x) b todo e (inr (p, en)) h =
-          record { run = inr (way_from (at (piece.Eval x ∷ (piece.DropNow ∷ (piece.Unwind ∷ todo))) [] s) x (AtSpot p) en (piece.DropNow ∷ (piece.Unwind ∷ todo)) refl (tt, (tt, h)) (todo, inr (inl (e ∙ ap (λ x. piece.Unwind ∷ (piece.Clean (src.Destroys x) ∷ todo)) en.is))) refl refl refl refl tt); callers = callers; env = env }
+          record { run = inr (way_from (at (piece.Eval x ∷ (piece.DropNow ∷ (piece.Unwind ∷ todo))) [] s) x (AtSpot p) en (piece.DropNow ∷ (piece.Unwind ∷ todo)) refl (tt, (tt, h)) (todo, inr (inl (e ∙ ap (λ x. piece.Unwind ∷ (piece.Clean (src.Destroys x) ∷ todo)) en.is))) tt refl refl refl refl tt); callers = callers; env = env }
       left_scope x b todo e n h = free_now tb P Q (raising.scope_left x b todo s) (steps.scope tb s callers env x b todo n h)
 
       left_part : (x : CleanUp) (todo : List Todo) → s.run.control ≡ piece.Unwind ∷ (piece.Part x ∷ todo) → FreeClean tb x → FreeList tb todo → NowStep tb P Q (raising.unwind_past (piece.IsPart x) todo s)
       left_part (src.Destroys x) todo e (inl f) h = free_now tb P Q (raising.unwind_past (piece.IsPart (src.Destroys x)) todo s) (go _ _ ((f, tt), (tt, (tt, h))))
       left_part (src.Destroys x) todo e (inr (p, en)) h =
-          record { run = inr (way_from (at (piece.Eval x ∷ (piece.DropNow ∷ (piece.Unwind ∷ todo))) [] s) x (AtSpot p) en (piece.DropNow ∷ (piece.Unwind ∷ todo)) refl (tt, (tt, h)) (todo, inr (inr (e ∙ ap (λ x. piece.Unwind ∷ (piece.Part (src.Destroys x) ∷ todo)) en.is))) refl refl refl refl tt); callers = callers; env = env }
+          record { run = inr (way_from (at (piece.Eval x ∷ (piece.DropNow ∷ (piece.Unwind ∷ todo))) [] s) x (AtSpot p) en (piece.DropNow ∷ (piece.Unwind ∷ todo)) refl (tt, (tt, h)) (todo, inr (inr (e ∙ ap (λ x. piece.Unwind ∷ (piece.Part (src.Destroys x) ∷ todo)) en.is))) tt refl refl refl refl tt); callers = callers; env = env }
       left_part x todo e n h = free_now tb P Q (raising.unwind_past (piece.IsPart x) todo s) (go _ _ (steps.cleans tb x (piece.Unwind ∷ todo) n (tt, h)))
 
       unwound : (todo : List Todo) → s.run.control ≡ piece.Unwind ∷ todo → FreeList tb todo → FreeList tb s.run.control → NowStep tb P Q (raising.unwind_step todo s)
@@ -235,8 +236,8 @@ module _ (tb : Table) (P : State → Type 0) (Q : Exec → Value → Type 0) (lo
     -- on the way from there
 
     module _ (held : P s) (w : Way tb P s) where
-      next : (k : Stage) (x : EndSite) (b : Bool) (u : State) → u.run.control ≡ todo_at k x w.routine b w.todo → Found k x u → Leaves x w.routine b w.start.run.control → u.env ≡ s.env → u.run.frame ≡ s.run.frame → u.run.this ≡ s.run.this → u.callers ≡ s.callers → OneLess x w.start.run.elements u.run.elements → NowBy tb P Q u
-      next k x b u c f l e g o r m = record {
+      next : (k : Stage) (x : EndSite) (b : Bool) (u : State) → u.run.control ≡ todo_at k x w.routine b w.todo → Found k x u → Leaves x w.routine b w.start.run.control → Behind x w.todo w.start.run.control → u.env ≡ s.env → u.run.frame ≡ s.run.frame → u.run.this ≡ s.run.this → u.callers ≡ s.callers → OneLess x w.start.run.elements u.run.elements → NowBy tb P Q u
+      next k x b u c f l h e g o r m = record {
         run = inr (record {
           stage = k;
           site = x;
@@ -253,6 +254,7 @@ module _ (tb : Table) (P : State → Type 0) (Q : Exec → Value → Type 0) (lo
           params = w.params;
           start = w.start;
           leaves = l;
+          behind = h;
           held = w.held;
           elements = m;
           env = e ∙ w.env;
@@ -264,50 +266,50 @@ module _ (tb : Table) (P : State → Type 0) (Q : Exec → Value → Type 0) (lo
         env = subst (RestsEnv (FreeActive tb) (FreeActive tb)) (sym e) env;
       }
 
-      picked : (n : ℕ) (p : Spot) (b : Bool) (c : Bool) → nat_lt s.run.elements n ≡ c → top (below s.run.operands) ≡ place_at p s → Leaves (AtElement n p) w.routine b w.start.run.control → OneLess (AtElement n p) w.start.run.elements s.run.elements → NowStep tb P Q (piece.element_step src.Binding (if c then Some s.run.elements else None) (piece.LoadNow ∷ ways.entering w.routine b w.todo) (top (below s.run.operands)) (below (below s.run.operands)) s)
-      picked n p b false e f l m = env
-      picked n p b true e f l m =
+      picked : (n : ℕ) (p : Spot) (b : Bool) (c : Bool) → nat_lt s.run.elements n ≡ c → top (below s.run.operands) ≡ place_at p s → Leaves (AtElement n p) w.routine b w.start.run.control → Behind (AtElement n p) w.todo w.start.run.control → OneLess (AtElement n p) w.start.run.elements s.run.elements → NowStep tb P Q (piece.element_step src.Binding (if c then Some s.run.elements else None) (piece.LoadNow ∷ ways.entering w.routine b w.todo) (top (below s.run.operands)) (below (below s.run.operands)) s)
+      picked n p b false e f l h m = env
+      picked n p b true e f l h m =
           let todo : List Todo = piece.LoadNow ∷ ways.entering w.routine b w.todo in
           let vs : List Value = further (piece.At src.Binding s.run.elements) (top (below s.run.operands)) ∷ below (below s.run.operands) in
-          next Reads (AtElement n p) b (at todo vs s) refl (ap (λ v. further (piece.At src.Binding s.run.elements) v) (f ∙ sym (same_place p todo vs s)), ltb-true s.run.elements n e) l refl refl refl refl m
+          next Reads (AtElement n p) b (at todo vs s) refl (ap (λ v. further (piece.At src.Binding s.run.elements) v) (f ∙ sym (same_place p todo vs s)), ltb-true s.run.elements n e) l h refl refl refl refl m
 
       -- what has been read is entered next
-      read : (x : EndSite) (b : Bool) → s.run.control ≡ piece.LoadNow ∷ ways.entering w.routine b w.todo → Found Reads x s → Leaves x w.routine b w.start.run.control → Enters tb Q (at (ways.entering w.routine b w.todo) (loaded (top s.run.operands) s.env ∷ below s.run.operands) s)
-      read x false c f l = record {
+      read : (x : EndSite) (b : Bool) → s.run.control ≡ piece.LoadNow ∷ ways.entering w.routine b w.todo → Found Reads x s → Leaves x w.routine b w.start.run.control → Behind x w.todo w.start.run.control → OneLess x w.start.run.elements s.run.elements → Enters tb Q (at (ways.entering w.routine b w.todo) (loaded (top s.run.operands) s.env ∷ below s.run.operands) s)
+      read x false c f l h m = record {
         routine = w.routine;
         todo = piece.CallUnwrittenNow w.routine ∷ w.todo;
         control = inl refl;
         free = (tt, w.free);
         params = w.params;
-        told = loads s held w x false c f l;
+        told = loads s held w x false c f l h m;
       }
-      read x true c f l = record {
+      read x true c f l h m = record {
         routine = w.routine;
         todo = piece.CallOnNow w.routine ∷ w.todo;
         control = inr refl;
         free = (tt, w.free);
         params = w.params;
-        told = loads s held w x true c f l;
+        told = loads s held w x true c f l h m;
       }
 
-      onward : (k : Stage) (x : EndSite) (b : Bool) → s.run.control ≡ todo_at k x w.routine b w.todo → Found k x s → Leaves x w.routine b w.start.run.control → OneLess x w.start.run.elements s.run.elements → NowStep tb P Q (quiet.act_todo source (todo_at k x w.routine b w.todo) s)
-      onward Ends x false c f l m = next Loads x false _ refl tt l refl refl refl refl m
-      onward Ends x true c f l m = next Loads x true _ refl tt l refl refl refl refl m
-      onward Loads x b c f l m = next Finds x b _ refl tt l refl refl refl refl m
-      onward Finds (AtSpot (OfVariable k)) b c f l m = next Reads (AtSpot (OfVariable k)) b _ refl refl l refl refl refl refl m
-      onward Finds (AtSpot (OfField h i)) b c f l m = next Reads (AtSpot (OfField h i)) b _ refl refl l refl refl refl refl m
-      onward Finds (AtElement n p) b c f l m = next Arrays (AtElement n p) b _ refl tt l refl refl refl refl m
-      onward Arrays (AtSpot p) b c f l m = absurd f
-      onward Arrays (AtElement n (OfVariable k)) b c f l m = next Counts (AtElement n (OfVariable k)) b _ refl refl l refl refl refl refl m
-      onward Arrays (AtElement n (OfField h i)) b c f l m = next Counts (AtElement n (OfField h i)) b _ refl refl l refl refl refl refl m
-      onward Counts (AtSpot p) b c f l m = absurd f
-      onward Counts (AtElement n p) b c f l m = next Picks (AtElement n p) b (at (todo_at Picks (AtElement n p) w.routine b w.todo) (piece.Number (pos s.run.elements) ∷ s.run.operands) s) refl (refl, f ∙ sym (same_place p (todo_at Picks (AtElement n p) w.routine b w.todo) (piece.Number (pos s.run.elements) ∷ s.run.operands) s)) l refl refl refl refl m
-      onward Picks (AtSpot p) b c f l m = absurd f
-      onward Picks (AtElement n p) b c f l m = subst (λ v. NowStep tb P Q (piece.element_step src.Binding (piece.index_in n (number v)) (piece.LoadNow ∷ ways.entering w.routine b w.todo) (top (below s.run.operands)) (below (below s.run.operands)) s)) (sym f.0) (picked n p b (nat_lt s.run.elements n) refl f.1 l m)
-      onward Reads x b c f l m = record { run = inl (inr (read x b c f l)); callers = callers; env = env }
+      onward : (k : Stage) (x : EndSite) (b : Bool) → s.run.control ≡ todo_at k x w.routine b w.todo → Found k x s → Leaves x w.routine b w.start.run.control → Behind x w.todo w.start.run.control → OneLess x w.start.run.elements s.run.elements → NowStep tb P Q (quiet.act_todo source (todo_at k x w.routine b w.todo) s)
+      onward Ends x false c f l h m = next Loads x false _ refl tt l h refl refl refl refl m
+      onward Ends x true c f l h m = next Loads x true _ refl tt l h refl refl refl refl m
+      onward Loads x b c f l h m = next Finds x b _ refl tt l h refl refl refl refl m
+      onward Finds (AtSpot (OfVariable k)) b c f l h m = next Reads (AtSpot (OfVariable k)) b _ refl refl l h refl refl refl refl m
+      onward Finds (AtSpot (OfField y i)) b c f l h m = next Reads (AtSpot (OfField y i)) b _ refl refl l h refl refl refl refl m
+      onward Finds (AtElement n p) b c f l h m = next Arrays (AtElement n p) b _ refl tt l h refl refl refl refl m
+      onward Arrays (AtSpot p) b c f l h m = absurd f
+      onward Arrays (AtElement n (OfVariable k)) b c f l h m = next Counts (AtElement n (OfVariable k)) b _ refl refl l h refl refl refl refl m
+      onward Arrays (AtElement n (OfField y i)) b c f l h m = next Counts (AtElement n (OfField y i)) b _ refl refl l h refl refl refl refl m
+      onward Counts (AtSpot p) b c f l h m = absurd f
+      onward Counts (AtElement n p) b c f l h m = next Picks (AtElement n p) b (at (todo_at Picks (AtElement n p) w.routine b w.todo) (piece.Number (pos s.run.elements) ∷ s.run.operands) s) refl (refl, f ∙ sym (same_place p (todo_at Picks (AtElement n p) w.routine b w.todo) (piece.Number (pos s.run.elements) ∷ s.run.operands) s)) l h refl refl refl refl m
+      onward Picks (AtSpot p) b c f l h m = absurd f
+      onward Picks (AtElement n p) b c f l h m = subst (λ v. NowStep tb P Q (piece.element_step src.Binding (piece.index_in n (number v)) (piece.LoadNow ∷ ways.entering w.routine b w.todo) (top (below s.run.operands)) (below (below s.run.operands)) s)) (sym f.0) (picked n p b (nat_lt s.run.elements n) refl f.1 l h m)
+      onward Reads x b c f l h m = record { run = inl (inr (read x b c f l h m)); callers = callers; env = env }
 
       go_on : NowStep tb P Q (quiet.quiet source s)
-      go_on = subst (λ l. NowStep tb P Q (quiet.act_todo source l s)) (sym w.control) (onward w.stage w.site w.written w.control w.found w.leaves w.elements)
+      go_on = subst (λ l. NowStep tb P Q (quiet.act_todo source l s)) (sym w.control) (onward w.stage w.site w.written w.control w.found w.leaves w.behind w.elements)
 
     -- one who has loaded what it ends
 

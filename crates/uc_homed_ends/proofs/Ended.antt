@@ -4,7 +4,7 @@ use Rattle.std.specs.Prelude.{slice_get, if◌then◌else◌, pos}
 use Rattle.std.proofs.lemmas.Bool.{eqb-true}
 use Rattle.uc_tree.specs.declared.limits.TheConstants.{DESTRUCTOR}
 use Rattle.uc_tree.specs.Programs.{Program}
-use Rattle.uc_tree.specs.Source.{Shape, Binding, Source, Routine}
+use Rattle.uc_tree.specs.Source.{Shape, Binding, Expr, Source, Routine}
 use Rattle.uc_entry.specs.Keyed.{find}
 use Rattle.uc_entry.specs.declared.entry.Entry.{Entry}
 use Rattle.uc_entry.specs.declared.entry.EntryKind.TheVariants as kind
@@ -24,6 +24,7 @@ use Rattle.uc_acts.proofs.Acting.{object_of, destroys, AllBy, by_row}
 use Rattle.uc_answer_laws.proofs.Told.{no_both}
 use Rattle.uc_machine.specs.declared.exec.Exec.{Exec}
 use Rattle.uc_machine.specs.declared.exec.Owner.TheVariants.{Frame}
+use Rattle.uc_machine.specs.Executions.{others}
 use Rattle.uc_machine.specs.Pieces as piece
 use Rattle.uc_machine.specs.Pieces.{Slot, FieldAt, At, Value, Number, Place, Running, Object, Nothing, Todo, LoadNow, EnterNow, State, Env, Asks, further, loaded, top, object_in, variable_at}
 use Rattle.uc_machine.specs.Monitors.{may_call, enter_at, enter_step}
@@ -58,9 +59,10 @@ use Rattle.uc_life_laws.proofs.LivesLemmas.{law_lives}
 use Rattle.uc_life_laws.proofs.Laying.{laid_out}
 use Rattle.uc_life_laws.proofs.Owned.{tasks_grow}
 use Rattle.uc_life_laws.proofs.Own.{law_own}
-use Rattle.uc_life_laws.specs.Ending.{Spot, OfVariable, OfField, ends_at, place_at}
+use Rattle.uc_life_laws.specs.Ending.{Spot, OfVariable, OfField, calling, ends_at, place_at}
 use Rattle.uc_putting_laws.specs.CleanedSpots.{Site, Under, site_spot, IsOf, IsIn}
 use Rattle.uc_putting_laws.specs.Putting.{Setting, Mark, Any, Homed, rest, rests, IsHome, IsEnding, Holds, FirstUnder, FirstHome, OfObjects, SeatAt, CallFits, Ok, PutState}
+use Rattle.uc_putting_laws.specs.Filling.{is_filling}
 use Rattle.uc_putting_laws.specs.PuttingLaws.{special_of, setting_of, FairAt, Fair}
 use Rattle.uc_putting_laws.proofs.Marks.{at_of, stands_under, under_spot}
 use Rattle.uc_putting_laws.proofs.ObjectsWithin.{below_own}
@@ -72,24 +74,40 @@ use Rattle.uc_rooted_runs.specs.UnmarkedRuns.{IsLeft, LeftBehind, MayLeave, RunL
 use Rattle.uc_homed_ends.specs.EndCode.{EndSite, AtSpot, AtElement}
 use Rattle.uc_homed_ends.specs.EndLists.{FreeList, FreeActive}
 use Rattle.uc_homed_ends.specs.EndWays as ways
-use Rattle.uc_homed_ends.specs.EndWays.{Stage, Found, Leaves, Way, Enters, NowBy, todo_at}
+use Rattle.uc_homed_ends.specs.EndWays.{Stage, Found, Leaves, Behind, OneLess, Way, Enters, NowBy, todo_at}
 use Rattle.uc_homed_ends.specs.Ended.{is_variable, IsEntered, LawEnded}
+use Rattle.uc_homed_ends.specs.Swept.{is_element, left_filling, SweepsStillAt, SweepsStill, LawSwept}
 use Rattle.uc_homed_ends.proofs.Wholes.{plain_whole}
 use Rattle.uc_homed_ends.proofs.EndCodes.{free_of}
 use Rattle.uc_homed_ends.proofs.EndRuns.{Grows, RunGrows, leads_now}
 
+-- with elements of arrays, or without
+abbrev LivesWith : Bool → Table → Few → Journal → State → Type 0
+LivesWith false t few j s = LivesState t (lasting few j) s
+LivesWith true t few j s = LivesState t (lasting few j) s × SweepsStill few j s
+
+life_of : (b : Bool) (t : Table) (few : Few) (j : Journal) (s : State) → LivesWith b t few j s → LivesState t (lasting few j) s
+life_of false t few j s h = h
+life_of true t few j s h = h.0
+
+still_of : (b : Bool) (t : Table) (few : Few) (j : Journal) (s : State) → LivesWith b t few j s → b ≡ true → SweepsStill few j s
+still_of false t few j s h e = absurd (cc)
+still_of true t few j s h e = h.1
+
 -- what is told of who has loaded an object, and of that
-record Loaded (few : Few) (j : Journal) (n : Exec) (v : Value) : Type 0 where
+record Loaded (arrays : Bool) (few : Few) (j : Journal) (n : Exec) (l : List Todo) (v : Value) : Type 0 where
   number : ℕ
   is : v ≡ Object number
   there : is_variable (few.home number) ≡ true → is_gone number j ≡ false
+  stands : arrays ≡ true → is_element (few.home number) ≡ true → left_filling l ≡ false → is_gone number j ≡ false
   own : Belongs few n (few.home number)
 
 -- states in which marks are put for what is the execution's own, rooms are kept, homes are right, and what is in scope holds what is not gone
-record Here (p : Program) (few : Few) (j : Journal) (s : State) : Type 0 where
+record Here (arrays : Bool) (p : Program) (few : Few) (j : Journal) (s : State) : Type 0 where
   stands : Stands p (setting_of p few) s
   fair : Fair (setting_of p few) s
   life : LivesState (table_of p) (lasting few j) s
+  still : arrays ≡ true → SweepsStill few j s
 
 -- what lies further on from a place is no variable
 further_field : (h : Shape) (i : ℕ) (v : Value) → is_variable (further (FieldAt h i) v) ≡ false
@@ -105,6 +123,25 @@ further_element h i (Place o p) = refl
 further_element h i (Running n) = refl
 further_element h i (Object o) = refl
 further_element h i Nothing = refl
+
+-- and a field is no element of one
+field_element : (h : Shape) (i : ℕ) (v : Value) → is_element (further (FieldAt h i) v) ≡ false
+field_element h i (Number z) = refl
+field_element h i (Place o p) = refl
+field_element h i (Running n) = refl
+field_element h i (Object o) = refl
+field_element h i Nothing = refl
+
+part_element : (s : Shape) (m : ℕ) (h : Shape) (i : ℕ) (v : Value) → is_element (further (At s m) (further (FieldAt h i) v)) ≡ false
+part_element s m h i (Number z) = refl
+part_element s m h i (Place o p) = refl
+part_element s m h i (Running n) = refl
+part_element s m h i (Object o) = refl
+part_element s m h i Nothing = refl
+
+tail_filling : (b : Bool) (r : ℕ) (x : Expr) (todo : List Todo) → left_filling (calling b r ∷ (piece.DropNow ∷ (piece.Sweep x ∷ todo))) ≡ is_filling todo
+tail_filling true r x todo = refl
+tail_filling false r x todo = refl
 
 -- a part of the object at hand is no variable
 no_part : (Z : ℕ → ℕ → Type 0) (s : State) → StackState Z s → (k r : ℕ) (written : Bool) (todo : List Todo) → s.run.control ≡ piece.Unwind ∷ (piece.Part (ends_at (OfVariable k) r written) ∷ todo) → ⊥
@@ -183,17 +220,17 @@ module _ (p : Program) (sound : Sound (table_of p) (source_of p)) (few : Few) (s
     own_load : (b : Bool) (todo : List Todo) → s.run.control ≡ LoadNow ∷ ways.entering r b todo → Belongs few s.env.exec (top s.run.operands)
     own_load b todo c = by k.run.marks k.run.holds (subst (Ok g (here s) k.run.made k.run.marks) c k.run.ok)
       where
-        by : (ms : List Mark) → Holds few (here s) ms s.run.operands → Ok g (here s) k.run.made ms (LoadNow ∷ ways.entering r b todo) → Belongs few s.env.exec (top s.run.operands)
+        by : (ms : List Mark) → Holds few (here s) s.run.elements ms s.run.operands → Ok g (here s) k.run.made ms (LoadNow ∷ ways.entering r b todo) → Belongs few s.env.exec (top s.run.operands)
         by ms holds (inl h) = absurd (none_fits (params (source_of p) r) refl (no_params r empty) (rest ms) todo (call b (Any ∷ rest ms) todo h))
         by ms holds (inr h) =
-            let x = at_of few (here s) ms s.run.operands holds (λ x. Ok g (here s) k.run.made (Homed x ∷ rest ms) (ways.entering r b todo)) h.1 in
-            below_own few s.env.exec (suc s.run.frame) (top s.run.operands) (under_spot few (here s) k.run.made k.run.this.own (suc s.run.frame) (omega arith) (site_spot x.0) (homed_fits (params (source_of p) r) refl (no_params r empty) x.0 (rest ms) todo (call b (Homed x.0 ∷ rest ms) todo x.2)) (top s.run.operands) (stands_under few (here s) x.0 (top s.run.operands) x.1))
+            let x = at_of few (here s) s.run.elements ms s.run.operands holds (λ x. Ok g (here s) k.run.made (Homed x ∷ rest ms) (ways.entering r b todo)) h.1 in
+            below_own few s.env.exec (suc s.run.frame) (top s.run.operands) (under_spot few (here s) k.run.made k.run.this.own (suc s.run.frame) (omega arith) (site_spot x.0) (homed_fits (params (source_of p) r) refl (no_params r empty) x.0 (rest ms) todo (call b (Homed x.0 ∷ rest ms) todo x.2)) (top s.run.operands) (stands_under few (here s) s.run.elements x.0 (top s.run.operands) x.1))
 
   is_ending : (r : ℕ) (b : Bool) (todo : List Todo) → IsEnding (ways.entering r b todo)
   is_ending r false todo = refl
   is_ending r true todo = refl
 
-  module _ (j : Journal) (h : Here p few j s) (w : Way (table_of p) (Here p few j) s) (b : Bool) (c : s.run.control ≡ LoadNow ∷ ways.entering w.routine b w.todo) where
+  module _ (arrays : Bool) (j : Journal) (h : Here arrays p few j s) (w : Way (table_of p) (Here arrays p few j) s) (b : Bool) (c : s.run.control ≡ LoadNow ∷ ways.entering w.routine b w.todo) where
     -- of what is loaded from a variable
     there_at : (x : EndSite) → Found ways.Reads x s → Leaves x w.routine b w.start.run.control → is_variable (top s.run.operands) ≡ true → (o : ℕ) → loaded (top s.run.operands) s.env ≡ Object o → is_gone o j ≡ false
     there_at (AtSpot (OfVariable k)) f l v o e =
@@ -204,20 +241,36 @@ module _ (p : Program) (sound : Sound (table_of p) (source_of p)) (few : Few) (s
     there_at (AtSpot (OfField h i)) f l v o e = no_both (is_variable (top s.run.operands)) v (ap is_variable f ∙ further_field h i s.run.this)
     there_at (AtElement n q) f l v o e = no_both (is_variable (top s.run.operands)) v (ap is_variable f.0 ∙ further_element Binding s.run.elements (place_at q s))
 
-    load : (x : EndSite) → Found ways.Reads x s → Leaves x w.routine b w.start.run.control → Loaded few j s.env.exec (loaded (top s.run.operands) s.env)
-    load x f l =
+    -- of the last element that stood
+    element_at : arrays ≡ true → (x : EndSite) → Found ways.Reads x s → Leaves x w.routine b w.start.run.control → Behind x w.todo w.start.run.control → OneLess x w.start.run.elements s.run.elements → is_element (top s.run.operands) ≡ true → left_filling (calling b w.routine ∷ w.todo) ≡ false → (o : ℕ) → loaded (top s.run.operands) s.env ≡ Object o → few.home o ≡ top s.run.operands → is_gone o j ≡ false
+    element_at a (AtSpot (OfVariable k)) f l i m v q o e g = no_both (is_element (top s.run.operands)) v (ap is_element f)
+    element_at a (AtSpot (OfField y k)) f l i m v q o e g = no_both (is_element (top s.run.operands)) v (ap is_element f ∙ field_element y k s.run.this)
+    element_at a (AtElement n (OfField y k)) f l i m v q o e g = no_both (is_element (top s.run.operands)) v (ap is_element f.0 ∙ part_element Binding s.run.elements y k s.run.this)
+    element_at a (AtElement n (OfVariable k)) f l i m v q o e g =
+        let t = l.0 in
+        let same : t ≡ i.1 = ap others (sym l.1 ∙ i.2) in
+        let scoped : is_filling t ≡ false = ap is_filling same ∙ (sym (ap (λ z. left_filling (calling b w.routine ∷ z)) i.3 ∙ tail_filling b w.routine i.0 i.1) ∙ q) in
+        let place : Value = Place (Frame w.start.env.exec w.start.run.frame) (At Binding s.run.elements ∷ (Slot k ∷ [])) in
+        let there : top s.run.operands ≡ place = f.0 ∙ (ap (λ (z : Env). Place (Frame z.exec s.run.frame) (At Binding s.run.elements ∷ (Slot k ∷ []))) w.env ∙ ap (λ (d : ℕ). Place (Frame w.start.env.exec d) (At Binding s.run.elements ∷ (Slot k ∷ []))) w.frame) in
+        let before : loaded place w.start.env ≡ Object o = sym (ap (λ (z : Env). loaded place z) w.env) ∙ (sym (ap (λ z. loaded z s.env) there) ∙ e) in
+        let still = subst (λ c. SweepsStillAt few j c w.start) l.1 (w.held.still a) in
+        still scoped s.run.elements o m f.1 before (g ∙ there)
+
+    load : (x : EndSite) → Found ways.Reads x s → Leaves x w.routine b w.start.run.control → Behind x w.todo w.start.run.control → OneLess x w.start.run.elements s.run.elements → Loaded arrays few j s.env.exec (calling b w.routine ∷ w.todo) (loaded (top s.run.operands) s.env)
+    load x f l i m =
         let at_home : IsHome few (loaded (top s.run.operands) s.env) (top s.run.operands) = (subst (λ l. FairAt g l s) c h.fair) (is_ending w.routine b w.todo) in
         let belongs = own_load h.stands.put w.routine w.whole w.params b w.todo c in
         record {
           number = at_home.number;
           is = at_home.object;
           there = λ v. there_at x f l (ap is_variable (sym at_home.home) ∙ v) at_home.number at_home.object;
+          stands = λ a v q. element_at a x f l i m (ap is_element (sym at_home.home) ∙ v) q at_home.number at_home.object at_home.home;
           own = subst (Belongs few s.env.exec) (sym at_home.home) belongs;
         }
 
 -- in runs
 
-module _ (p : Program) (formed : IsFormed p) (accepted : breaks_of p ≡ []) (few : Few) (input : List ℕ) (opts : Options) (range : InRange opts) where
+module _ (p : Program) (formed : IsFormed p) (accepted : breaks_of p ≡ []) (few : Few) (arrays : Bool) (input : List ℕ) (opts : Options) (range : InRange opts) where
   abbrev source : Source
   source = source_of p
 
@@ -225,27 +278,27 @@ module _ (p : Program) (formed : IsFormed p) (accepted : breaks_of p ≡ []) (fe
   FairHere s = Fair (setting_of p few) s
 
   abbrev Lives : Journal → State → Type 0
-  Lives j s = LivesState (table_of p) (lasting few j) s
+  Lives j s = LivesWith arrays (table_of p) few j s
 
-  at_ride : (j : Journal) {s u : State} {q k : ℕ} {a : Asked} (d : Rides source s q u k a) → RideMeets FairHere source s q u k a d → RideMeets (Lives j) source s q u k a d → Stands p (setting_of p few) s → RideMeets (Here p few j) source s q u k a d
+  at_ride : (j : Journal) {s u : State} {q k : ℕ} {a : Asked} (d : Rides source s q u k a) → RideMeets FairHere source s q u k a d → RideMeets (Lives j) source s q u k a d → Stands p (setting_of p few) s → RideMeets (Here arrays p few j) source s q u k a d
   at_ride j rides.slices f l n = tt
   at_ride j (rides.goes_on {s} {t} e r) f l n =
-      (record { stands = n; fair = f.0; life = l.0 }, at_ride j r f.1 l.1 (goes p (setting_of p few) (laid_out p formed accepted) (law_accepted p accepted) (code_of p formed accepted few) s t e n f.0))
+      (record { stands = n; fair = f.0; life = life_of arrays (table_of p) few j s l.0; still = still_of arrays (table_of p) few j s l.0 }, at_ride j r f.1 l.1 (goes p (setting_of p few) (laid_out p formed accepted) (law_accepted p accepted) (code_of p formed accepted few) s t e n f.0))
   at_ride j (rides.ticks {s} {t} e r) f l n =
-      (record { stands = n; fair = f.0; life = l.0 }, at_ride j r f.1 l.1 (ticks p (setting_of p few) (laid_out p formed accepted) (law_accepted p accepted) (code_of p formed accepted few) s t e n f.0))
-  at_ride j (rides.asks e) f l n = record { stands = n; fair = f; life = l }
+      (record { stands = n; fair = f.0; life = life_of arrays (table_of p) few j s l.0; still = still_of arrays (table_of p) few j s l.0 }, at_ride j r f.1 l.1 (ticks p (setting_of p few) (laid_out p formed accepted) (law_accepted p accepted) (code_of p formed accepted few) s t e n f.0))
+  at_ride j (rides.asks {s} e) f l n = record { stands = n; fair = f; life = life_of arrays (table_of p) few j s l; still = still_of arrays (table_of p) few j s l }
 
-  at_leads : (j : Journal) {s u : State} (d : Leads source s u) → LeadsMeet FairHere source s u d → LeadsMeet (Lives j) source s u d → Stands p (setting_of p few) s → LeadsMeet (Here p few j) source s u d
+  at_leads : (j : Journal) {s u : State} (d : Leads source s u) → LeadsMeet FairHere source s u d → LeadsMeet (Lives j) source s u d → Stands p (setting_of p few) s → LeadsMeet (Here arrays p few j) source s u d
   at_leads j rooms.stays f l n = tt
   at_leads j (rooms.goes {s} {u} e d) f l n =
-      (record { stands = n; fair = f.0; life = l.0 }, at_leads j d f.1 l.1 (goes p (setting_of p few) (laid_out p formed accepted) (law_accepted p accepted) (code_of p formed accepted few) s u e n f.0))
+      (record { stands = n; fair = f.0; life = life_of arrays (table_of p) few j s l.0; still = still_of arrays (table_of p) few j s l.0 }, at_leads j d f.1 l.1 (goes p (setting_of p few) (laid_out p formed accepted) (law_accepted p accepted) (code_of p formed accepted few) s u e n f.0))
   at_leads j (rooms.ticks {s} {u} e d) f l n =
-      (record { stands = n; fair = f.0; life = l.0 }, at_leads j d f.1 l.1 (ticks p (setting_of p few) (laid_out p formed accepted) (law_accepted p accepted) (code_of p formed accepted few) s u e n f.0))
+      (record { stands = n; fair = f.0; life = life_of arrays (table_of p) few j s l.0; still = still_of arrays (table_of p) few j s l.0 }, at_leads j d f.1 l.1 (ticks p (setting_of p few) (laid_out p formed accepted) (law_accepted p accepted) (code_of p formed accepted few) s u e n f.0))
 
   put_there : {j : Journal} {w : World} (r : Runs source input opts j w) → RunFits source input opts j w r → RunMeets FairHere source input opts j w r → is_over j ≡ false → PutWorld (setting_of p few) j w
   put_there r fits fair on = (run_put p accepted few (laid_out p formed accepted) (law_calling p formed accepted).main (code_of p formed accepted few) input opts range r fits fair).0 on
 
-  at_run : {j : Journal} {w : World} (r : Runs source input opts j w) → RunFits source input opts j w r → RunMeets FairHere source input opts j w r → RunMeetsAt Lives source input opts j w r → RunMeetsAt (Here p few) source input opts j w r
+  at_run : {j : Journal} {w : World} (r : Runs source input opts j w) → RunFits source input opts j w r → RunMeets FairHere source input opts j w r → RunMeetsAt Lives source input opts j w r → RunMeetsAt (Here arrays p few) source input opts j w r
   at_run begun fits f l = tt
   at_run (more r on (gives q t s le)) fits f l = (at_run r fits.0 f.0 l.0, tt)
   at_run (more r on (no_room q t s le)) fits f l = (at_run r fits.0 f.0 l.0, tt)
@@ -297,9 +350,9 @@ module _ (p : Program) (formed : IsFormed p) (accepted : breaks_of p ≡ []) (fe
     same_task u e f = ap (λ b. if b then bare s else if spawns a u then child_of source (own_object u a) s else w.tasks u) e ∙ ap (λ b. if b then child_of source (own_object u a) s else w.tasks u) f
 
     -- what another has loaded does not go
-    other_keeps : (o : ℕ) → asked.request ≡ ask.Gone o → IsLeft (table_of p) few (j ++ a) x t o → (u : ℕ) → (u == t) ≡ false → u < task_count j → spawns a u ≡ false → (v : Value) → Loaded few j (w.tasks u).env.exec v → Loaded few (j ++ a) (w.tasks u).env.exec v
-    other_keeps o e left u n l f v h =
-        record { number = h.number; is = h.is; there = λ z. by z (is_gone h.number (j ++ a)) refl; own = h.own }
+    other_keeps : (o : ℕ) → asked.request ≡ ask.Gone o → IsLeft (table_of p) few (j ++ a) x t o → (u : ℕ) → (u == t) ≡ false → u < task_count j → spawns a u ≡ false → (k : List Todo) (v : Value) → Loaded arrays few j (w.tasks u).env.exec k v → Loaded arrays few (j ++ a) (w.tasks u).env.exec k v
+    other_keeps o e left u n l f k v h =
+        record { number = h.number; is = h.is; there = λ z. by (h.there z) (is_gone h.number (j ++ a)) refl; stands = λ b z q. by (h.stands b z q) (is_gone h.number (j ++ a)) refl; own = h.own }
       where
         same : (x.tasks u).env.exec ≡ (w.tasks u).env.exec
         same = ap (λ (m : State). m.env.exec) (same_task u n f)
@@ -317,47 +370,47 @@ module _ (p : Program) (formed : IsFormed p) (accepted : breaks_of p ≡ []) (fe
             let one : u ≡ t = left.name.running u (omega (arith, l, g)) (same ∙ law_own few (w.tasks u).env.exec (x.tasks t).env.exec (few.home o) mine left.belongs) in
             differ one n
 
-        by : is_variable (few.home h.number) ≡ true → (b : Bool) → is_gone h.number (j ++ a) ≡ b → is_gone h.number (j ++ a) ≡ false
-        by z true y = absurd (away (goes_alone o e h.number (h.there z) y))
+        by : is_gone h.number j ≡ false → (b : Bool) → is_gone h.number (j ++ a) ≡ b → is_gone h.number (j ++ a) ≡ false
+        by z true y = absurd (away (goes_alone o e h.number z y))
         by z false y = y
 
-    kept : destroys asked.request ≡ false → (n : Exec) (v : Value) → Loaded few j n v → Loaded few (j ++ a) n v
-    kept d n v h = record { number = h.number; is = h.is; there = λ z. same_gone d h.number ∙ h.there z; own = h.own }
+    kept : destroys asked.request ≡ false → (n : Exec) (k : List Todo) (v : Value) → Loaded arrays few j n k v → Loaded arrays few (j ++ a) n k v
+    kept d n k v h = record { number = h.number; is = h.is; there = λ z. same_gone d h.number ∙ h.there z; stands = λ b z q. same_gone d h.number ∙ h.stands b z q; own = h.own }
 
   left_by : (r : Request) (j : Journal) (y : World) (t o : ℕ) → r ≡ ask.Gone o → LeftBehind (table_of p) few j y t r → IsLeft (table_of p) few j y t o
   left_by r j y t o e h = subst (LeftBehind (table_of p) few j y t) e h
 
-  abbrev Told : Journal → Exec → Value → Type 0
-  Told j n v = Loaded few j n v
+  abbrev Told : Journal → Exec → List Todo → Value → Type 0
+  Told j n l v = Loaded arrays few j n l v
 
-  loading : (j : Journal) (s : State) → Here p few j s → (w : Way (table_of p) (Here p few j) s) (x : EndSite) (b : Bool) → s.run.control ≡ LoadNow ∷ ways.entering w.routine b w.todo → Found ways.Reads x s → Leaves x w.routine b w.start.run.control → Told j s.env.exec (loaded (top s.run.operands) s.env)
-  loading j s h w x b c f l = load p (law_sound p formed accepted) few s j h w b c x f l
+  loading : (j : Journal) (s : State) → Here arrays p few j s → (w : Way (table_of p) (Here arrays p few j) s) (x : EndSite) (b : Bool) → s.run.control ≡ LoadNow ∷ ways.entering w.routine b w.todo → Found ways.Reads x s → Leaves x w.routine b w.start.run.control → Behind x w.todo w.start.run.control → OneLess x w.start.run.elements s.run.elements → Told j s.env.exec (calling b w.routine ∷ w.todo) (loaded (top s.run.operands) s.env)
+  loading j s h w x b c f l i m = load p (law_sound p formed accepted) few s arrays j h w b c x f l i m
 
-  grows_by : (r : Request) (j : Journal) (w : World) (q t k : ℕ) (s : State) (asked : Asked) → asked.request ≡ r → (still : is_over (j ++ act opts source.sites input j q t k asked) ≡ false) → LeftBehind (table_of p) few (j ++ act opts source.sites input j q t k asked) (world_after source (act opts source.sites input j q t k asked) w t s) t asked.request → (u : ℕ) → (u == t) ≡ false → u < task_count j → spawns (act opts source.sites input j q t k asked) u ≡ false → (v : Value) → Told j (w.tasks u).env.exec v → Told (j ++ act opts source.sites input j q t k asked) (w.tasks u).env.exec v
-  grows_by (ask.Gone o) j w q t k s asked e still left u n l f v h =
-      other_keeps j w q t k s asked still o e (left_by asked.request (j ++ act opts source.sites input j q t k asked) (world_after source (act opts source.sites input j q t k asked) w t s) t o e left) u n l f v h
-  grows_by r j w q t k s asked e still left u n l f v h = plain r refl e
+  grows_by : (r : Request) (j : Journal) (w : World) (q t k : ℕ) (s : State) (asked : Asked) → asked.request ≡ r → (still : is_over (j ++ act opts source.sites input j q t k asked) ≡ false) → LeftBehind (table_of p) few (j ++ act opts source.sites input j q t k asked) (world_after source (act opts source.sites input j q t k asked) w t s) t asked.request → (u : ℕ) → (u == t) ≡ false → u < task_count j → spawns (act opts source.sites input j q t k asked) u ≡ false → (l : List Todo) (v : Value) → Told j (w.tasks u).env.exec l v → Told (j ++ act opts source.sites input j q t k asked) (w.tasks u).env.exec l v
+  grows_by (ask.Gone o) j w q t k s asked e still left u n l f c v h =
+      other_keeps j w q t k s asked still o e (left_by asked.request (j ++ act opts source.sites input j q t k asked) (world_after source (act opts source.sites input j q t k asked) w t s) t o e left) u n l f c v h
+  grows_by r j w q t k s asked e still left u n l f c v h = plain r refl e
     where
-      plain : (r : Request) → destroys r ≡ false → asked.request ≡ r → Told (j ++ act opts source.sites input j q t k asked) (w.tasks u).env.exec v
-      plain r d e = kept j w q t k s asked still (ap destroys e ∙ d) (w.tasks u).env.exec v h
+      plain : (r : Request) → destroys r ≡ false → asked.request ≡ r → Told (j ++ act opts source.sites input j q t k asked) (w.tasks u).env.exec c v
+      plain r d e = kept j w q t k s asked still (ap destroys e ∙ d) (w.tasks u).env.exec c v h
 
-  may_grow : {j : Journal} {w : World} {a : List Entry} {y : World} (m : May source opts input j w a y) → is_over (j ++ a) ≡ false → MayLeave (table_of p) few source opts input j w a y m → Grows (table_of p) (Here p few) Told loading source (free_of p formed accepted) input opts range m
+  may_grow : {j : Journal} {w : World} {a : List Entry} {y : World} (m : May source opts input j w a y) → is_over (j ++ a) ≡ false → MayLeave (table_of p) few source opts input j w a y m → Grows (table_of p) (Here arrays p few) Told loading source (free_of p formed accepted) input opts range m
   may_grow {j} {w} (gives q t s le) still left =
-      λ u v h. record { number = h.number; is = h.is; there = λ z. gone_still h.number j (dispatch q t) refl ∙ h.there z; own = h.own }
+      λ u l v h. record { number = h.number; is = h.is; there = λ z. gone_still h.number j (dispatch q t) refl ∙ h.there z; stands = λ b z i. gone_still h.number j (dispatch q t) refl ∙ h.stands b z i; own = h.own }
   may_grow (no_room q t s le) still left = tt
   may_grow {j} {w} (acts q t k s asked d) still left = (
-    (λ u n l lives f v h. grows_by asked.request j w q t k s asked refl still left u n l f v h),
-    (λ e v h. kept j w q t k s asked still (ap destroys e) s.env.exec v h),
+    (λ u n l lives f c v h. grows_by asked.request j w q t k s asked refl still left u n l f c v h),
+    (λ e l v h. kept j w q t k s asked still (ap destroys e) s.env.exec l v h),
   )
 
-  run_grow : {j : Journal} {w : World} (r : Runs source input opts j w) → RunLeft (table_of p) few source input opts j w r → RunGrows (table_of p) (Here p few) Told loading source (free_of p formed accepted) input opts range r
+  run_grow : {j : Journal} {w : World} (r : Runs source input opts j w) → RunLeft (table_of p) few source input opts j w r → RunGrows (table_of p) (Here arrays p few) Told loading source (free_of p formed accepted) input opts range r
   run_grow begun left = tt
   run_grow (more r on m) left = (run_grow r left.0, λ still. may_grow m still left.1)
 
-  now : {j : Journal} {w : World} (r : Runs source input opts j w) → RunFits source input opts j w r → is_over j ≡ false → RunLeft (table_of p) few source input opts j w r → RunMeets FairHere source input opts j w r → RunMeetsAt Lives source input opts j w r → (t : ℕ) (s : State) (c : Comes source j w t s) → LeadsMeet FairHere source (answered source c.given (drawn j w t)) s c.leads → LeadsMeet (Lives j) source (answered source c.given (drawn j w t)) s c.leads → NowBy (table_of p) (Here p few j) (Told j) s
+  now : {j : Journal} {w : World} (r : Runs source input opts j w) → RunFits source input opts j w r → is_over j ≡ false → RunLeft (table_of p) few source input opts j w r → RunMeets FairHere source input opts j w r → RunMeetsAt Lives source input opts j w r → (t : ℕ) (s : State) (c : Comes source j w t s) → LeadsMeet FairHere source (answered source c.given (drawn j w t)) s c.leads → LeadsMeet (Lives j) source (answered source c.given (drawn j w t)) s c.leads → NowBy (table_of p) (Here arrays p few j) (Told j) s
   now {j} {w} r fits on left fair lives t s c f v =
       let first = start p accepted few (laid_out p formed accepted) (law_calling p formed accepted).main (code_of p formed accepted few) input opts range (run_rests source input opts range r fits on) on (put_there r fits fair on) (law_frame_runs p accepted input opts j w r) c.processor t c.given c.runs c.told in
-      (leads_now (table_of p) (Here p few) Told loading source (free_of p formed accepted) input opts range r fits (at_run r fits fair lives) (run_grow r left) on t s c (at_leads j c.leads f v first)).0
+      (leads_now (table_of p) (Here arrays p few) Told loading source (free_of p formed accepted) input opts range r fits (at_run r fits fair lives) (run_grow r left) on t s c (at_leads j c.leads f v first)).0
 
 -- what is asked where an object is entered is of that object
 entered : (d : Option ℕ) (i k : ℕ) (todo : List Todo) (s : State) (o m : ℕ) (u : State) → enter_at d i k todo s ≡ Asks (ask.Call o m) u → i ≡ o
@@ -381,36 +434,48 @@ on_way ways.Picks (AtSpot p) r written todo m i l e = absurd (cc)
 on_way ways.Picks (AtElement n p) r written todo m i l e = absurd (cc)
 on_way ways.Reads x r written todo m i l e = absurd (cc)
 
-module _ (p : Program) (sound : Sound (table_of p) (source_of p)) (few : Few) (j : Journal) (s : State) (now : NowBy (table_of p) (Here p few j) (Loaded few j) s) where
-  ended : (k i : ℕ) (todo : List Todo) → s.run.control ≡ EnterNow k i ∷ todo → ((table_of p).routine i).whole ≡ true → (o m : ℕ) (u : State) → quiet (source_of p) s ≡ Asks (ask.Call o m) u → IsEntered few j s.env.exec o
+-- of an object that is entered to be destroyed
+record Entered (arrays : Bool) (few : Few) (j : Journal) (n : Exec) (todo : List Todo) (o : ℕ) : Type 0 where
+  entered : IsEntered few j n o
+  stands : arrays ≡ true → is_element (few.home o) ≡ true → left_filling todo ≡ false → is_gone o j ≡ false
+
+module _ (arrays : Bool) (p : Program) (sound : Sound (table_of p) (source_of p)) (few : Few) (j : Journal) (s : State) (now : NowBy (table_of p) (Here arrays p few j) (Loaded arrays few j) s) where
+  ended : (k i : ℕ) (todo : List Todo) → s.run.control ≡ EnterNow k i ∷ todo → ((table_of p).routine i).whole ≡ true → (o m : ℕ) (u : State) → quiet (source_of p) s ≡ Asks (ask.Call o m) u → Entered arrays few j s.env.exec todo o
   ended k i todo c whole o m u e = by now.run
     where
       same_routine : (a b n : ℕ) (l h : List Todo) → EnterNow a n ∷ l ≡ EnterNow b i ∷ h → n ≡ i
       same_routine a b n l h q = cc
 
-      is_it : (x : Option Routine) → slice_get (source_of p).routines i ≡ x → [] ≡ ((table_of p).routine i).params → Loaded few j s.env.exec (top s.run.operands) → enter_step k x todo s ≡ Asks (ask.Call o m) u → IsEntered few j s.env.exec o
+      same_behind : (a b n : ℕ) (l h : List Todo) → EnterNow a n ∷ l ≡ EnterNow b i ∷ h → l ≡ h
+      same_behind a b n l h q = ap others q
+
+      is_it : (x : Option Routine) → slice_get (source_of p).routines i ≡ x → [] ≡ ((table_of p).routine i).params → Loaded arrays few j s.env.exec todo (top s.run.operands) → enter_step k x todo s ≡ Asks (ask.Call o m) u → Entered arrays few j s.env.exec todo o
       is_it None g z h q = absurd (cc)
       is_it (Some y) g z h q =
           let none : y.params ≡ 0 = (sound.routines i y g).params ∙ ap length (sym z) in
           let same : object_in (top (drop y.params s.run.operands)) ≡ o = may_enter (may_call y.written s) (find (object_in (top (drop y.params s.run.operands))) s.env.depths) (object_in (top (drop y.params s.run.operands))) k todo s o m u q in
           let here : object_in (top s.run.operands) ≡ o = subst (λ n. object_in (top (drop n s.run.operands)) ≡ o) none same in
           let it : h.number ≡ o = sym (ap object_in h.is) ∙ here in
-          subst (IsEntered few j s.env.exec) it (record { own = h.own; there = h.there })
+          subst (Entered arrays few j s.env.exec todo) it (record { entered = record { own = h.own; there = h.there }; stands = h.stands })
 
-      by : (FreeActive (table_of p) s.run ⊎ Enters (table_of p) (Loaded few j) s) ⊎ Way (table_of p) (Here p few j) s → IsEntered few j s.env.exec o
+      by : (FreeActive (table_of p) s.run ⊎ Enters (table_of p) (Loaded arrays few j) s) ⊎ Way (table_of p) (Here arrays p few j) s → Entered arrays few j s.env.exec todo o
       by (inl (inl h)) =
           let f : FreeList (table_of p) (EnterNow k i ∷ todo) = subst (FreeList (table_of p)) c h in
           no_both ((table_of p).routine i).whole whole f.0
       by (inl (inr h)) = at_entry h.control
         where
-          at_entry : (s.run.control ≡ EnterNow DESTRUCTOR h.routine ∷ h.todo) ⊎ (s.run.control ≡ piece.TickNow ∷ (EnterNow DESTRUCTOR h.routine ∷ h.todo)) → IsEntered few j s.env.exec o
+          at_entry : (s.run.control ≡ EnterNow DESTRUCTOR h.routine ∷ h.todo) ⊎ (s.run.control ≡ piece.TickNow ∷ (EnterNow DESTRUCTOR h.routine ∷ h.todo)) → Entered arrays few j s.env.exec todo o
           at_entry (inl q) =
               let same : h.routine ≡ i = same_routine DESTRUCTOR k h.routine h.todo todo (sym q ∙ c) in
-              is_it (slice_get (source_of p).routines i) refl (subst (λ n. [] ≡ ((table_of p).routine n).params) same h.params) h.told (subst (λ l. act_todo (source_of p) l s ≡ Asks (ask.Call o m) u) c e)
+              is_it (slice_get (source_of p).routines i) refl (subst (λ n. [] ≡ ((table_of p).routine n).params) same h.params) (subst (λ l. Loaded arrays few j s.env.exec l (top s.run.operands)) (same_behind DESTRUCTOR k h.routine h.todo todo (sym q ∙ c)) h.told) (subst (λ l. act_todo (source_of p) l s ≡ Asks (ask.Call o m) u) c e)
           at_entry (inr q) =
               let f : piece.TickNow ∷ (EnterNow DESTRUCTOR h.routine ∷ h.todo) ≡ EnterNow k i ∷ todo = sym q ∙ c in absurd (cc)
       by (inr w) = absurd (on_way w.stage w.site w.routine w.written w.todo k i todo (sym w.control ∙ c))
 
 pub law_ended : LawEnded
-law_ended p formed accepted few input opts range j w r fits on left fair lives t s c f v =
-    ended p (law_sound p formed accepted) few j s (now p formed accepted few input opts range r fits on left fair lives t s c f v)
+law_ended p formed accepted few input opts range j w r fits on left fair lives t s c f v k i todo z whole o m u e =
+    (ended false p (law_sound p formed accepted) few j s (now p formed accepted few false input opts range r fits on left fair lives t s c f v) k i todo z whole o m u e).entered
+
+pub law_swept : LawSwept
+law_swept p formed accepted few input opts range j w r fits on left fair lives t s c f v k i todo z whole o m u e =
+    (ended true p (law_sound p formed accepted) few j s (now p formed accepted few true input opts range r fits on left fair lives t s c f v) k i todo z whole o m u e).stands refl

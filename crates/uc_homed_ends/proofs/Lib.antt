@@ -10,6 +10,10 @@ pub mod BoundSteps
 pub mod BoundWalk
 pub mod BoundWorlds
 pub mod BoundRuns
+pub mod FreeingLists
+pub mod FreeingKeeping
+pub mod FreeingSteps
+pub mod FreeingWalk
 pub mod ArrayCells
 pub mod ArrayKeeping
 pub mod ArraySteps

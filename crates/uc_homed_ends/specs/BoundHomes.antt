@@ -7,6 +7,8 @@ use Rattle.uc_entry.specs.declared.request.Request.TheVariants as ask
 use Rattle.uc_machine.specs.declared.exec.Exec.{Exec}
 use Rattle.uc_machine.specs.declared.exec.Home.{Home}
 use Rattle.uc_machine.specs.declared.exec.Owner.TheVariants.{Frame}
+use Rattle.uc_machine.specs.declared.exec.Stage.{Stage}
+use Rattle.uc_machine.specs.declared.exec.Stage.TheVariants.{Fresh, Started, Ended}
 use Rattle.uc_machine.specs.Executions.{Execution}
 use Rattle.uc_machine.specs.Pieces as piece
 use Rattle.uc_machine.specs.Pieces.{Slot, Value, Place, LAST_ADDRESS, address, nought, top, Todo, Sort, sort, Active, State, Env, Members, Step, Goes, Ticks, Asks}
@@ -141,11 +143,20 @@ module _ (few : Few) (n : Exec) where
 
 module _ (few : Few) where
   -- an execution of this name that does not run, with a frame for each activation
-  pub record BoundEx (n : Exec) (x : Execution (List Todo) Value) : Type 0 where
+  pub record BoundThere (n : Exec) (x : Execution (List Todo) Value) : Type 0 where
     pub frames : length x.frames ≡ suc (length x.callers)
     pub frame : x.run.frame ≤ length x.callers
     pub run : AllUnbound (IsUnset (frame_at x.run.frame x.frames)) x.run.control
     pub callers : BoundStack few n x.frames x.run.this x.callers
+
+  -- one that has ended never goes on
+  abbrev pub BoundBy : Stage → Exec → Execution (List Todo) Value → Type 0
+  BoundBy Fresh n x = BoundThere n x
+  BoundBy Started n x = BoundThere n x
+  BoundBy Ended n x = Unit {0}
+
+  abbrev pub BoundEx : Exec → Execution (List Todo) Value → Type 0
+  BoundEx n x = BoundBy x.links.stage n x
 
   abbrev pub BoundMembers : Home → Option Members → Type 0
   BoundMembers h m = MembersBy BoundEx h m

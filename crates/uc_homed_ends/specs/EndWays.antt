@@ -1,11 +1,11 @@
 -- On the way from the clean-up of a mutex object to where that is read: nothing changes but what is to do and operands.
 use Rattle.std.specs.Prelude.{◌≡◌, ℕ, suc, pos, ◌<◌, ◌⊎◌, Bool, true, List, [], ◌∷◌, Some}
 use Rattle.uc_tree.specs.declared.limits.TheConstants.{DESTRUCTOR}
-use Rattle.uc_tree.specs.Source.{Binding, Load, OfObject, EndOn, Counted}
+use Rattle.uc_tree.specs.Source.{Binding, Expr, Load, OfObject, EndOn, Counted}
 use Rattle.uc_entry.specs.declared.request.Request.{Request}
 use Rattle.uc_entry.specs.declared.request.Request.TheVariants as ask
 use Rattle.uc_machine.specs.declared.exec.Exec.{Exec}
-use Rattle.uc_machine.specs.Pieces.{Value, Number, At, Todo, Eval, LoadNow, ElementNow, TickNow, EnterNow, Clean, Part, Sweep, Unwind, State, Step, Goes, Ticks, Asks, further, top, below}
+use Rattle.uc_machine.specs.Pieces.{Value, Number, At, Todo, Eval, LoadNow, ElementNow, DropNow, TickNow, EnterNow, Clean, Part, Sweep, Unwind, State, Step, Goes, Ticks, Asks, further, top, below}
 use Rattle.uc_site_laws.specs.Resting.{AllWait, RestsEnv}
 use Rattle.uc_typing.specs.Typing.{Table}
 use Rattle.uc_state_laws.specs.Endings.{OnObject, behind_end}
@@ -62,6 +62,11 @@ Leaves (AtSpot p) r written control = (todo : List Todo) ×
 Leaves (AtElement n p) r written control = (todo : List Todo) ×
     (control ≡ Sweep (OfObject (EndOn r written (Load (named (AtElement n p))))) ∷ todo)
 
+-- behind what sweeps it that goes on
+abbrev pub Behind : EndSite → List Todo → List Todo → Type 0
+Behind (AtSpot p) todo control = Unit {0}
+Behind (AtElement n p) todo control = (x : Expr) × (l : List Todo) × (control ≡ Sweep x ∷ l) × (todo ≡ DropNow ∷ (Sweep x ∷ l))
+
 -- of an array one element stands no more
 abbrev pub OneLess : EndSite → ℕ → ℕ → Type 0
 OneLess (AtSpot p) m n = Unit {0}
@@ -85,6 +90,7 @@ module _ (t : Table) (P : State → Type 0) where
     pub params : [] ≡ (t.routine routine).params
     pub start : State
     pub leaves : Leaves site routine written start.run.control
+    pub behind : Behind site todo start.run.control
     pub held : P start
     pub elements : OneLess site start.run.elements s.run.elements
     pub env : s.env ≡ start.env
@@ -92,8 +98,9 @@ module _ (t : Table) (P : State → Type 0) where
     pub object : s.run.this ≡ start.run.this
     pub callers : s.callers ≡ start.callers
 
--- who has loaded what it ends enters that next, behind a tick where somebody wrote the destructor; so much is told then of who does it and of what
-module _ (t : Table) (Q : Exec → Value → Type 0) where
+-- who has loaded what it ends enters that next, behind a tick where somebody wrote the destructor; so much is told then of who does it, of what is to do behind that,
+-- and of what is entered
+module _ (t : Table) (Q : Exec → List Todo → Value → Type 0) where
   pub record Enters (s : State) : Type 0 where
     pub routine : ℕ
     pub todo : List Todo
@@ -101,7 +108,7 @@ module _ (t : Table) (Q : Exec → Value → Type 0) where
         (s.run.control ≡ TickNow ∷ (EnterNow DESTRUCTOR routine ∷ todo))
     pub free : FreeList t todo
     pub params : [] ≡ (t.routine routine).params
-    pub told : Q s.env.exec (top s.run.operands)
+    pub told : Q s.env.exec todo (top s.run.operands)
 
   -- a task at rest, of which the running activation may stand there
   pub record RestState (s : State) : Type 0 where
@@ -115,7 +122,7 @@ module _ (t : Table) (Q : Exec → Value → Type 0) where
   RestBy (ask.Fault m) s = RestsEnv (FreeActive t) (FreeActive t) s.env
   RestBy r s = FreeState t s
 
-module _ (t : Table) (P : State → Type 0) (Q : Exec → Value → Type 0) where
+module _ (t : Table) (P : State → Type 0) (Q : Exec → List Todo → Value → Type 0) where
   -- who runs stands there, is on such a way, or on none
   pub record NowBy (s : State) : Type 0 where
     pub run : (FreeActive t s.run ⊎ Enters t Q s) ⊎ Way t P s
@@ -129,8 +136,8 @@ module _ (t : Table) (P : State → Type 0) (Q : Exec → Value → Type 0) wher
   NowStep (Asks r s) = FreeState t s
 
 -- so it is, whatever is told of what is loaded
-abbrev pub nothing_told : Exec → Value → Type 0
-nothing_told n v = Unit {0}
+abbrev pub nothing_told : Exec → List Todo → Value → Type 0
+nothing_told n l v = Unit {0}
 
 abbrev pub NowState : Table → (State → Type 0) → State → Type 0
 NowState t P s = NowBy t P nothing_told s

@@ -21,7 +21,7 @@ use Rattle.uc_life_laws.specs.Homes.{home_of}
 use Rattle.uc_life_laws.specs.HomedStates.{Owns, Opens}
 use Rattle.uc_life_laws.specs.Ending.{Spot, place_at}
 use Rattle.uc_putting_laws.specs.Putting.{Setting, IsHome, IsEnding}
-use Rattle.uc_putting_laws.specs.PuttingLaws.{setting_of, FairAt, Fair}
+use Rattle.uc_putting_laws.specs.PuttingLaws.{setting_of, Fair}
 
 -- where the destruction of an object comes next that is loaded from a variable of this activation, that is at home there
 abbrev pub ReadsAt : Few → List Todo → State → Type 0
@@ -60,7 +60,7 @@ module _ (g : Setting) where
   RestAt (LoadNow ∷ todo) s = IsEnding todo → IsElsewhere s (top s.run.operands) →
       IsHome g.few (loaded (top s.run.operands) s.env) (top s.run.operands)
   RestAt (BindMadeNow c r ∷ todo) s = Unit {0}
-  RestAt todo s = FairAt g todo s
+  RestAt todo s = Unit {0}
 
   abbrev pub Rest : State → Type 0
   Rest s = RestAt s.run.control s

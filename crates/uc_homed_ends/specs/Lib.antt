@@ -5,9 +5,11 @@ pub mod EndLaws
 pub mod HomedEnds
 pub mod BoundHomes
 pub mod BoundLaws
+pub mod Freeing
 pub mod ArrayHomes
 pub mod ArrayLaws
 pub mod Ended
+pub mod Swept
 pub mod Elements
 pub mod Sited
 pub mod HomesLeft

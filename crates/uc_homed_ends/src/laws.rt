@@ -5,8 +5,10 @@ ghost use Rattle.uc_homed_ends.specs.BoundLaws.{LawAwaits, LawBoundSteps, LawOpe
 ghost use Rattle.uc_homed_ends.specs.Ended.{LawEnded};
 ghost use Rattle.uc_homed_ends.specs.EndLaws.{LawCode, LawWays};
 ghost use Rattle.uc_homed_ends.specs.Found.{LawFound};
+ghost use Rattle.uc_homed_ends.specs.Freeing.{LawFreeing};
 ghost use Rattle.uc_homed_ends.specs.HomedEnds.{LawFair, LawReads};
 ghost use Rattle.uc_homed_ends.specs.Sited.{LawSited};
+ghost use Rattle.uc_homed_ends.specs.Swept.{LawSwept};
 
 /// In the source of every program that breaks no rule mutex objects are ended by clean-ups alone.
 pub fn law_code()
@@ -49,6 +51,13 @@ pub fn law_awaits()
     ensures { LawAwaits }
 {}
 
+/// An activation behind which the scope of such a variable opens next builds the object for which it is called, and that is the last thing that it does: of a task as it
+/// begins, and each step that finds what it is to find, and each answer, keep that. So none of them lets
+/// go of the object as one that it destroys.
+pub fn law_freeing()
+    ensures { LawFreeing }
+{}
+
 /// So each scope opens where the mutex objects that it is of are at home, as long as those of objects and
 /// of arrays do.
 pub fn law_opens()
@@ -72,6 +81,11 @@ pub fn law_arrays()
 /// What is entered to be destroyed is not gone, where it was not as it was loaded for that.
 pub fn law_ended()
     ensures { LawEnded }
+{}
+
+/// So it is of an element of an array, where the last one that stood was not gone as the array was to go on being destroyed.
+pub fn law_swept()
+    ensures { LawSwept }
 {}
 
 /// In the source of every program that breaks no rule what is built, destroyed and bound stands where its

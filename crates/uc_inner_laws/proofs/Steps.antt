@@ -415,12 +415,12 @@ module _ (part : ℕ → Part) (source : Source) (mine : ℕ) where
       called_plain n r todo k h = called_on n r Any todo k.1 k.2 (subst (λ p. Ready (ground base.ground todo) p (Any ∷ ms)) (sym k.0) tt) h
 
       -- a made object takes the place of its place below the arguments
-      made_on : (c r n : ℕ) (todo : List Todo) → (part r ≡ Maker) × (n ≡ params part source r) × Exists part source r → Ok part source base (Any ∷ ms) todo → (IsThere (rests (params part source r) (anys n (Any ∷ ms))) × Exists part source r) × ((Ready (ground base.ground todo) (part r) (rests (params part source r) (bound (params part source r) (anys n (Any ∷ ms)))) × Exists part source r) × Ok part source base (Any ∷ rests (suc (params part source r)) (bound (params part source r) (anys n (Any ∷ ms)))) todo)
-      made_on c r n todo k h =
+      made_on : (c r n : ℕ) (todo : List Todo) (X : Type 0) → X → (part r ≡ Maker) × (n ≡ params part source r) × Exists part source r → Ok part source base (Any ∷ ms) todo → (IsThere (rests (params part source r) (anys n (Any ∷ ms))) × Exists part source r × (part r ≡ Maker) × X) × ((Ready (ground base.ground todo) (part r) (rests (params part source r) (bound (params part source r) (anys n (Any ∷ ms)))) × Exists part source r) × Ok part source base (Any ∷ rests (suc (params part source r)) (bound (params part source r) (anys n (Any ∷ ms)))) todo)
+      made_on c r n todo X next k h =
           let j : ℕ = params part source r in
           let below_it : rests (params part source r) (anys n (Any ∷ ms)) ≡ Any ∷ ms = subst (λ i. rests i (anys n (Any ∷ ms)) ≡ Any ∷ ms) k.1 (rests_anys n (Any ∷ ms)) in
           let there : IsThere (rests (params part source r) (anys n (Any ∷ ms))) = subst IsThere (sym below_it) tt in (
-            (there, k.2),
+            (there, k.2, k.0, next),
             (
               (subst (λ p. Ready (ground base.ground todo) p (rests j (bound j (anys n (Any ∷ ms))))) (sym k.0) (object_bound j (anys n (Any ∷ ms)) there), k.2),
               subst (λ ks. Ok part source base (Any ∷ ks) todo) (sym (rests_bound j (anys n (Any ∷ ms)) ∙ ap rest below_it)) h,
@@ -452,8 +452,8 @@ module _ (part : ℕ → Part) (source : Source) (mine : ℕ) where
       object (src.EndOn r false a) todo n h = go ms _ _ holds (n.1, inl (n.0.2, called_plain 0 r todo n.0 h))
       object (src.EndOn r true a) todo n h = go ms _ _ holds (n.1, inl (tt, (n.0.2, called_plain 0 r todo n.0 h)))
       object (src.Bind a b) todo n h = go ms _ _ holds (n.1.0, inl (n.1.1, inl (tt, h)))
-      object (src.MakeOn c r false a args) todo n h = go ms _ _ holds (n.1.0, inl (n.1.1, made_on c r (count args) todo n.0 h))
-      object (src.MakeOn c r true a args) todo n h = go ms _ _ holds (n.1.0, inl (n.1.1, (tt, made_on c r (count args) todo n.0 h)))
+      object (src.MakeOn c r false a args) todo n h = go ms _ _ holds (n.1.0, inl (n.1.1, made_on c r (count args) todo (r ≡ r) refl n.0 h))
+      object (src.MakeOn c r true a args) todo n h = go ms _ _ holds (n.1.0, inl (n.1.1, (tt, made_on c r (count args) todo (r ≡ r) refl n.0 h)))
       object src.NewCluster todo n h = go ms _ _ holds (tt, h)
       object (src.NewProcessor a) todo n h = go ms _ _ holds (n.1, inl (tt, h))
       object (src.EndCluster a) todo n h = go ms _ _ holds (n.1, inl (tt, h))

@@ -20,7 +20,7 @@ use Rattle.uc_machine.specs.Monitors as monitors
 use Rattle.uc_machine.specs.Quiet as quiet
 use Rattle.uc_machine.specs.Quiet.{first_state}
 use Rattle.uc_machine.specs.Pieces as piece
-use Rattle.uc_machine.specs.Pieces.{Value, Todo, State, Members, Active, at, top, below, number, object_in}
+use Rattle.uc_machine.specs.Pieces.{Value, Todo, MakeNow, State, Members, Active, at, top, below, number, object_in}
 use Rattle.uc_machine.specs.Answering.{answered, entered, new_members, with_operand}
 use Rattle.uc_depth_laws.specs.Owing.{Tests, marks, SoleAt, FairAt, IsInside, Deep}
 use Rattle.uc_depth_laws.proofs.Kept.{either}
@@ -28,7 +28,7 @@ use Rattle.uc_depth_laws.proofs.Standing.{law_inside}
 use Rattle.uc_answer_laws.specs.Suiting.{AnObject, AClause, ANumber, AValue, AnEvent, JustGo, IsForm, form_of_request}
 use Rattle.uc_inner_laws.specs.Inner.{Part, ground_of, params_at, params, InnerMaybe, InnerItems, InnerExpr, InnerStmt, InnerRoutine, InnerSource}
 use Rattle.uc_inner_laws.specs.Standing.{Mark, Any, Thing, Meets, Holds, rest, ground, Base, calm, Ok, brings, StandsParked, StandsHand, StandsMembers, StandsWith, StandsState, IsHome, Backs, IsHere, StandsAsk, StandsIn, StandsAsking, StandsStep}
-use Rattle.uc_inner_laws.specs.InnerLaws.{IsElsewhere, IsAt, LawSteps, LawInside, LawFair}
+use Rattle.uc_inner_laws.specs.InnerLaws.{IsElsewhere, IsAt, LawSteps, LawInside, LawFair, LawMakes}
 use Rattle.uc_inner_laws.proofs.Keeping as kept
 use Rattle.uc_inner_laws.proofs.Marking.{holds_below, there_long, alone}
 use Rattle.uc_inner_laws.proofs.TodoLists as lists
@@ -308,6 +308,11 @@ module _ (part : ℕ → Part) (source : Source) (mine : ℕ) (s : State) (h : S
       omega (arith, l, n)
   fair [] e a = a
   fair (p ∷ todo) e a = a
+
+pub law_makes : LawMakes
+law_makes part source mine s h c r todo e =
+    let ok : Ok part source h.run.base h.run.marks (MakeNow c r ∷ todo) = subst (Ok part source h.run.base h.run.marks) e h.run.ok in
+    (ok.0.2, ok.0.3, there_long s.env.exec.home s.run.this (params part source r) h.run.marks s.run.operands ok.0.0 h.run.holds)
 
 -- who waits is inside
 

@@ -1,5 +1,5 @@
 -- Whoever waits, signals or accepts in an object is inside it, and a new object finds its place.
-use Rattle.std.specs.Prelude.{◌≡◌, ℕ, ◌⊎◌, true, false, is_some}
+use Rattle.std.specs.Prelude.{◌≡◌, ℕ, ◌<◌, ◌⊎◌, true, false, List, ◌∷◌, length, is_some}
 use Rattle.uc_tree.specs.Source.{Source, routine_of}
 use Rattle.uc_entry.specs.Keyed.{find}
 use Rattle.uc_entry.specs.declared.request.Answer.{Answer}
@@ -7,13 +7,14 @@ use Rattle.uc_entry.specs.declared.request.Answer.TheVariants as answer
 use Rattle.uc_machine.specs.declared.exec.Home.TheVariants as home
 use Rattle.uc_entry.specs.declared.request.Request.{Request}
 use Rattle.uc_entry.specs.declared.request.Request.TheVariants as ask
+use Rattle.uc_machine.specs.Pieces.{Todo, MakeNow}
 use Rattle.uc_machine.specs.Quiet.{State, Asks, quiet, first_state}
 use Rattle.uc_machine.specs.Answering.{answered}
 use Rattle.uc_machine.specs.Insides.{is_held_up}
 use Rattle.uc_answer_laws.specs.Suiting.{IsForm, form_of_request}
 use Rattle.uc_depth_laws.specs.Owing.{Tests, IsInside, Deep, Sole, Fair}
-use Rattle.uc_inner_laws.specs.Inner.{Part, InnerSource}
-use Rattle.uc_inner_laws.specs.Standing.{GivesUp, brings, StandsWith, StandsState, StandsStep}
+use Rattle.uc_inner_laws.specs.Inner.{Part, Maker, params, InnerSource}
+use Rattle.uc_inner_laws.specs.Standing.{Calls, GivesUp, brings, StandsWith, StandsState, StandsStep}
 use Rattle.uc_depth_laws.specs.Entering.{IsMain}
 
 -- an object that is made is not where the running execution is at home
@@ -57,3 +58,10 @@ abbrev pub LawFair : Type 0
 LawFair =
     (part : ℕ → Part) (source : Source) (mine : ℕ) (s : State) → StandsState part source mine s →
     Sole source s → Fair source s
+
+-- who makes an object calls next what builds it, a routine that is called for that alone, and has the place of the object below its arguments
+abbrev pub LawMakes : Type 0
+LawMakes =
+    (part : ℕ → Part) (source : Source) (mine : ℕ) (s : State) → StandsState part source mine s →
+    (c r : ℕ) (todo : List Todo) → s.run.control ≡ MakeNow c r ∷ todo →
+    (part r ≡ Maker) × Calls r todo × (params part source r < length s.run.operands)

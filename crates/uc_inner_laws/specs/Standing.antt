@@ -133,6 +133,12 @@ Ready g Maker ms = IsObject ms
 Ready g Uncalled ms = ⊥
 Ready g Begun ms = ⊥
 
+-- this routine is called first
+abbrev pub Calls : ℕ → List Todo → Type 0
+Calls r (piece.CallOnNow q ∷ todo) = q ≡ r
+Calls r (piece.CallUnwrittenNow q ∷ todo) = q ≡ r
+Calls r todo = ⊥
+
 module _ (part : ℕ → Part) (source : Source) where
   -- the marks behind a piece; behind one of statements nothing is known
   abbrev pub after : Todo → List Mark → List Mark
@@ -191,7 +197,6 @@ module _ (part : ℕ → Part) (source : Source) where
   Allowed g ms (piece.CallUnwrittenNow r) = Ready g (part r) (rests (params part source r) ms) × Exists part source r
   Allowed g ms (piece.LiveNow r) = Exists part source r
   Allowed g ms (piece.EnterNow m r) = Exists part source r
-  Allowed g ms (piece.MakeNow c r) = IsThere (rests (params part source r) ms) × Exists part source r
   Allowed g ms (piece.BindMadeNow c r) = IsObject ms × IsThere (rests (params part source r) (rest ms)) × Exists part source r
   Allowed g ms (piece.SetUpNow r) = SetsUp part source g (part r) × IsMain source r
   Allowed g ms (piece.SpawnNow r) = IsMain source r
@@ -237,10 +242,12 @@ module _ (part : ℕ → Part) (source : Source) where
 
   abbrev mutual
     -- a to-do list is in order before operands of which this is known; what the object of the activation gives may be known or not. Nothing
-    -- is behind an activation but one that waits, and nothing is unwound but for a reason
+    -- is behind an activation but one that waits, and nothing is unwound but for a reason. What is made is built next
     pub Ok : Base → List Mark → List Todo → Type 0
     Ok b ms [] = b.waited ≡ true
     Ok b ms (piece.Eval e ∷ todo) = InnerExpr part source (ground b.ground todo) e × (Ok b (Any ∷ ms) todo ⊎ Known e (Ok b (Own ∷ ms) todo))
+    Ok b ms (piece.MakeNow c r ∷ todo) =
+        (IsThere (rests (params part source r) ms) × Exists part source r × (part r ≡ Maker) × Calls r todo) × Ok b (bound (params part source r) ms) todo
     Ok b ms (piece.Exit w ∷ todo) = Left b todo
     Ok b ms (piece.Unwind ∷ todo) = (b.unwound ≡ true) × Left b todo
     Ok b ms (p ∷ todo) = Allowed (ground b.ground todo) ms p × Ok (behind p b) (after p ms) todo

@@ -1,6 +1,6 @@
 // The laws: each is a function whose contract is the law.
 
-ghost use Rattle.uc_inner_laws.specs.InnerLaws.{LawFair, LawInside, LawSteps};
+ghost use Rattle.uc_inner_laws.specs.InnerLaws.{LawFair, LawInside, LawMakes, LawSteps};
 
 /// Where code waits, signals and accepts only in routines that hold their object, or that are called
 /// on it by such ones, who does so has a mark of that object, in its own activation or in an older
@@ -20,4 +20,9 @@ pub fn law_inside()
 /// A new object finds its place below the arguments of its constructor.
 pub fn law_fair()
     ensures { LawFair }
+{}
+
+/// Who makes an object calls next what builds it, a routine that is called for that alone.
+pub fn law_makes()
+    ensures { LawMakes }
 {}

@@ -32,7 +32,7 @@ use Rattle.uc_life_laws.specs.KnownAnswers.{MainPasses}
 use Rattle.uc_life_laws.specs.KnownRuns.{PassesBelow, Meets, AllIsKnown}
 use Rattle.uc_life_laws.proofs.KnownWorlds.{earlier, law_known_runs}
 use Rattle.uc_life_laws.proofs.Laying.{laid_out}
-use Rattle.uc_life_laws.specs.Rooted.{IsPlace}
+use Rattle.uc_life_laws.specs.Rooted.{IsBase}
 use Rattle.uc_putting_laws.specs.Putting.{CodeRoutine}
 use Rattle.uc_putting_laws.specs.PuttingLaws.{special_of, setting_of, Fair}
 use Rattle.uc_putting_laws.proofs.Routines.{law_calling}
@@ -51,7 +51,7 @@ pub record IsKnownThere (p : Program) (few : Few) (s : State) : Type 0 where
   pub knows : KnowsState (table_of p) few [] s
   pub life : LivesState (table_of p) few s
 
-module _ (p : Program) (formed : IsFormed p) (accepted : breaks_of p ≡ []) (few : Few) (places : (n : Exec) (w : Value) (b : Ty) → Base few n w b → IsPlace w) where
+module _ (p : Program) (formed : IsFormed p) (accepted : breaks_of p ≡ []) (few : Few) (places : (n : Exec) (w : Value) (b : Ty) → Base few n w b → IsBase w b) where
   code : (n : ℕ) → CodeRoutine (setting_of p few) (special_of p n) ((table_of p).routine n).this (slice_get (source_of p).routines n)
   code = code_of p formed accepted few
 

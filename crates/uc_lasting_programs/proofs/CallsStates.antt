@@ -28,8 +28,8 @@ use Rattle.uc_life_laws.specs.Knowing.{AtHand, InMaking, KnownAll, KnowsState, F
 use Rattle.uc_life_laws.specs.KnownRuns.{Meets}
 use Rattle.uc_life_laws.proofs.Knowns.{values_drop, newest}
 use Rattle.uc_life_laws.proofs.Reading.{within_raw, not_whole, NoNumber, behind_number}
-use Rattle.uc_life_laws.specs.Rooted.{IsPlace}
-use Rattle.uc_life_laws.proofs.Rooted.{within_object, things_place, stands_things}
+use Rattle.uc_life_laws.specs.Rooted.{IsBase}
+use Rattle.uc_life_laws.proofs.Rooted.{within_object, things_raw, stands_things}
 use Rattle.uc_life_laws.specs.Belonging.{Belongs, object}
 use Rattle.uc_life_laws.specs.Ending.{Spot, calling}
 use Rattle.uc_putting_laws.specs.CleanedSpots.{Under, site_spot, IsOf, IsIn}
@@ -44,7 +44,7 @@ use Rattle.uc_making_laws.specs.OwnThis.{HasHome, Has, ThisStack, ThisState, Cal
 use Rattle.uc_making_laws.proofs.ThisSteps.{more, again}
 use Rattle.uc_lasting_programs.proofs.Wholes.{plain_whole}
 
-module _ (t : Table) (few : Few) (places : (n : Exec) (w : Value) (b : Ty) → Base few n w b → IsPlace w) where
+module _ (t : Table) (few : Few) (places : (n : Exec) (w : Value) (b : Ty) → Base few n w b → IsBase w b) where
   -- what is the execution's own
   own_has : (n : Exec) (older : List Active) (v : Value) → Belongs few n v → Has t few n older v
   own_has n older (piece.Number z) h = tt
@@ -65,7 +65,7 @@ module _ (t : Table) (few : Few) (places : (n : Exec) (w : Value) (b : Ty) → B
   -- what is known of a mutex object to these activations
   held_has : (n : Exec) (gs : List Sig) (cs : List Active) (o c : ℕ) → ThisStack t few n cs → Held t few (AtHand t few n gs cs) (Obj c) (Object o) → HasHome t few n cs o
   held_has n gs cs o c h (inl (lies {w = w} {a = d} (inl k) i)) =
-      absurd (things_place t few places n cs w d k o (within_object t w d (Object o) (Obj c) o i refl))
+      absurd (things_raw t few places n cs w d k o c i)
   held_has n gs cs o c h (inl (lies {w = w} {a = d} (inr k) i)) =
       let q = not_whole t n gs cs w d k in
       let e : Obj c ≡ Raw q.0 = within_raw t w q.0 (Object o) (Obj c) (subst (λ d. Within t w d (Object o) (Obj c)) q.1 i) in
@@ -73,9 +73,9 @@ module _ (t : Table) (few : Few) (places : (n : Exec) (w : Value) (b : Ty) → B
   held_has n gs cs o c h (inl (inside {o = u} {c = d} m k i)) =
       let e : Object u ≡ Object o = within_object t (Object u) (Obj d) (Object o) (Obj c) o i refl in
       let same : u ≡ o = cc in
-      inr (inr (d, subst (λ (u : ℕ). Stands t few (Things t few n cs) (Cell (Obj d)) (few.home u)) same (stands_things t few n gs cs (Obj d) (few.home u) k)))
+      inr (inr (d, inl (subst (λ (u : ℕ). Stands t few (Things t few n cs) (Cell (Obj d)) (few.home u)) same (stands_things t few n gs cs (Obj d) (few.home u) k))))
   held_has n gs cs o c h (inr k) =
-      ⊎_elim (λ x. absurd (things_place t few places n cs k.0 (Raw k.1) x o e)) (λ x. ⊎_elim (λ y. making_has n gs cs o k.1 h (subst (λ w. InMaking gs cs w (Raw k.1)) e y)) (λ y. absurd (subst NoNumber e (behind_number t n cs k.0 (Raw k.1) y))) x) k.2
+      ⊎_elim (λ x. inr (inr (k.1, inr (subst (λ w. Things t few n cs w (Raw k.1)) e x)))) (λ x. ⊎_elim (λ y. making_has n gs cs o k.1 h (subst (λ w. InMaking gs cs w (Raw k.1)) e y)) (λ y. absurd (subst NoNumber e (behind_number t n cs k.0 (Raw k.1) y))) x) k.2
     where
       e : k.0 ≡ Object o
       e = within_object t k.0 (Obj k.1) (Object o) (Obj c) o k.3 refl
@@ -83,13 +83,13 @@ module _ (t : Table) (few : Few) (places : (n : Exec) (w : Value) (b : Ty) → B
   -- what an execution that is made, or a task that begins, has of others
   based_has : (n : Exec) (o c : ℕ) → Held t few (Base few n) (Obj c) (Object o) → HasHome t few n [] o
   based_has n o c (inl (lies {w = w} {a = d} k i)) =
-      absurd (things_place t few places n [] w d k o (within_object t w d (Object o) (Obj c) o i refl))
+      absurd (things_raw t few places n [] w d k o c i)
   based_has n o c (inl (inside {o = u} {c = d} m k i)) =
       let e : Object u ≡ Object o = within_object t (Object u) (Obj d) (Object o) (Obj c) o i refl in
       let same : u ≡ o = cc in
-      inr (inr (d, subst (λ (u : ℕ). Stands t few (Base few n) (Cell (Obj d)) (few.home u)) same k))
+      inr (inr (d, inl (subst (λ (u : ℕ). Stands t few (Base few n) (Cell (Obj d)) (few.home u)) same k)))
   based_has n o c (inr k) =
-      absurd (things_place t few places n [] k.0 (Raw k.1) k.2 o (within_object t k.0 (Obj k.1) (Object o) (Obj c) o k.3 refl))
+      inr (inr (k.1, inr (subst (λ w. Base few n w (Raw k.1)) (within_object t k.0 (Obj k.1) (Object o) (Obj c) o k.3 refl) k.2)))
 
   based_value : (n : Exec) (c : ℕ) (v : Value) → LiesIn t few n (Base few n) (Obj c) v → Has t few n [] v
   based_value n c (piece.Number z) h = tt
@@ -114,7 +114,7 @@ module _ (t : Table) (few : Few) (places : (n : Exec) (w : Value) (b : Ty) → B
   whole_has n gs cs c (piece.Object o) h k = held_has n gs cs o c h (k.held (is_mutex c o k.is))
   whole_has n gs cs c piece.Nothing h k = tt
 
-module _ (p : Program) (formed : IsFormed p) (accepted : breaks_of p ≡ []) (few : Few) (places : (n : Exec) (w : Value) (b : Ty) → Base few n w b → IsPlace w) where
+module _ (p : Program) (formed : IsFormed p) (accepted : breaks_of p ≡ []) (few : Few) (places : (n : Exec) (w : Value) (b : Ty) → Base few n w b → IsBase w b) where
   abbrev t : Table
   t = table_of p
 
@@ -133,12 +133,12 @@ module _ (p : Program) (formed : IsFormed p) (accepted : breaks_of p ≡ []) (fe
     called_own r todo x special (inl f) n = no_both (special_of p r) special f
     called_own r todo x special (inr (inl f)) n =
         let v = top (drop x.params s.run.operands) in
-        let h = under_of few (here s) (rests x.params put.run.marks) (drop x.params s.run.operands) (holds_drop few (here s) x.params put.run.marks s.run.operands put.run.holds) (λ n y. IsOf put.run.made y × SeatAt (setting_of p few) (here s) put.run.made todo (Under ((table_of p).routine r).this n y)) (subst (λ m. FirstUnder (rests m put.run.marks) (λ n y. IsOf put.run.made y × SeatAt (setting_of p few) (here s) put.run.made todo (Under ((table_of p).routine r).this n y))) n f.1) in
+        let h = under_of few (here s) s.run.elements (rests x.params put.run.marks) (drop x.params s.run.operands) (holds_drop few (here s) s.run.elements x.params put.run.marks s.run.operands put.run.holds) (λ n y. IsOf put.run.made y × SeatAt (setting_of p few) (here s) put.run.made todo (Under ((table_of p).routine r).this n y)) (subst (λ m. FirstUnder (rests m put.run.marks) (λ n y. IsOf put.run.made y × SeatAt (setting_of p few) (here s) put.run.made todo (Under ((table_of p).routine r).this n y))) n f.1) in
         spot_own h.1 h.3.0 (top (drop x.params s.run.operands)) h.2.1
     called_own r todo x special (inr (inr f)) n =
-        let h = home_of few (here s) (rests x.params put.run.marks) (drop x.params s.run.operands) (holds_drop few (here s) x.params put.run.marks s.run.operands put.run.holds) (λ y. IsIn put.run.made y × SeatAt (setting_of p few) (here s) put.run.made todo y × OfObjects y) (subst (λ m. FirstHome (rests m put.run.marks) (λ y. IsIn put.run.made y × SeatAt (setting_of p few) (here s) put.run.made todo y × OfObjects y)) n f) in
+        let h = home_of few (here s) s.run.elements (rests x.params put.run.marks) (drop x.params s.run.operands) (holds_drop few (here s) s.run.elements x.params put.run.marks s.run.operands put.run.holds) (λ y. IsIn put.run.made y × SeatAt (setting_of p few) (here s) put.run.made todo y × OfObjects y) (subst (λ m. FirstHome (rests m put.run.marks) (λ y. IsIn put.run.made y × SeatAt (setting_of p few) (here s) put.run.made todo y × OfObjects y)) n f) in
         let z = h.1 in
-        let place : Belongs few s.env.exec z.0 = spot_own (site_spot h.0) h.2.0 z.0 (stands_under few (here s) h.0 z.0 z.1) in
+        let place : Belongs few s.env.exec z.0 = spot_own (site_spot h.0) h.2.0 z.0 (stands_under few (here s) s.run.elements h.0 z.0 z.1) in
         subst (Belongs few s.env.exec) (sym z.2.object) (object (subst (Belongs few s.env.exec) (sym z.2.home) place))
 
     -- the operand below the arguments is known

@@ -1,23 +1,20 @@
 -- What is entered again to be destroyed no activation of who enters it is of: each would be told of it by older ones, or build or destroy it.
-use Rattle.std.proofs.Common.{◌≡◌, ℕ, ◌<◌, ◌⊎◌, inl, inr, Bool, true, false, List, [], ◌∷◌, refl, sym, ap, subst, arith, ⊎_elim}
+use Rattle.std.proofs.Common.{◌≡◌, ℕ, ◌⊎◌, inl, inr, Bool, true, false, List, [], ◌∷◌, refl, sym, ap, subst, arith, ⊎_elim}
 use Rattle.std.specs.Prelude.{nat_eq, if◌then◌else◌}
 use Rattle.std.proofs.lemmas.Bool.{eqb-true}
 use Rattle.uc_tree.specs.Source as src
 use Rattle.uc_tree.specs.Source.{Source}
-use Rattle.uc_acts.specs.Journal.{Journal}
-use Rattle.uc_meaning.specs.Runs.{World}
 use Rattle.uc_machine.specs.declared.exec.Exec.{Exec}
-use Rattle.uc_machine.specs.declared.exec.Home.TheVariants as home
 use Rattle.uc_machine.specs.Pieces as piece
 use Rattle.uc_machine.specs.Pieces.{Value, Number, Place, Running, Object, Nothing, Todo, Active, State, object_in}
-use Rattle.uc_typing.specs.Typing.{Cell, Obj, Table}
+use Rattle.uc_typing.specs.Typing.{Table}
 use Rattle.uc_depth_laws.specs.Entering.{Aspect}
 use Rattle.uc_depth_laws.specs.Owing.{First, Any, Done, Skipped, CallOf, Bound, Tests, next, counted, owed_by, owed_waiting, marks, is_told, Allowed, Entered, AllEntered, Deep, entering}
-use Rattle.uc_life_laws.specs.Things.{Few, Base, Things}
+use Rattle.uc_life_laws.specs.Things.{Few, Things}
 use Rattle.uc_life_laws.specs.Knowing.{KnowsState}
 use Rattle.uc_life_laws.specs.Belonging.{Belongs}
 use Rattle.uc_life_laws.specs.Marks.{Marked, Free, Outward}
-use Rattle.uc_life_laws.proofs.Rooted.{things_split, stands_more, stands_split}
+use Rattle.uc_apart_laws.proofs.Clear.{home_more, home_split}
 use Rattle.uc_apart_laws.specs.Clear.{IsNoHome, IsClearAt}
 use Rattle.uc_putting_laws.specs.LoneObjects.{LoneObjectAt, LoneObject}
 use Rattle.uc_putting_laws.specs.ObjectsAtHand as held
@@ -26,7 +23,7 @@ use Rattle.uc_making_laws.specs.LettingGo.{opens_object, is_letting, IsTold, Tol
 use Rattle.uc_making_laws.specs.NoOthers.{NoThis}
 use Rattle.uc_making_laws.proofs.LettingLists as lists
 use Rattle.uc_making_laws.proofs.NoOthers.{law_no_others}
-use Rattle.uc_lasting_programs.proofs.Bases.{BareOnWayBy}
+use Rattle.uc_lasting_programs.proofs.Bases.{SeatsAlone, BareOnWayBy}
 use Rattle.uc_lasting_programs.proofs.Presence.{closed}
 use Rattle.uc_lasting_programs.proofs.SeatHomes.{IsForeign}
 
@@ -104,7 +101,7 @@ module _ (t : Table) (few : Few) (source : Source) (tells : Aspect → ℕ → B
       by false e = refl
 
   fewer : (a : Active) (older : List Active) → IsNoHome t few o (Things t few n (a ∷ older)) → IsNoHome t few o (Things t few n older)
-  fewer a older f c x = f c (stands_more t few (Things t few n older) (Things t few n (a ∷ older)) (λ w d y. inr y) (Cell (Obj c)) (few.home o) x)
+  fewer a older f c x = f c (home_more t few o (Things t few n older) (Things t few n (a ∷ older)) (λ w d y. inr y) c x)
 
   one : (a : Active) (older : List Active) → Entered source (is_told tells a.this older) Any a.control → WaitsBy (Told t few n older a.this) a.control → (IsBuilt (a ∷ older) o → ⊥) → IsNoHome t few o (Things t few n older) → owed_waiting o older ≡ 0 → a.this ≡ Object o → ⊥
   one a older g h b i k e = by h.1
@@ -128,9 +125,10 @@ module _ (t : Table) (few : Few) (source : Source) (tells : Aspect → ℕ → B
       let left = rest.1 in
       ((away, rest.0), omega (arith, owed, left))
 
--- in a state in which an object is entered again to be destroyed, where who enters it is at home in no object of its own, and the main of none
+-- in a state in which an object is entered again to be destroyed, where who enters it is at home in no object of its own, and the main of none; nor is the home of
+-- the task's own object its own, where nothing is told of others but seats
 
-module _ (t : Table) (few : Few) (source : Source) (nobodys : (n : Exec) → Belongs few n (few.home 0) → ⊥) (news : Tests) (s : State) (k : KnowsState t few [] s) (deep : Deep source news s) (lets : LetsState t few s) (lone : LoneObject t few source s) (foreign : IsForeign few s.env.exec) (owned : Belongs few s.env.exec (few.home s.env.own) → (o : ℕ) × (s.env.exec.home ≡ home.Object o) × (o < s.env.own)) where
+module _ (t : Table) (few : Few) (source : Source) (nobodys : (n : Exec) → Belongs few n (few.home 0) → ⊥) (news : Tests) (s : State) (k : KnowsState t few [] s) (deep : Deep source news s) (lets : LetsState t few s) (lone : LoneObject t few source s) (foreign : IsForeign few s.env.exec) (owned : SeatsAlone few → Belongs few s.env.exec (few.home s.env.own) → ⊥) where
   abbrev n : Exec
   n = s.env.exec
 
@@ -158,15 +156,15 @@ module _ (t : Table) (few : Few) (source : Source) (nobodys : (n : Exec) → Bel
       deep.callers,
     )
 
-    pub clear : (j : Journal) (w : World) (u : ℕ) → BareOnWayBy t few j w u s source (piece.EnterNow m r ∷ todo) → IsClearAt t few source s k (piece.EnterNow m r ∷ todo)
-    clear j w u bare ends again =
+    pub clear : BareOnWayBy t few s source (piece.EnterNow m r ∷ todo) → IsClearAt t few source s k (piece.EnterNow m r ∷ todo)
+    clear bare ends again =
         let o : ℕ = entering source r s in
         let at : LoneObjectAt t few source (piece.EnterNow m r ∷ todo) s = subst (λ l. LoneObjectAt t few source l s) e lone in
         let l = at ends in
         let free : Free t few o (Marked t s.env.exec (s.run ∷ s.callers)) = subst (λ c. Free t few o (Outward t s.env.exec s.run.frame s.run.this s.callers c)) (sym e) l.0.1 in
         let b = bare ends again (l.0.0, free) in
         let no_home : IsNoHome t few o (Things t few s.env.exec (s.run ∷ s.callers)) = λ c x.
-        ⊎_elim (free c) (b.0 foreign c) (stands_split t few (Things t few s.env.exec (s.run ∷ s.callers)) (Marked t s.env.exec (s.run ∷ s.callers)) (Base few s.env.exec) (things_split t few s.env.exec (s.run ∷ s.callers)) (Cell (Obj c)) (few.home o) x) in
+        ⊎_elim (free c) (b.0 foreign c) (home_split t few o s.env.exec (s.run ∷ s.callers) c x) in
         let not_first : o ≡ 0 → ⊥ = λ z. nobodys s.env.exec (subst (λ (q : ℕ). Belongs few s.env.exec (few.home q)) z l.0.0) in
         let so = none t few source (news s.env.exec.home) o not_first s.env.exec (s.run ∷ s.callers) waits entered l.1 no_home in
-        ((λ e. foreign o (inl e) l.0.0), (law_no_others.making t few o k.sigs (s.run ∷ s.callers) so.0, no_home), (λ q. let x = owned (subst (λ (i : ℕ). Belongs few s.env.exec (few.home i)) (sym q) l.0.0) in b.1 x.0 x.1 x.2 q))
+        ((λ e. foreign o (inl e) l.0.0), (law_no_others.making t few o k.sigs (s.run ∷ s.callers) so.0, no_home), (λ q. owned (b.1 q) (subst (λ (i : ℕ). Belongs few s.env.exec (few.home i)) (sym q) l.0.0)))

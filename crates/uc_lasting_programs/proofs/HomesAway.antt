@@ -76,7 +76,7 @@ pub not_true : (b : Bool) → (b ≡ true → ⊥) → b ≡ false
 not_true true f = absurd (f refl)
 not_true false f = refl
 
-one_not_none : (u : ℕ) (us : List ℕ) → us ≡ u ∷ [] → us ≡ [] → ⊥
+pub one_not_none : (u : ℕ) (us : List ℕ) → us ≡ u ∷ [] → us ≡ [] → ⊥
 one_not_none u us e f = cc
 
 pub one_object : (opts : Options) → object_count (begin opts ∷ []) ≡ 1
@@ -100,6 +100,10 @@ was_there o j (e ∷ a) h =
 abbrev pub number_at : Home → ℕ
 number_at (home.Task o) = o
 number_at (home.Object o) = o
+
+-- an object is at home in what is the own of one that is at home in what was made before
+abbrev pub Owned : Few → ℕ → Type 0
+Owned few o = (n : Exec) × Belongs few n (few.home o) × (number_at n.home < o)
 
 lesser : (q o : ℕ) → (o ≤ q → ⊥) → q < o
 lesser q o f = by (cases_lt q o)
@@ -157,6 +161,12 @@ module _ (p : Program) (formed : IsFormed p) (ok : breaks_of p ≡ []) (few : Fe
           let frames : KeepsFrames p j w = law_frame_runs p ok input opts j w r in
           ride_own d.rides now (put.start p ok few (laid_out p formed ok) main code input opts range (run_rests (source_of p) input opts range r f on) on (world.0 on) frames q t d.given d.runs d.told) c e
 
+      -- so a new object is, where its home is told
+      pub new_own : (c : ℕ) → asked.request ≡ ask.Make c → (o : ℕ) → o ≡ object_count j → few.home o ≡ then_home (source_of p) j asked.request s (λ i. home_of (source_of p) input opts j w r i) o → Belongs few s.env.exec (few.home o)
+      new_own c e o is told =
+          let there : few.home o ≡ made_at (source_of p) s.run.control s.run.operands = told ∙ (ap (λ (z : Request). then_home (source_of p) j z s (λ i. home_of (source_of p) input opts j w r i) o) e ∙ ap (λ (z : Bool). if z then made_at (source_of p) s.run.control s.run.operands else home_of (source_of p) input opts j w r o) (eq-eqb o (object_count j) is)) in
+          subst (Belongs few s.env.exec) (sym there) (belongs c e)
+
       by_names : (now : Home → ℕ) (o : ℕ) → ((q : ℕ) → o ≤ q → (now (home.Object q) ≡ 0) × (now (home.Task q) ≡ 0)) → (h : Home) → s.env.exec.home ≡ h → IsBelow now s.env.exec → number_at h < o
       by_names now o none (home.Object q) e under =
           let lt : s.env.exec.serial < now (home.Object q) = subst (λ (h : Home). s.env.exec.serial < now h) e under in
@@ -175,18 +185,18 @@ module _ (p : Program) (formed : IsFormed p) (ok : breaks_of p ≡ []) (few : Fe
           let other : (o : ℕ) → object_count j ≤ o → nat_eq o (w.tasks t).env.own ≡ false = λ o le. not_true (nat_eq o (w.tasks t).env.own) (λ e. one_not_none t (owner o j) (ap (λ i. owner i j) (eqb-true o (w.tasks t).env.own e) ∙ y.world.owned t (known (source_of p) input opts range rests on y.serials y.world q t d.runs)) (owner_none o le)) in
           by_names k.now (object_count j) (λ o le. (k.grows.same (home.Object o) (unheld o le) ∙ y.world.unmade o le, k.grows.same (home.Task o) (other o le) ∙ y.world.unowned o (owner_none o le))) s.env.exec.home refl k.named.names.env_named.exec_below
 
-    -- in a run
-    pub homes_away : {j : Journal} {w : World} (r : Runs (source_of p) input opts j w) → RunFits (source_of p) input opts j w r → RunAlone (source_of p) input opts j w r → is_over j ≡ false → RunMeets (Fair (setting_of p few)) (source_of p) input opts j w r → ((o : ℕ) → o < object_count j → few.home o ≡ home_of (source_of p) input opts j w r o) → (o : ℕ) → o < object_count j → is_gone o j ≡ false → (n : Exec) → Belongs few n (few.home o) → number_at n.home < o
-    homes_away begun f alone on fair same o lt there n own =
+    -- in a run: each but object 0 is at home so
+    pub homes_owned : {j : Journal} {w : World} (r : Runs (source_of p) input opts j w) → RunFits (source_of p) input opts j w r → RunAlone (source_of p) input opts j w r → is_over j ≡ false → RunMeets (Fair (setting_of p few)) (source_of p) input opts j w r → ((o : ℕ) → o < object_count j → few.home o ≡ home_of (source_of p) input opts j w r o) → (o : ℕ) → o < object_count j → is_gone o j ≡ false → (o ≡ 0 → ⊥) → Owned few o
+    homes_owned begun f alone on fair same o lt there after =
         let one = one_object opts in
         let first : o ≡ 0 = omega (arith, lt, one) in
-        absurd (zero n (subst (λ (i : ℕ). Belongs few n (few.home i)) first own))
-    homes_away (more {j} {w} r before (gives q t s le)) f alone on fair same o lt there n own =
+        absurd (after first)
+    homes_owned (more {j} {w} r before (gives q t s le)) f alone on fair same o lt there after =
         let count = objects_push j (dispatch q t) in
-        homes_away r f.0 alone.0 before fair.0 (λ i l. same i (omega (arith, l, count))) o (omega (arith, lt, count)) (was_there o j (dispatch q t ∷ []) there) n own
-    homes_away (more {j} {w} r before (no_room q t s le)) f alone on fair same o lt there n own =
+        homes_owned r f.0 alone.0 before fair.0 (λ i l. same i (omega (arith, l, count))) o (omega (arith, lt, count)) (was_there o j (dispatch q t ∷ []) there) after
+    homes_owned (more {j} {w} r before (no_room q t s le)) f alone on fair same o lt there after =
         no_both (is_over (j ++ lone_limit ∷ [])) (over_limit j 0 0) on
-    homes_away (more {j} {w} {a} {w' = v} r before (acts q t k s asked d)) f alone on fair same o lt there n own = by (λ l. homes_away r f.0 alone.0 before fair.0 as_before o l (was_there o j (act opts (source_of p).sites input j q t k asked) there) n own) (cases_lt o (object_count j))
+    homes_owned (more {j} {w} {a} {w' = v} r before (acts q t k s asked d)) f alone on fair same o lt there after = by (λ l. homes_owned r f.0 alone.0 before fair.0 as_before o l (was_there o j (act opts (source_of p).sites input j q t k asked) there) after) (cases_lt o (object_count j))
       where
         as_before : (i : ℕ) → i < object_count j → few.home i ≡ home_of (source_of p) input opts j w r i
         as_before i l =
@@ -205,16 +215,19 @@ module _ (p : Program) (formed : IsFormed p) (ok : breaks_of p ≡ []) (few : Fe
             let old : has (made j) o ≡ false = not_true (has (made j) o) (λ h. let l = ((counted_run opts (source_of p).sites input rests.kernel).of_made o h).0 in omega (arith, l, le)) in
             (makes opts (source_of p).sites input j q t k asked rests.kernel m on).new o now old
 
-        at : (x : Request) (b : Bool) → is_making x ≡ b → asked.request ≡ x → object_count j ≤ o → number_at n.home < o
+        at : (x : Request) (b : Bool) → is_making x ≡ b → asked.request ≡ x → object_count j ≤ o → Owned few o
         at x false i e le = absurd (none_new opts (source_of p).sites input j q t k asked rests.kernel m on (ap is_making e ∙ i) o (just le))
         at (ask.Make c) true i e le =
             let is : o ≡ object_count j = one_and_one o (object_count j) (sym (just le) ∙ one_new opts (source_of p).sites input j q t k asked rests.kernel m on c e) in
-            let told : few.home o ≡ made_at (source_of p) s.run.control s.run.operands = same o lt ∙ (ap (λ (z : Request). then_home (source_of p) j z s (λ i. home_of (source_of p) input opts j w r i) o) e ∙ ap (λ (z : Bool). if z then made_at (source_of p) s.run.control s.run.operands else home_of (source_of p) input opts j w r o) (eq-eqb o (object_count j) is)) in
-            let theirs : Belongs few s.env.exec (few.home o) = subst (Belongs few s.env.exec) (sym told) (belongs r f.0 alone.0 before fair.0 q t k s asked d fair.1 c e) in
-            let who : n ≡ s.env.exec = law_own few n s.env.exec (few.home o) own theirs in
-            subst (λ (i : ℕ). number_at n.home < i) (sym is) (subst (λ (x : Exec). number_at x.home < object_count j) (sym who) (earlier r f.0 alone.0 before fair.0 q t k s asked d fair.1))
+            let theirs : Belongs few s.env.exec (few.home o) = new_own r f.0 alone.0 before fair.0 q t k s asked d fair.1 c e o is (same o lt) in
+            (s.env.exec, theirs, subst (λ (i : ℕ). number_at s.env.exec.home < i) (sym is) (earlier r f.0 alone.0 before fair.0 q t k s asked d fair.1))
         at x true i e le = no_both (is_making x) i refl
 
-        by : (o < object_count j → number_at n.home < o) → (o < object_count j) ⊎ (object_count j ≤ o) → number_at n.home < o
+        by : (o < object_count j → Owned few o) → (o < object_count j) ⊎ (object_count j ≤ o) → Owned few o
         by older (inl l) = older l
         by older (inr le) = at asked.request (is_making asked.request) refl refl le
+
+    pub homes_away : {j : Journal} {w : World} (r : Runs (source_of p) input opts j w) → RunFits (source_of p) input opts j w r → RunAlone (source_of p) input opts j w r → is_over j ≡ false → RunMeets (Fair (setting_of p few)) (source_of p) input opts j w r → ((o : ℕ) → o < object_count j → few.home o ≡ home_of (source_of p) input opts j w r o) → (o : ℕ) → o < object_count j → is_gone o j ≡ false → (n : Exec) → Belongs few n (few.home o) → number_at n.home < o
+    homes_away r f alone on fair same o lt there n own =
+        let x = homes_owned r f alone on fair same o lt there (λ e. zero n (subst (λ (i : ℕ). Belongs few n (few.home i)) e own)) in
+        subst (λ (m : Exec). number_at m.home < o) (sym (law_own few n x.0 (few.home o) own x.1)) x.2

@@ -29,8 +29,8 @@ use Rattle.uc_life_laws.specs.Knowing.{AtHand, InMaking, KnownAll, KnowsState, F
 use Rattle.uc_life_laws.specs.KnownRuns.{Meets}
 use Rattle.uc_life_laws.proofs.Knowns.{values_drop, newest}
 use Rattle.uc_life_laws.proofs.Reading.{within_raw, not_whole, NoNumber, behind_number}
-use Rattle.uc_life_laws.specs.Rooted.{IsPlace}
-use Rattle.uc_life_laws.proofs.Rooted.{within_object, things_place, stands_things}
+use Rattle.uc_life_laws.specs.Rooted.{IsBase}
+use Rattle.uc_life_laws.proofs.Rooted.{within_object, things_raw, stands_things}
 use Rattle.uc_life_laws.specs.Ending.{calling}
 use Rattle.uc_putting_laws.specs.CleanedSpots.{Site, Reach, from_variable, apart}
 use Rattle.uc_putting_laws.specs.Calling.{CleansBy, CallingStmt, CallingStmts, CallingHandlers, Opening}
@@ -92,7 +92,7 @@ module _ (g : Setting) where
   found_closed None h = tt
   found_closed (Some y) h = closed (from_variable h.0) y.handler.body h.1
 
-module _ (t : Table) (few : Few) (places : (n : Exec) (w : Value) (b : Ty) → Base few n w b → IsPlace w) where
+module _ (t : Table) (few : Few) (places : (n : Exec) (w : Value) (b : Ty) → Base few n w b → IsBase w b) where
   -- what is built or destroyed is the object of an activation that is there
   making_told : (n : Exec) (gs : List Sig) (cs : List Active) (o c : ℕ) → LetsStack t few n cs → InMaking gs cs (Object o) (Raw c) → IsTold t few n cs o
   making_told n gs [] o c h k = absurd k
@@ -105,7 +105,7 @@ module _ (t : Table) (few : Few) (places : (n : Exec) (w : Value) (b : Ty) → B
   -- what is known of a mutex object to these activations
   held_told : (n : Exec) (gs : List Sig) (cs : List Active) (o c : ℕ) → LetsStack t few n cs → Held t few (AtHand t few n gs cs) (Obj c) (Object o) → IsTold t few n cs o
   held_told n gs cs o c h (inl (lies {w = w} {a = d} (inl k) i)) =
-      absurd (things_place t few places n cs w d k o (within_object t w d (Object o) (Obj c) o i refl))
+      absurd (things_raw t few places n cs w d k o c i)
   held_told n gs cs o c h (inl (lies {w = w} {a = d} (inr k) i)) =
       let q = not_whole t n gs cs w d k in
       let e : Obj c ≡ Raw q.0 = within_raw t w q.0 (Object o) (Obj c) (subst (λ d. Within t w d (Object o) (Obj c)) q.1 i) in
@@ -113,9 +113,9 @@ module _ (t : Table) (few : Few) (places : (n : Exec) (w : Value) (b : Ty) → B
   held_told n gs cs o c h (inl (inside {o = u} {c = d} m k i)) =
       let e : Object u ≡ Object o = within_object t (Object u) (Obj d) (Object o) (Obj c) o i refl in
       let same : u ≡ o = cc in
-      inr (inl (d, subst (λ (u : ℕ). Stands t few (Things t few n cs) (Cell (Obj d)) (few.home u)) same (stands_things t few n gs cs (Obj d) (few.home u) k)))
+      inr (inl (d, inl (subst (λ (u : ℕ). Stands t few (Things t few n cs) (Cell (Obj d)) (few.home u)) same (stands_things t few n gs cs (Obj d) (few.home u) k))))
   held_told n gs cs o c h (inr k) =
-      ⊎_elim (λ x. absurd (things_place t few places n cs k.0 (Raw k.1) x o e)) (λ x. ⊎_elim (λ y. making_told n gs cs o k.1 h (subst (λ w. InMaking gs cs w (Raw k.1)) e y)) (λ y. absurd (subst NoNumber e (behind_number t n cs k.0 (Raw k.1) y))) x) k.2
+      ⊎_elim (λ x. inr (inl (k.1, inr (subst (λ w. Things t few n cs w (Raw k.1)) e x)))) (λ x. ⊎_elim (λ y. making_told n gs cs o k.1 h (subst (λ w. InMaking gs cs w (Raw k.1)) e y)) (λ y. absurd (subst NoNumber e (behind_number t n cs k.0 (Raw k.1) y))) x) k.2
     where
       e : k.0 ≡ Object o
       e = within_object t k.0 (Obj k.1) (Object o) (Obj c) o k.3 refl
@@ -123,13 +123,13 @@ module _ (t : Table) (few : Few) (places : (n : Exec) (w : Value) (b : Ty) → B
   -- what an execution that is made, or a task that begins, has of others
   based_told : (n : Exec) (o c : ℕ) → Held t few (Base few n) (Obj c) (Object o) → IsTold t few n [] o
   based_told n o c (inl (lies {w = w} {a = d} k i)) =
-      absurd (things_place t few places n [] w d k o (within_object t w d (Object o) (Obj c) o i refl))
+      absurd (things_raw t few places n [] w d k o c i)
   based_told n o c (inl (inside {o = u} {c = d} m k i)) =
       let e : Object u ≡ Object o = within_object t (Object u) (Obj d) (Object o) (Obj c) o i refl in
       let same : u ≡ o = cc in
-      inr (inl (d, subst (λ (u : ℕ). Stands t few (Base few n) (Cell (Obj d)) (few.home u)) same k))
+      inr (inl (d, inl (subst (λ (u : ℕ). Stands t few (Base few n) (Cell (Obj d)) (few.home u)) same k)))
   based_told n o c (inr k) =
-      absurd (things_place t few places n [] k.0 (Raw k.1) k.2 o (within_object t k.0 (Obj k.1) (Object o) (Obj c) o k.3 refl))
+      inr (inl (k.1, inr (subst (λ w. Base few n w (Raw k.1)) (within_object t k.0 (Obj k.1) (Object o) (Obj c) o k.3 refl) k.2)))
 
   based_value : (n : Exec) (c : ℕ) (v : Value) → LiesIn t few n (Base few n) (Obj c) v → Told t few n [] v
   based_value n c (piece.Number z) h = tt
@@ -147,7 +147,7 @@ module _ (t : Table) (few : Few) (places : (n : Exec) (w : Value) (b : Ty) → B
       by false e = absurd (subst (λ b. IsObjectBy t b c (Object o)) e h)
 
   -- a whole object that is known
-  whole_told : (n : Exec) (gs : List Sig) (cs : List Active) (c : ℕ) (v : Value) → LetsStack t few n cs → Known t few n (AtHand t few n gs cs) (Obj c) v → Told t few n cs v
+  pub whole_told : (n : Exec) (gs : List Sig) (cs : List Active) (c : ℕ) (v : Value) → LetsStack t few n cs → Known t few n (AtHand t few n gs cs) (Obj c) v → Told t few n cs v
   whole_told n gs cs c (piece.Number z) h k = tt
   whole_told n gs cs c (piece.Place o p) h k = tt
   whole_told n gs cs c (piece.Running x) h k = tt
@@ -164,7 +164,7 @@ module _ (t : Table) (few : Few) (places : (n : Exec) (w : Value) (b : Ty) → B
   pub letting : (x : Routine) → opens_object x.body ≡ true → is_letting (routine_todo x) ≡ true
   letting x e = subst (λ b. (if b then true else is_letting (behind_body x.purpose x.line)) ≡ true) (sym e) refl
 
-module _ (p : Program) (formed : IsFormed p) (accepted : breaks_of p ≡ []) (few : Few) (places : (n : Exec) (w : Value) (b : Ty) → Base few n w b → IsPlace w) where
+module _ (p : Program) (formed : IsFormed p) (accepted : breaks_of p ≡ []) (few : Few) (places : (n : Exec) (w : Value) (b : Ty) → Base few n w b → IsBase w b) where
   abbrev t : Table
   t = table_of p
 
@@ -179,7 +179,7 @@ module _ (p : Program) (formed : IsFormed p) (accepted : breaks_of p ≡ []) (fe
     Hand w a = AtHand (table_of p) few s.env.exec k.sigs (s.run ∷ s.callers) w a
 
     -- the operand below the arguments is known
-    operand : (r : ℕ) (x : Routine) (c : ℕ) (rest : List Ty) → slice_get (source_of p).routines r ≡ Some x → k.run.own ≡ onto ((table_of p).routine r).params (object_ty ((table_of p).routine r).whole c ∷ rest) → Known (table_of p) few s.env.exec Hand (object_ty ((table_of p).routine r).whole c) (top (drop x.params s.run.operands))
+    pub operand : (r : ℕ) (x : Routine) (c : ℕ) (rest : List Ty) → slice_get (source_of p).routines r ≡ Some x → k.run.own ≡ onto ((table_of p).routine r).params (object_ty ((table_of p).routine r).whole c ∷ rest) → Known (table_of p) few s.env.exec Hand (object_ty ((table_of p).routine r).whole c) (top (drop x.params s.run.operands))
     operand r x c rest q e =
         let all : KnownAll (table_of p) few s.env.exec Hand (onto ((table_of p).routine r).params (object_ty ((table_of p).routine r).whole c ∷ rest)) s.run.operands = subst (λ l. KnownAll (table_of p) few s.env.exec Hand l s.run.operands) e k.run.values in
         let dropped : KnownAll (table_of p) few s.env.exec Hand (object_ty ((table_of p).routine r).whole c ∷ rest) (drop (length ((table_of p).routine r).params) s.run.operands) = subst (λ l. KnownAll (table_of p) few s.env.exec Hand l (drop (length ((table_of p).routine r).params) s.run.operands)) (drop_onto ((table_of p).routine r).params (object_ty ((table_of p).routine r).whole c ∷ rest)) (values_drop (table_of p) few s.env.exec Hand (length ((table_of p).routine r).params) (onto ((table_of p).routine r).params (object_ty ((table_of p).routine r).whole c ∷ rest)) s.run.operands all) in

@@ -9,6 +9,9 @@ pub mod Sparing
 pub mod Forgetting
 pub mod Behind
 pub mod Ways
+pub mod TaskMains
+pub mod TaskEnds
+pub mod MadeBehind
 pub mod Telling
 pub mod Numbers
 pub mod Seats
@@ -16,12 +19,14 @@ pub mod SeatHomes
 pub mod Bases
 pub mod OfOthers
 pub mod Lying
-pub mod PlacedHomes
+pub mod Lent
 pub mod Presence
 pub mod OwnScopes
 pub mod PutLeads
 pub mod EnteredAgain
 pub mod HomesAway
+pub mod Visits
+pub mod EnteredAfter
 pub mod PresentRides
 pub mod PresentRuns
 pub mod Meeting
@@ -33,3 +38,10 @@ pub mod Owning
 pub mod Raising
 pub mod LastingPrograms
 pub mod UnderWay
+pub mod SetStates
+pub mod SetRuns
+pub mod Makers
+pub mod FreesRuns
+pub mod Frees
+pub mod BoundFirst
+pub mod SetHere

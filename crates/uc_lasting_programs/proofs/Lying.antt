@@ -1,6 +1,6 @@
 -- What is in scope lies in what is at hand, so a binding that lies there or is told to is known.
-use Rattle.std.proofs.Common.{◌≡◌, ℕ, ◌<◌, inl, inr, Bool, true, false, List, [], ◌∷◌, Option, Some, None, refl, sym, ap, ◌∙◌, subst, ⊎_elim}
-use Rattle.std.specs.Prelude.{◌&&◌, ◌⊎◌, not, nat_eq}
+use Rattle.std.proofs.Common.{◌≡◌, ℕ, ◌<◌, inl, inr, Bool, true, false, List, [], ◌∷◌, Option, Some, None, refl, sym, ◌∙◌, subst, ⊎_elim}
+use Rattle.std.specs.Prelude.{◌&&◌, not, nat_eq}
 use Rattle.std.proofs.lemmas.Bool.{eqb-true}
 use Rattle.uc_machine.specs.declared.exec.Exec.{Exec}
 use Rattle.uc_machine.specs.declared.exec.Owner.TheVariants.{Frame, Fields}
@@ -13,10 +13,10 @@ use Rattle.uc_life_laws.specs.Knowing.{AtHand, Here, KnownThis}
 use Rattle.uc_life_laws.proofs.Knowns.{held_more, older_hand}
 use Rattle.uc_life_laws.proofs.Reading.{exec_is, variable_thing}
 use Rattle.uc_sound.proofs.Lists.{left_is, right_is}
-use Rattle.uc_building_laws.specs.ScopedReads.{cell_of, is_bound, is_type, stack_has}
+use Rattle.uc_building_laws.specs.ScopedReads.{cell_of, is_type, stack_has}
 use Rattle.uc_building_laws.proofs.ScopedReads.{not_is, type_is, field_typed, element_typed, bound_is, in_stack}
-use Rattle.uc_lasting_programs.specs.Lying.{in_scope, object_in_scope, object_path, at_home_in, home_in_this, LiesAtHand, LiesElsewhere, LiesLeft, IsSeen}
-use Rattle.uc_lasting_programs.specs.OfOthers.{IsHad}
+use Rattle.uc_lasting_programs.specs.Lying.{in_scope, object_in_scope, object_path, at_home_in, home_in_this, LiesAtHand, LiesElsewhere, UnlessAnothers, LiesLeft, IsSeen}
+use Rattle.uc_lasting_programs.specs.Lent.{is_anothers}
 use Rattle.uc_lasting_programs.proofs.OfOthers.{HasOthers, lies_of_others}
 
 -- what is told of others is at hand
@@ -155,18 +155,37 @@ module _ (t : Table) (few : Few) (had : HasOthers few) (gs : List Sig) (g : Sig)
         held = λ m. lies_of_others t few had s.env.exec Near told_here (Obj c) v o;
       }) h
 
-  -- a binding that lies so is known
-  pub lying_known : (a : Ty) (v : Value) → IsBinding a → Is t a v × IsFew t few s.env.exec a v → LiesLeft t few gs g s a v → Known t few s.env.exec Near a v
-  lying_known Num v i h l = tt
-  lying_known (Cell Num) v i h l = record { is = h.0; passes = h.1; rooted = λ r. absurd r; held = λ m. absurd m; seated = λ z. absurd z }
-  lying_known (Cell a) v i h l = absurd i
-  lying_known (Obj c) v i h l =
-      let z = elsewhere c v (object_in_scope t few s (t.mutex c) c v) refl (home_in_this t few g s c v) refl l in
-      record { is = h.0; passes = h.1; rooted = z.rooted; held = z.held; seated = λ y. absurd y }
-  lying_known (Raw c) v i h l = absurd i
-  lying_known (Row m a) v i h l = absurd i
-  lying_known Clu v i h l = record { is = h.0; passes = h.1; rooted = λ r. absurd r; held = λ m. absurd m; seated = λ z. absurd z }
-  lying_known Pro v i h l = record { is = h.0; passes = h.1; rooted = λ r. absurd r; held = λ m. absurd m; seated = λ z. absurd z }
+  -- a mutex object that is another's is had, with its home
+  abbrev pub HasItsHome : Value → Type 0
+  HasItsHome v = (q : ℕ) → v ≡ Object q → is_anothers few.home s.env.exec v ≡ true → (c : ℕ) → Base few s.env.exec (few.home q) (Cell (Obj c))
 
-  pub seen_known : (a : Ty) (v : Value) → IsSeen t few gs g s a v → Known t few s.env.exec Near a v
-  seen_known a v h = lying_known a v (bound_is a h.0) h.1 h.2
+  anothers : (c : ℕ) (v : Value) → t.mutex c ≡ true → is_anothers few.home s.env.exec v ≡ true → HasItsHome v → LiesAtHand t few gs g s (Obj c) v
+  anothers c (Object q) m e told =
+      let held : Held t few Near (Obj c) (Object q) = inl (inside m (lies (told_here (few.home q) (Cell (Obj c)) (told q refl e c)) itself) itself) in
+      record { rooted = λ r. held; held = λ x. held }
+  anothers c (Number z) m e told = absurd (cc)
+  anothers c (Place o p) m e told = absurd (cc)
+  anothers c (Running x) m e told = absurd (cc)
+  anothers c Nothing m e told = absurd (cc)
+
+  unless_anothers : (c : ℕ) (v : Value) → HasItsHome v → (b : Bool) → (t.mutex c && is_anothers few.home s.env.exec v) ≡ b → UnlessAnothers t few gs g s b (LiesElsewhere t few gs g s (object_in_scope t few s (t.mutex c) c v) (home_in_this t few g s c v) c v) → LiesAtHand t few gs g s (Obj c) v
+  unless_anothers c v told true e h =
+      anothers c v (left_is (t.mutex c) (is_anothers few.home s.env.exec v) e) (right_is (t.mutex c) (is_anothers few.home s.env.exec v) e) told
+  unless_anothers c v told false e h =
+      elsewhere c v (object_in_scope t few s (t.mutex c) c v) refl (home_in_this t few g s c v) refl h
+
+  -- a binding that lies so is known
+  pub lying_known : (a : Ty) (v : Value) → IsBinding a → Is t a v × IsFew t few s.env.exec a v → HasItsHome v → LiesLeft t few gs g s a v → Known t few s.env.exec Near a v
+  lying_known Num v i h told l = tt
+  lying_known (Cell Num) v i h told l = record { is = h.0; passes = h.1; rooted = λ r. absurd r; held = λ m. absurd m; seated = λ z. absurd z }
+  lying_known (Cell a) v i h told l = absurd i
+  lying_known (Obj c) v i h told l =
+      let z = unless_anothers c v told (t.mutex c && is_anothers few.home s.env.exec v) refl l in
+      record { is = h.0; passes = h.1; rooted = z.rooted; held = z.held; seated = λ y. absurd y }
+  lying_known (Raw c) v i h told l = absurd i
+  lying_known (Row m a) v i h told l = absurd i
+  lying_known Clu v i h told l = record { is = h.0; passes = h.1; rooted = λ r. absurd r; held = λ m. absurd m; seated = λ z. absurd z }
+  lying_known Pro v i h told l = record { is = h.0; passes = h.1; rooted = λ r. absurd r; held = λ m. absurd m; seated = λ z. absurd z }
+
+  pub seen_known : (a : Ty) (v : Value) → HasItsHome v → IsSeen t few gs g s a v → Known t few s.env.exec Near a v
+  seen_known a v told h = lying_known a v (bound_is a h.0) h.1 told h.2

@@ -12,10 +12,9 @@ use Rattle.uc_resolve.specs.Resolve.{source_of}
 use Rattle.uc_name_laws.proofs.Homes.{no_both}
 use Rattle.uc_typing.specs.Typing.{Ty, Num, Cell, Obj, Raw, Row, Clu, Pro, Table}
 use Rattle.uc_typing.specs.States.{Is}
-use Rattle.uc_life_laws.specs.Homes.{home_of}
 use Rattle.uc_life_laws.specs.Things.{Few, Base, itself, lies, LiesIn, Known}
 use Rattle.uc_life_laws.specs.Rooted.{IsPlace}
-use Rattle.uc_lasting_programs.specs.Bases.{is_bare, is_scalar, of_others, unbarred, based}
+use Rattle.uc_lasting_programs.specs.Bases.{is_bare, is_scalar, of_others, open_to, based}
 use Rattle.uc_lasting_programs.specs.OfOthers.{IsHad, IsOfOthers}
 use Rattle.uc_lasting_programs.specs.Seats.{seated}
 use Rattle.uc_lasting_programs.specs.Telling.{main_class, is_main_home, few_of}
@@ -92,7 +91,7 @@ module _ (p : Program) (input : List ℕ) (opts : Options) (j : Journal) (w : Wo
   -- what is told beside seats, and what nothing bars
   beside : (n : Exec) (o : Owner) (l : List Link) (b : Ty) → ((of_others n (Place o l) && is_bare b) || is_scalar b) ≡ true → Base (few_of p input opts j w r (based p input opts r d)) n (Place o l) b
   beside n o l b h =
-      right_true (is_main_home (main_class p) n o l b) (based p input opts r d n (Place o l) b) (right_true (seated p input opts r d n (Place o l) b) _ (right_true (unbarred (λ o. home_of (source_of p) input opts j w r o) (source_of p) input opts r d n (Place o l)) _ h))
+      right_true (is_main_home (main_class p) n o l b) (based p input opts r d n (Place o l) b) (right_true (seated p input opts r d n (Place o l) b) _ (right_true (open_to p input opts r d n (Place o l)) _ h))
 
   of_each : (n : Exec) (v : Value) (b : Ty) → of_others n v ≡ true → is_bare b ≡ true → Base (few_of p input opts j w r (based p input opts r d)) n v b
   of_each n (Number z) b h i = no_both false h refl

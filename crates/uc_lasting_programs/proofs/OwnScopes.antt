@@ -50,7 +50,7 @@ use Rattle.uc_homed_ends.specs.HomesLeft.{KnowsReads}
 use Rattle.uc_homed_ends.proofs.BoundRuns.{run_zip, leads_zip}
 use Rattle.uc_homed_ends.proofs.CellHomes.{finds_here}
 use Rattle.uc_homed_ends.proofs.SitedSources.{law_sited}
-use Rattle.uc_lasting_programs.specs.Remaining.{IsNumberCells}
+use Rattle.uc_lasting_programs.proofs.Resources.{IsNumberCells}
 
 -- what is told where a scope opens
 

@@ -24,14 +24,15 @@ use Rattle.uc_sound.proofs.SoundLemmas.{law_sound}
 use Rattle.uc_life_laws.specs.Things.{Few, Base, Things, itself, Stands, lies, inside, Known}
 use Rattle.uc_life_laws.specs.Silent.{AllSilent}
 use Rattle.uc_life_laws.specs.Knowing.{AtHand, KnownAll, KnowsState, main_of}
-use Rattle.uc_life_laws.specs.Rooted.{IsPlace}
+use Rattle.uc_life_laws.specs.Rooted.{IsBase}
 use Rattle.uc_life_laws.proofs.Knowns.{values_drop, newest}
-use Rattle.uc_life_laws.proofs.Rooted.{within_object, things_place}
+use Rattle.uc_life_laws.proofs.Rooted.{within_object, things_object}
 use Rattle.uc_depth_laws.specs.Entering as entering
 use Rattle.uc_depth_laws.specs.Entering.{Aspect, EnteredStmt, EnteredStmts, EnteredHandlers, EnteredBody}
 use Rattle.uc_depth_laws.specs.Owing.{First, Any, Done, Skipped, CallOf, Bound, Tests, marks, owed_waiting, is_told, Allowed, Entered, Deep, IsInside}
 use Rattle.uc_depth_laws.proofs.Standing.{law_inside}
 use Rattle.uc_depth_laws.proofs.TodoLists as depths
+use Rattle.uc_apart_laws.specs.Clear.{HomeAt}
 use Rattle.uc_making_laws.specs.LettingGo.{of_object, is_letting, IsClosed, AllClosed, FoundClosed, OpensStmt, OpensStmts, LeavesAt, IsTold, Told, LetsState, LettingAt}
 use Rattle.uc_making_laws.proofs.LettingLists.{letting_marks}
 use Rattle.uc_lasting_programs.proofs.LettingStates.{is_mutex, opens, letting}
@@ -71,21 +72,25 @@ module _ (t : Table) (gone : ℕ → Bool) where
   base_hand n (c ∷ cs) o a h = inr (base_hand n cs o a h)
 
   pub told_there : (n : Exec) (cs : List Active) (o : ℕ) → gone o ≡ false → IsTold t (there gone) n cs o
-  told_there n cs o h = inr (inl (0, lies (base_hand n cs o (Cell (Obj 0)) h) itself))
+  told_there n cs o h = inr (inl (0, inl (lies (base_hand n cs o (Cell (Obj 0)) h) itself)))
 
-  pub no_place : (n : Exec) (w : Value) (b : Ty) → Base alone n w b → IsPlace w
+  pub no_place : (n : Exec) (w : Value) (b : Ty) → Base alone n w b → IsBase w b
   no_place n w b h = let e : false ≡ true = h in absurd (cc)
 
   -- that alone has an object at hand
   things_there : (n : Exec) (cs : List Active) (w : Value) (a : Ty) → Things t (there gone) n cs w a → (o : ℕ) → w ≡ Object o → gone o ≡ false
   things_there n [] w a h o e = not_gone gone w o h e
-  things_there n (c ∷ cs) w a (inl m) o e = absurd (things_place t alone no_place n (c ∷ []) w a (inl m) o e)
+  things_there n (c ∷ cs) w a (inl m) o e = let z : false ≡ true = things_object t alone n (c ∷ []) w a (inl m) o e in absurd (cc)
   things_there n (c ∷ cs) w a (inr m) o e = things_there n cs w a m o e
 
   pub stands_there : (n : Exec) (cs : List Active) (b : Ty) (v : Value) → Stands t (there gone) (Things t (there gone) n cs) b v → (o : ℕ) → v ≡ Object o → gone o ≡ false
   stands_there n cs b v (lies {w = w} {a = a} k i) o e = things_there n cs w a k o (within_object t w a v b o i e)
   stands_there n cs b v (inside {o = u} {c = c} m k i) o e =
       stands_there n cs (Cell (Obj c)) (Object u) k o (within_object t (Object u) (Obj c) v b o i e)
+
+  pub home_there : (n : Exec) (cs : List Active) (o c : ℕ) → HomeAt t (there gone) o (Things t (there gone) n cs) c → gone o ≡ false
+  home_there n cs o c (inl k) = stands_there n cs (Cell (Obj c)) (Object o) k o refl
+  home_there n cs o c (inr m) = things_there n cs (Object o) (Raw c) m o refl
 
   -- what activations are to let go of has not gone, where that is so of each
   owed_there : (cs : List Active) → ((n : ℕ) (a : Active) → slice_get cs n ≡ Some a → 0 < marks a.control → gone (object_in a.this) ≡ false) → (o : ℕ) → 0 < owed_waiting o cs → gone o ≡ false
@@ -101,7 +106,7 @@ module _ (t : Table) (gone : ℕ → Bool) where
   module _ (s : State) (lets : LetsState t (there gone) s) (first : gone 0 ≡ false) (marked : (n : ℕ) (a : Active) → slice_get (s.run ∷ s.callers) n ≡ Some a → 0 < marks a.control → gone (object_in a.this) ≡ false) where
     told_present : (o : ℕ) → IsTold t (there gone) s.env.exec s.callers o → gone o ≡ false
     told_present o (inl e) = ap gone e.0 ∙ first
-    told_present o (inr (inl k)) = stands_there s.env.exec s.callers (Cell (Obj k.0)) (Object o) k.1 o refl
+    told_present o (inr (inl k)) = home_there s.env.exec s.callers o k.0 k.1
     told_present o (inr (inr l)) = owed_there s.callers (λ n a e. marked (suc n) a e) o l
 
     pub this_present : (o : ℕ) → s.run.this ≡ Object o → (AllSilent s.run.control → ⊥) → gone o ≡ false

@@ -1,12 +1,13 @@
 -- Along a ride activations go on to be told of objects that have not gone, as the task is as deep in objects as it owes them; as far as each step that enters
 -- an object again to be destroyed finds its own execution clear of that.
-use Rattle.std.proofs.Common.{◌≡◌, ℕ, ◌<◌, ◌⊎◌, inl, inr, suc, ◌||◌, Bool, true, false, List, [], ◌∷◌, Option, Some, None, refl, sym, ap, ◌∙◌, subst, arith}
+use Rattle.std.proofs.Common.{◌≡◌, ℕ, ◌<◌, ◌⊎◌, inl, inr, suc, ◌||◌, Bool, true, false, List, [], ◌∷◌, Option, Some, None, refl, sym, ap, ◌∙◌, subst}
 use Rattle.std.specs.Prelude.{if◌then◌else◌, is_some, nat_eq}
 use Rattle.uc_tree.specs.Programs.{Program}
 use Rattle.uc_entry.specs.Keyed.{find}
 use Rattle.uc_entry.specs.declared.request.Asked.{Asked}
 use Rattle.uc_entry.specs.declared.request.Request.{Request}
-use Rattle.uc_acts.specs.Journal.{Journal}
+use Rattle.uc_entry.specs.declared.request.Request.TheVariants as ask
+use Rattle.uc_acts.specs.Journal.{Journal, own_object}
 use Rattle.uc_acts.specs.Known.{has, is_gone, object_count}
 use Rattle.uc_machine.specs.declared.exec.Exec.{Exec}
 use Rattle.uc_machine.specs.declared.exec.Home.{Home}
@@ -29,12 +30,13 @@ use Rattle.uc_state_laws.specs.RoomRuns.{Leads}
 use Rattle.uc_state_laws.specs.Opens.{RideMeets, LeadsMeet}
 use Rattle.uc_state_laws.specs.Deep as deep
 use Rattle.uc_state_laws.specs.Deep.{deep_in}
+use Rattle.uc_state_laws.specs.Places.{is_at}
 use Rattle.uc_state_laws.proofs.HandWalk.{walk}
 use Rattle.uc_step_laws.specs.Hands.{keys}
 use Rattle.uc_step_laws.specs.Holding.{StepHolding}
 use Rattle.uc_typing.specs.Typing.{Ty, Obj}
 use Rattle.uc_depth_laws.specs.Entering.{Aspect, Other, EnteredSource}
-use Rattle.uc_depth_laws.specs.Owing.{Tests, marks, AloneAt, Alone, Deep, DeepStep, IsInside}
+use Rattle.uc_depth_laws.specs.Owing.{Tests, AloneAt, Alone, Deep, DeepStep, IsInside}
 use Rattle.uc_depth_laws.proofs.Answers.{law_steps}
 use Rattle.uc_depth_laws.proofs.Standing.{law_inside}
 use Rattle.uc_inner_laws.specs.Inner.{InnerSource}
@@ -46,7 +48,7 @@ use Rattle.uc_life_laws.specs.Things.{Few, Base}
 use Rattle.uc_life_laws.specs.Silent.{AllSilent}
 use Rattle.uc_life_laws.specs.Knowing.{KnowsState, main_of}
 use Rattle.uc_life_laws.specs.Lasting.{lasting}
-use Rattle.uc_life_laws.specs.Rooted.{IsPlace}
+use Rattle.uc_life_laws.specs.Rooted.{IsBase}
 use Rattle.uc_life_laws.proofs.Aparts.{law_apart}
 use Rattle.uc_life_laws.proofs.Endings as endings
 use Rattle.uc_life_laws.proofs.OwnRides.{Settled}
@@ -55,14 +57,13 @@ use Rattle.uc_apart_laws.proofs.Clear.{law_clear}
 use Rattle.uc_making_laws.specs.LettingGo.{LetsState, LetsAsked, LetsStep}
 use Rattle.uc_making_laws.proofs.LettingWalk.{law_letting}
 use Rattle.uc_making_laws.proofs.Upheld.{settled_next}
+use Rattle.uc_lasting_programs.proofs.Bases.{SeatsAlone}
 use Rattle.uc_lasting_programs.proofs.Presence.{there, this_present, tells}
+use Rattle.uc_lasting_programs.proofs.Visits.{Visits}
 
--- the object of an activation that does more than to come to its end is not gone behind this journal; and where its task is spawned it is at home at a place,
--- as is what is in hand
-pub record IsPresent (homes : ℕ → Value) (j : Journal) (s : State) : Type 0 where
-  pub not_gone : (o : ℕ) → s.run.this ≡ Object o → (AllSilent s.run.control → ⊥) → is_gone o j ≡ false
-  pub placed : (r : ℕ) (todo : List Todo) → s.run.control ≡ piece.SpawnNow r ∷ todo → IsPlace (homes (this_object s))
-  pub in_hand : (o : ℕ) (m : Members) → find o s.env.hand ≡ Some m → IsPlace (homes o)
+-- the object of an activation that does more than to come to its end is not gone behind this journal
+abbrev pub IsPresent : Journal → State → Type 0
+IsPresent j s = (o : ℕ) → s.run.this ≡ Object o → (AllSilent s.run.control → ⊥) → is_gone o j ≡ false
 
 -- what is entered again to be destroyed is not at hand of who enters it
 abbrev pub EntersClear : (p : Program) → Few → State → Type 0
@@ -78,8 +79,8 @@ pub record Stood (p : Program) (j : Journal) (own : ℕ) (news : Tests) (ks hs :
   pub keys : deep_in s ≡ ks
   pub settled : Settled hs s
 
--- as a ride begins; these objects are made and not gone, nor is object 0, and what was made is at home at places
-pub record Began (p : Program) (few : Few) (j : Journal) (start : State) : Type 0 where
+-- as a ride begins; these objects are made and not gone, nor is object 0
+pub record Began (p : Program) (few : Few) (j : Journal) (task : ℕ) (start : State) : Type 0 where
   pub own : ℕ
   pub news : Tests
   pub mine : (h : Home) (k : Aspect) → news h k own ≡ false
@@ -89,8 +90,11 @@ pub record Began (p : Program) (few : Few) (j : Journal) (start : State) : Type 
   pub hs : List ℕ
   pub made : (o : ℕ) → has hs o ≡ true → (o < object_count j) × (is_gone o j ≡ false)
   pub held : (o : ℕ) → has ks o ≡ true → (o < object_count j) × (is_gone o j ≡ false)
-  pub homed : (o : ℕ) → o < object_count j → IsPlace (few.home o)
   pub first : is_gone 0 j ≡ false
+  -- the task is at these; and so much is known of where tasks are, where nothing is told of others but seats
+  pub own_is : own ≡ own_object task j
+  pub here : (o : ℕ) → has hs o ≡ true → is_at task o j ≡ true
+  pub visits : SeatsAlone few → Visits few j
   pub stood : Stood p j own news ks hs start
 
 -- what is found in a hand is among its keys
@@ -111,7 +115,7 @@ asks_one : (b : Bool) (q r : Request) (x y : State) → ((a : Request) (u : Stat
 asks_one true q r x y f = f q x refl
 asks_one false q r x y f = f r y refl
 
-module _ (p : Program) (formed : IsFormed p) (ok : breaks_of p ≡ []) (few : Few) (places : (n : Exec) (w : Value) (b : Ty) → Base few n w b → IsPlace w) (j : Journal) where
+module _ (p : Program) (formed : IsFormed p) (ok : breaks_of p ≡ []) (few : Few) (places : (n : Exec) (w : Value) (b : Ty) → Base few n w b → IsBase w b) (j : Journal) where
   entered : EnteredSource (source_of p)
   entered = law_entered p formed ok
 
@@ -126,8 +130,8 @@ module _ (p : Program) (formed : IsFormed p) (ok : breaks_of p ≡ []) (few : Fe
       by false g = refl
 
   -- at a step that does not ask
-  alone : (news : Tests) (s : State) → KnowsState (table_of p) few [] s → EntersClear p few s → Deep (source_of p) news s → ((r : Request) (u : State) → quiet (source_of p) s ≡ Asks r u → ⊥) → Alone (source_of p) s
-  alone news s k clear d off = subst (λ l. AloneAt (source_of p) l s) refl (at s.run.control refl)
+  alone : (news : Tests) (s : State) → ((k : Aspect) → news s.env.exec.home k s.env.own ≡ false) → KnowsState (table_of p) few [] s → EntersClear p few s → Deep (source_of p) news s → ((r : Request) (u : State) → quiet (source_of p) s ≡ Asks r u → ⊥) → Alone (source_of p) s
+  alone news s mine k clear d off = subst (λ l. AloneAt (source_of p) l s) refl (at s.run.control refl)
     where
       acts : (l : List Todo) → s.run.control ≡ l → (r : Request) (u : State) → act_todo (source_of p) l s ≡ Asks r u → ⊥
       acts l e r u q = off r u (ap (λ l. act_todo (source_of p) l s) e ∙ q)
@@ -135,7 +139,7 @@ module _ (p : Program) (formed : IsFormed p) (ok : breaks_of p ≡ []) (few : Fe
       at : (l : List Todo) → s.run.control ≡ l → AloneAt (source_of p) l s
       at (piece.EnterNow m r ∷ todo) e =
           let c : IsClearAt (table_of p) few (source_of p) s k s.run.control = subst (λ l. IsClearAt (table_of p) few (source_of p) s k l) (sym e) (clear k m r todo e) in
-          subst (λ l. AloneAt (source_of p) l s) e (law_apart (table_of p) few (source_of p) news s k d (law_clear.step (table_of p) few places (source_of p) s k c))
+          subst (λ l. AloneAt (source_of p) l s) e (law_apart (table_of p) few (source_of p) news s mine k d (law_clear.step (table_of p) few places (source_of p) s k c))
       at (piece.MadeNow ∷ todo) e = absurd (asks_one (is_held_up (this_object s) s.env) _ _ _ _ (acts (piece.MadeNow ∷ todo) e))
       at (piece.SpawnNow r ∷ todo) e = absurd (asks_one (is_held_up (this_object s) s.env) _ _ _ _ (acts (piece.SpawnNow r ∷ todo) e))
       at (piece.GoneNow ∷ todo) e = absurd (acts (piece.GoneNow ∷ todo) e _ _ refl)
@@ -143,42 +147,43 @@ module _ (p : Program) (formed : IsFormed p) (ok : breaks_of p ≡ []) (few : Fe
       at [] e = tt
       at (x ∷ todo) e = tt
 
-  module _ (start : State) (b : Began p few j start) where
+  module _ (task : ℕ) (start : State) (b : Began p few j task start) where
     abbrev Here : State → Type 0
     Here s = Stood p j b.own b.news b.ks b.hs s
 
     made : (s : State) → Here s → (o : ℕ) → IsInside o s.env → (o < object_count j) × (is_gone o j ≡ false)
     made s h o i = b.held o (ap (λ l. has l o) (sym h.keys) ∙ found_some o (suc i.0) s.env.depths i.1)
 
-    inside : (s : State) → Here s → (o : ℕ) → IsInside o s.env → is_gone o j ≡ false
+    pub inside : (s : State) → Here s → (o : ℕ) → IsInside o s.env → is_gone o j ≡ false
     inside s h o i = (made s h o i).1
 
-    present_at : (s : State) → Here s → IsPresent few.home j s
-    present_at s h = record {
-      not_gone = this_present (table_of p) (λ o. is_gone o j) s h.lets b.first (λ n a e l. inside s h _ (law_inside.marked (source_of p) b.news s h.deep n a e l));
-      placed = λ r todo e.
-          let one : 0 < marks s.run.control = subst (λ l. 0 < marks l) (sym e) (omega (arith)) in
-          b.homed (this_object s) (made s h (this_object s) (law_inside.marked (source_of p) b.news s h.deep 0 s.run refl one)).0;
-      in_hand = λ o m e.
-          b.homed o (b.made o (ap (λ l. has l o) (sym (settled_keys b.hs s h.settled)) ∙ hand_some o m s.env.hand e)).0;
-    }
+    present_at : (s : State) → Here s → IsPresent j s
+    present_at s h =
+        this_present (table_of p) (λ o. is_gone o j) s h.lets b.first (λ n a e l. inside s h _ (law_inside.marked (source_of p) b.news s h.deep n a e l))
 
     -- so is the own object
     pub own_made : (s : State) → Here s → (s.env.own < object_count j) × (is_gone s.env.own j ≡ false)
     own_made s h = made s h s.env.own (law_inside.own (source_of p) b.news s h.deep)
 
-    -- so is that at which who runs is at home, and that of which it is the main
-    pub made_home : (s : State) → Here s → (o : ℕ) → (s.env.exec.home ≡ home.Object o) ⊎ (s.env.exec ≡ main_of o) → (o < object_count j) × (is_gone o j ≡ false)
-    made_home s h o (inl e) = by (find o s.env.hand) refl (subst (IsHere s.env.own s.env.hand) e h.stands.here)
+    -- that at which who runs is at home is in hand
+    pub held_home : (s : State) → Here s → (o : ℕ) → s.env.exec.home ≡ home.Object o → has b.hs o ≡ true
+    held_home s h o e = by (find o s.env.hand) refl (subst (IsHere s.env.own s.env.hand) e h.stands.here)
       where
-        by : (x : Option Members) → find o s.env.hand ≡ x → is_some x ≡ true → (o < object_count j) × (is_gone o j ≡ false)
+        by : (x : Option Members) → find o s.env.hand ≡ x → is_some x ≡ true → has b.hs o ≡ true
         by None f i = let z : false ≡ true = i in absurd (cc)
-        by (Some m) f i = b.made o (ap (λ l. has l o) (sym (settled_keys b.hs s h.settled)) ∙ hand_some o m s.env.hand f)
-    made_home s h o (inr e) =
-        let here : o ≡ s.env.own = subst (IsHere s.env.own s.env.hand) (ap (λ (n : Exec). n.home) e) h.stands.here in
-        subst (λ (i : ℕ). (i < object_count j) × (is_gone i j ≡ false)) (sym here) (own_made s h)
+        by (Some m) f i = ap (λ l. has l o) (sym (settled_keys b.hs s h.settled)) ∙ hand_some o m s.env.hand f
 
-    lets_on : (s : State) → KnowsState (table_of p) (lasting few j) [] s → Here s → LetsStep (table_of p) (there (λ o. is_gone o j)) (quiet (source_of p) s)
+    -- so is that of which it is the main
+    pub main_home : (s : State) → Here s → (o : ℕ) → s.env.exec ≡ main_of o → o ≡ s.env.own
+    main_home s h o e = subst (IsHere s.env.own s.env.hand) (ap (λ (n : Exec). n.home) e) h.stands.here
+
+    -- both were made, and are not gone
+    pub made_home : (s : State) → Here s → (o : ℕ) → (s.env.exec.home ≡ home.Object o) ⊎ (s.env.exec ≡ main_of o) → (o < object_count j) × (is_gone o j ≡ false)
+    made_home s h o (inl e) = b.made o (held_home s h o e)
+    made_home s h o (inr e) =
+        subst (λ (i : ℕ). (i < object_count j) × (is_gone i j ≡ false)) (sym (main_home s h o e)) (own_made s h)
+
+    pub lets_on : (s : State) → KnowsState (table_of p) (lasting few j) [] s → Here s → LetsStep (table_of p) (there (λ o. is_gone o j)) (quiet (source_of p) s)
     lets_on s k h =
         law_letting.steps (table_of p) (there (λ o. is_gone o j)) (source_of p) s h.lets (tells p formed ok (lasting few j) (λ o. is_gone o j) passes s k b.news h.deep h.lets b.first (inside s h))
 
@@ -186,12 +191,12 @@ module _ (p : Program) (formed : IsFormed p) (ok : breaks_of p ≡ []) (few : Fe
     deeper s a h =
         law_steps.steps (source_of p) entered b.news s (tells_others (part_of p) (source_of p) entered inner law_steps b.own b.news b.mine b.other b.away s h.stands) h.deep (law_fair (part_of p) (source_of p) b.own s h.stands (sole (part_of p) (source_of p) entered inner law_steps b.own b.news b.mine b.other b.away s a h.deep h.stands))
 
-    stand : (s : State) → Here s → StandsStep (part_of p) (source_of p) b.own s (quiet (source_of p) s)
+    pub stand : (s : State) → Here s → StandsStep (part_of p) (source_of p) b.own s (quiet (source_of p) s)
     stand s h = inner_steps.steps (part_of p) (source_of p) inner b.own s h.stands
 
     goes : (s u : State) → KnowsState (table_of p) (lasting few j) [] s → KnowsState (table_of p) few [] s → EntersClear p few s → Here s → quiet (source_of p) s ≡ Goes u → Here u
     goes s u k l c h e =
-        let a = alone b.news s l c h.deep (λ r x q. let z : Goes u ≡ Asks r x = sym e ∙ q in cc) in
+        let a = alone b.news s (λ k. ap (b.news s.env.exec.home k) h.stands.own ∙ b.mine s.env.exec.home k) l c h.deep (λ r x q. let z : Goes u ≡ Asks r x = sym e ∙ q in cc) in
         record {
           deep = subst (DeepStep (source_of p) b.news s) e (deeper s a h);
           stands = subst (StandsStep (part_of p) (source_of p) b.own s) e (stand s h);
@@ -202,7 +207,7 @@ module _ (p : Program) (formed : IsFormed p) (ok : breaks_of p ≡ []) (few : Fe
 
     ticked : (s u : State) → KnowsState (table_of p) (lasting few j) [] s → KnowsState (table_of p) few [] s → EntersClear p few s → Here s → quiet (source_of p) s ≡ Ticks u → Here u
     ticked s u k l c h e =
-        let a = alone b.news s l c h.deep (λ r x q. let z : Ticks u ≡ Asks r x = sym e ∙ q in cc) in
+        let a = alone b.news s (λ k. ap (b.news s.env.exec.home k) h.stands.own ∙ b.mine s.env.exec.home k) l c h.deep (λ r x q. let z : Ticks u ≡ Asks r x = sym e ∙ q in cc) in
         record {
           deep = subst (DeepStep (source_of p) b.news s) e (deeper s a h);
           stands = subst (StandsStep (part_of p) (source_of p) b.own s) e (stand s h);
@@ -216,7 +221,7 @@ module _ (p : Program) (formed : IsFormed p) (ok : breaks_of p ≡ []) (few : Fe
       -- a step finds that where the object at hand is present, and where else what follows from all that was found holds; and from this it follows that what
       -- is entered again is not at hand
       abbrev pub Once : State → Type 0
-      Once s = Cond s × (IsPresent few.home j s → Also s → G s)
+      Once s = Cond s × (IsPresent j s → Also s → G s)
 
       pub led : {s u : State} (m : Leads (source_of p) start s) → LeadsMeet G (source_of p) start s m → Here s → (l : Leads (source_of p) s u) → LeadsMeet Once (source_of p) s u l → LeadsMeet G (source_of p) s u l
       led m g h way.stays f = tt
@@ -228,6 +233,16 @@ module _ (p : Program) (formed : IsFormed p) (ok : breaks_of p ≡ []) (few : Fe
           let here : G s = f.0.1 (present_at s h) (also s m g) in
           let k = known s m g in
           (here, led (endings.ticks_on G (source_of p) m e) (endings.ticks_met G (source_of p) m e g here) (ticked s v k.0 k.1 (clear s m g h f.0.0) h e) l f.1)
+
+      -- so it stood on the way
+      pub stood_on : ((s : State) → G s → Cond s) → {s u : State} (m : Leads (source_of p) start s) → LeadsMeet G (source_of p) start s m → Here s → (l : Leads (source_of p) s u) → LeadsMeet G (source_of p) s u l → LeadsMeet Here (source_of p) s u l
+      stood_on c m g h way.stays f = tt
+      stood_on c {s} m g h (way.goes {u = v} e l) f =
+          let k = known s m g in
+          (h, stood_on c (endings.goes_on G (source_of p) m e) (endings.goes_met G (source_of p) m e g f.0) (goes s v k.0 k.1 (clear s m g h (c s f.0)) h e) l f.1)
+      stood_on c {s} m g h (way.ticks {u = v} e l) f =
+          let k = known s m g in
+          (h, stood_on c (endings.ticks_on G (source_of p) m e) (endings.ticks_met G (source_of p) m e g f.0) (ticked s v k.0 k.1 (clear s m g h (c s f.0)) h e) l f.1)
 
       pub rode : {s u : State} {q k : ℕ} {a : Asked} (m : Leads (source_of p) start s) → LeadsMeet G (source_of p) start s m → Here s → (r : Rides (source_of p) s q u k a) → RideMeets Once (source_of p) s q u k a r → RideMeets G (source_of p) s q u k a r
       rode m g h slices f = tt
@@ -255,14 +270,24 @@ module _ (p : Program) (formed : IsFormed p) (ok : breaks_of p ≡ []) (few : Fe
           (c, cleared (endings.ticks_on G (source_of p) m e) (endings.ticks_met G (source_of p) m e g here) (ticked s v k.0 k.1 c h e) r f.1)
       cleared m g h (asks {s} e) f = clear s m g h f.0
 
-      -- and at its end
-      pub ended : {s u : State} {q k : ℕ} {a : Asked} (m : Leads (source_of p) start s) → LeadsMeet G (source_of p) start s m → Here s → (r : Rides (source_of p) s q u k a) → RideMeets (EntersClear p few) (source_of p) s q u k a r → RideMeets G (source_of p) s q u k a r → LetsState (table_of p) (there (λ o. is_gone o j)) u × LetsAsked (table_of p) (there (λ o. is_gone o j)) a.request u
-      ended m g h slices c f = (h.lets, tt)
+      -- the state in which this is asked at its end
+      pub record AsksAt (a : Request) (u : State) : Type 0 where
+        pub state : State
+        pub leads : Leads (source_of p) start state
+        pub meets : LeadsMeet G (source_of p) start state leads
+        pub now : Here state
+        pub asks : quiet (source_of p) state ≡ Asks a u
+
+      pub ended : {s u : State} {q k : ℕ} {a : Asked} (m : Leads (source_of p) start s) → LeadsMeet G (source_of p) start s m → Here s → (r : Rides (source_of p) s q u k a) → RideMeets (EntersClear p few) (source_of p) s q u k a r → RideMeets G (source_of p) s q u k a r → (Here u × (a.request ≡ ask.Slice)) ⊎ AsksAt a.request u
+      ended m g h slices c f = inl (h, refl)
       ended m g h (goes_on {s} {t = v} e r) c f =
           let k = known s m g in
           ended (endings.goes_on G (source_of p) m e) (endings.goes_met G (source_of p) m e g f.0) (goes s v k.0 k.1 c.0 h e) r c.1 f.1
       ended m g h (ticks {s} {t = v} e r) c f =
           let k = known s m g in
           ended (endings.ticks_on G (source_of p) m e) (endings.ticks_met G (source_of p) m e g f.0) (ticked s v k.0 k.1 c.0 h e) r c.1 f.1
-      ended m g h (asks {s} e) c f =
-          subst (LetsStep (table_of p) (there (λ o. is_gone o j))) e (lets_on s (known s m g).0 h)
+      ended m g h (asks {s} e) c f = inr (record { state = s; leads = m; meets = g; now = h; asks = e })
+
+      -- what is asked then is told of what has not gone
+      pub asked_lets : (a : Request) (u : State) → AsksAt a u → LetsState (table_of p) (there (λ o. is_gone o j)) u × LetsAsked (table_of p) (there (λ o. is_gone o j)) a u
+      asked_lets a u x = subst (LetsStep (table_of p) (there (λ o. is_gone o j))) x.asks (lets_on x.state (known x.state x.leads x.meets).0 x.now)

@@ -17,6 +17,7 @@ use Rattle.uc_acts.specs.Known.{has, object_count, has_ended, is_gone, is_gone_b
 use Rattle.uc_acts.specs.KernelRuns.{InRange}
 use Rattle.uc_acts.proofs.Acting.{object_of, destroys, AllBy, by_row}
 use Rattle.uc_acts.proofs.Counted.{gone_push, counted_run, law_made}
+use Rattle.uc_acts.proofs.Held.{law_held}
 use Rattle.uc_acts.proofs.Living.{going_row, gone_still, nothing_gone}
 use Rattle.uc_machine.specs.declared.exec.Exec.{Exec}
 use Rattle.uc_machine.specs.declared.exec.Home.TheVariants as home
@@ -39,7 +40,8 @@ use Rattle.uc_state_laws.specs.Deep.{deep_in}
 use Rattle.uc_state_laws.proofs.Alive.{law_alive}
 use Rattle.uc_state_laws.proofs.Others.{run_rests, asking as asks_with}
 use Rattle.uc_state_laws.proofs.DeepWorlds.{ended_before, deep_in_hand, deep_run}
-use Rattle.uc_typing.specs.Typing.{Cell, Obj, Table}
+use Rattle.uc_state_laws.proofs.Rows.{there_inside}
+use Rattle.uc_typing.specs.Typing.{Table}
 use Rattle.uc_depth_laws.specs.Entering.{EnteredSource}
 use Rattle.uc_depth_laws.proofs.Answers.{law_steps}
 use Rattle.uc_depth_laws.proofs.Standing.{law_free, law_drawn}
@@ -50,7 +52,6 @@ use Rattle.uc_letting_laws.proofs.StandingWorlds.{standing_start}
 use Rattle.uc_letting_laws.proofs.LettingWorlds.{both_run, start}
 use Rattle.uc_life_laws.specs.Things.{Few}
 use Rattle.uc_life_laws.specs.LifeStates.{EnvBy, MembersBy}
-use Rattle.uc_life_laws.specs.Rooted.{IsPlace}
 use Rattle.uc_life_laws.specs.Silent.{AllSilent}
 use Rattle.uc_life_laws.specs.Knowing.{main_of}
 use Rattle.uc_life_laws.proofs.Cells.{either, tested}
@@ -67,8 +68,10 @@ use Rattle.uc_making_laws.specs.Nobodys.{NoneBy, NoneEx, IsNobodys}
 use Rattle.uc_making_laws.proofs.LettingRuns.{hand_rests, or_rests, bare_rests}
 use Rattle.uc_making_laws.proofs.LettingWalk.{law_letting}
 use Rattle.uc_making_laws.proofs.Upheld.{ride_keys}
-use Rattle.uc_lasting_programs.proofs.Presence.{there, told_there, stands_there}
+use Rattle.uc_lasting_programs.proofs.Presence.{there, told_there, home_there}
+use Rattle.uc_lasting_programs.proofs.Bases.{SeatsAlone}
 use Rattle.uc_lasting_programs.proofs.PresentRides.{Began}
+use Rattle.uc_lasting_programs.proofs.Visits.{Visits}
 
 -- what an act leaves there
 
@@ -107,8 +110,8 @@ module _ (source : Source) (input : List ℕ) (opts : Options) (j : Journal) (p 
           let none : destroys asked.request ≡ false = ap destroys f ∙ d in
           ap (λ l. is_gone v (j ++ l)) one ∙ (none_goes n (object_of n j asked.request) (Unit {0}) v j p (row opts source.sites input j p n (cost k asked.line) asked.line asked.request) (subst (λ g. AllBy p n (object_of n j asked.request) (Unit {0}) g (row opts source.sites input j p n (cost k asked.line) asked.line asked.request)) none (by_row opts source.sites input j p n (cost k asked.line) asked.line (Unit {0}) asked.request (λ x. tt))) ∙ h)
 
-  stays : (v : ℕ) → (asked.request ≡ ask.Gone v → ⊥) → is_gone v j ≡ false → is_gone v (j ++ act opts source.sites input j p n k asked) ≡ false
-  stays v away h = stays_by asked.request refl v away h
+  pub gone_stays : (v : ℕ) → (asked.request ≡ ask.Gone v → ⊥) → is_gone v j ≡ false → is_gone v (j ++ act opts source.sites input j p n k asked) ≡ false
+  gone_stays v away h = stays_by asked.request refl v away h
 
 -- told of fewer objects, where none of these is had
 module _ (t : Table) (g h : ℕ → Bool) (Out : ℕ → Type 0) (stay : (v : ℕ) → (Out v → ⊥) → g v ≡ false → h v ≡ false) where
@@ -121,7 +124,7 @@ module _ (t : Table) (g h : ℕ → Bool) (Out : ℕ → Type 0) (stay : (v : �
 
   told_by : (n : Exec) (cs : List Active) (o : ℕ) → (Out o → ⊥) → IsTold t (there g) n cs o → IsTold t (there h) n cs o
   told_by n cs o i (inl e) = inl e
-  told_by n cs o i (inr (inl k)) = told_there t h n cs o (stay o i (stands_there t g n cs (Cell (Obj k.0)) (Object o) k.1 o refl))
+  told_by n cs o i (inr (inl k)) = told_there t h n cs o (stay o i (home_there t g n cs o k.0 k.1))
   told_by n cs o i (inr (inr l)) = inr (inr l)
 
   told : (n : Exec) (cs : List Active) (v : Value) → IsIn v → Told t (there g) n cs v → Told t (there h) n cs v
@@ -276,7 +279,7 @@ module _ (t : Table) (source : Source) (input : List ℕ) (opts : Options) where
 
     acted_by : (q : Request) → asked.request ≡ q → GoesBy IsNobodys j a behind n q → PresentWorld t (j ++ a) behind
     acted_by (ask.Gone o) e b =
-        let stay : (v : ℕ) → (v ≡ o → ⊥) → is_gone v j ≡ false → is_gone v (j ++ a) ≡ false = λ v away h. stays source input opts j p n k asked on v (λ i. let z : ask.Gone v ≡ ask.Gone o = sym i ∙ e in away (cc)) h in
+        let stay : (v : ℕ) → (v ≡ o → ⊥) → is_gone v j ≡ false → is_gone v (j ++ a) ≡ false = λ v away h. gone_stays source input opts j p n k asked on v (λ i. let z : ask.Gone v ≡ ask.Gone o = sym i ∙ e in away (cc)) h in
         record {
           first = stay 0 (λ i. b.number (sym i)) x.first;
           told = forgotten t (λ v. is_gone v j) (λ v. is_gone v (j ++ a)) (λ u. has_ended u (j ++ a) ≡ false) behind acted o stay b.waiting b.running b.tasks b.homes;
@@ -285,7 +288,7 @@ module _ (t : Table) (source : Source) (input : List ℕ) (opts : Options) where
       where
         plain : (r : Request) → destroys r ≡ false → asked.request ≡ r → PresentWorld t (j ++ a) behind
         plain r none g =
-            let stay : (v : ℕ) → is_gone v j ≡ false → is_gone v (j ++ a) ≡ false = λ v h. stays source input opts j p n k asked on v (λ i. let z : true ≡ false = sym (ap destroys i) ∙ (ap destroys g ∙ none) in cc) h in
+            let stay : (v : ℕ) → is_gone v j ≡ false → is_gone v (j ++ a) ≡ false = λ v h. gone_stays source input opts j p n k asked on v (λ i. let z : true ≡ false = sym (ap destroys i) ∙ (ap destroys g ∙ none) in cc) h in
             record {
               first = stay 0 x.first;
               told = turned t (λ v. is_gone v j) (λ v. is_gone v (j ++ a)) (λ u. has_ended u (j ++ a) ≡ false) behind acted stay;
@@ -296,7 +299,7 @@ module _ (t : Table) (source : Source) (input : List ℕ) (opts : Options) where
 
 -- a ride begins so
 
-module _ (p : Program) (formed : IsFormed p) (ok : breaks_of p ≡ []) (input : List ℕ) (opts : Options) (range : InRange opts) (j : Journal) (w : World) (r : Runs (source_of p) input opts j w) (f : RunFits (source_of p) input opts j w r) (on : is_over j ≡ false) (alone : RunAlone (source_of p) input opts j w r) (x : PresentWorld (table_of p) j w) (few : Few) (homed : (o : ℕ) → o < object_count j → IsPlace (few.home o)) where
+module _ (p : Program) (formed : IsFormed p) (ok : breaks_of p ≡ []) (input : List ℕ) (opts : Options) (range : InRange opts) (j : Journal) (w : World) (r : Runs (source_of p) input opts j w) (f : RunFits (source_of p) input opts j w r) (on : is_over j ≡ false) (alone : RunAlone (source_of p) input opts j w r) (few : Few) (x : PresentWorld (table_of p) j w × (SeatsAlone few → Visits few j)) where
   abbrev source : Source
   source = source_of p
 
@@ -306,16 +309,18 @@ module _ (p : Program) (formed : IsFormed p) (ok : breaks_of p ≡ []) (input : 
   inner : InnerSource (part_of p) (source_of p)
   inner = (law_inner p formed ok).source
 
-  pub began : (q u k : ℕ) (s : State) (asked : Asked) (d : AsksIn (source_of p) opts j w q u k s asked) → Began p few j (answered (source_of p) d.given (drawn j w u))
+  pub began : (q u k : ℕ) (s : State) (asked : Asked) (d : AsksIn (source_of p) opts j w q u k s asked) → Began p few j u (answered (source_of p) d.given (drawn j w u))
   began q u k s asked d =
       let rests = run_rests (source_of p) input opts range r f on in
       let deeps = deep_run (source_of p) input opts range r f on in
       let y = both_run (part_of p) (source_of p) entered inner law_steps law_free law_drawn input opts range r f alone on in
       let e = own_start (source_of p) input opts range rests on u d.given d.told in
+      let there_is : (o : ℕ) → has (deep_in (answered (source_of p) d.given (drawn j w u))) o ≡ true → has (held u j) o ≡ true = λ o h.
+      ap (λ l. has l o) (sym (asks_with (source_of p) input opts range rests on q u k s asked d).hand) ∙ (sym (deep_in_hand (source_of p) input opts range rests on deeps q u k s asked d o) ∙ h) in
       let made : (o : ℕ) → has (deep_in (answered (source_of p) d.given (drawn j w u))) o ≡ true → (o < object_count j) × (is_gone o j ≡ false) = λ o h.
-      let hand = (asks_with (source_of p) input opts range rests on q u k s asked d).hand in
-      let there_is : has (held u j) o ≡ true = ap (λ l. has l o) (sym hand) ∙ (sym (deep_in_hand (source_of p) input opts range rests on deeps q u k s asked d o) ∙ h) in
-      (counted_run opts (source_of p).sites input rests.kernel).of_made o (law_made opts (source_of p).sites input j rests.kernel on u o there_is) in
+      (counted_run opts (source_of p).sites input rests.kernel).of_made o (law_made opts (source_of p).sites input j rests.kernel on u o (there_is o h)) in
+      let in_hand : (o : ℕ) → has e.hand o ≡ true → has (deep_in (answered (source_of p) d.given (drawn j w u))) o ≡ true = λ o h.
+      deep_in_hand (source_of p) input opts range rests on deeps q u k s asked d o ∙ (ap (λ l. has l o) (ride_keys (source_of p) e.hand d.rides e.settled) ∙ h) in
       record {
         own = own_object u j;
         news = told_for u j;
@@ -324,11 +329,12 @@ module _ (p : Program) (formed : IsFormed p) (ok : breaks_of p ≡ []) (input : 
         away = told_away u j;
         ks = deep_in (answered (source_of p) d.given (drawn j w u));
         hs = e.hand;
-        made = λ o h.
-            made o (deep_in_hand (source_of p) input opts range rests on deeps q u k s asked d o ∙ (ap (λ l. has l o) (ride_keys (source_of p) e.hand d.rides e.settled) ∙ h));
+        made = λ o h. made o (in_hand o h);
         held = made;
-        homed = homed;
-        first = x.first;
+        first = x.0.first;
+        own_is = refl;
+        here = λ o h. there_inside u o j (sym ((law_held j).inside u o) ∙ there_is o (in_hand o h));
+        visits = x.1;
         stood = record {
           deep = start (part_of p) (source_of p) entered inner law_steps law_free law_drawn input opts range rests on deeps y.owing y.standing q u k s asked d;
           stands = standing_start (part_of p) (source_of p) inner entered.ends input opts range rests on deeps y.standing q u k s asked d;
@@ -340,5 +346,5 @@ module _ (p : Program) (formed : IsFormed p) (ok : breaks_of p ≡ []) (input : 
     where
       told_drawn : has_ended u j ≡ false → LetsState (table_of p) (there (λ o. is_gone o j)) (drawn j w u)
       told_drawn going =
-          let l = x.told.tasks u going in
-          record { stack = l.stack; env = record { house = l.env.house; hand = hand_rests (table_of p) (there (λ o. is_gone o j)) (held u j) w.homes x.told.homes } }
+          let l = x.0.told.tasks u going in
+          record { stack = l.stack; env = record { house = l.env.house; hand = hand_rests (table_of p) (there (λ o. is_gone o j)) (held u j) w.homes x.0.told.homes } }

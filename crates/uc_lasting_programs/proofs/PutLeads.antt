@@ -33,12 +33,14 @@ use Rattle.uc_life_laws.specs.Things.{Few, Base}
 use Rattle.uc_life_laws.specs.HomedStates.{Opens}
 use Rattle.uc_life_laws.specs.KnownAnswers.{MainPasses}
 use Rattle.uc_life_laws.specs.KnownRuns.{PassesBelow, Meets}
-use Rattle.uc_life_laws.specs.Rooted.{IsPlace}
+use Rattle.uc_life_laws.specs.Marks.{LoneState}
+use Rattle.uc_life_laws.specs.Rooted.{IsBase}
 use Rattle.uc_life_laws.proofs.Endings as endings
 use Rattle.uc_life_laws.proofs.Laying.{laid_out}
+use Rattle.uc_life_laws.proofs.UnmarkedWorlds.{law_runs as law_lone_runs}
 use Rattle.uc_putting_laws.specs.Putting.{CodeRoutine}
 use Rattle.uc_putting_laws.specs.PuttingLaws.{special_of, setting_of, Fair}
-use Rattle.uc_putting_laws.proofs.PuttingRuns.{code_of}
+use Rattle.uc_putting_laws.proofs.PuttingRuns.{code_of, law_runs as law_puts}
 use Rattle.uc_putting_laws.proofs.Routines.{law_calling}
 use Rattle.uc_putting_laws.proofs.Worlds as put
 use Rattle.uc_cell_laws.specs.CellStates.{CellFinds}
@@ -76,7 +78,7 @@ module _ (G Q : State → Type 0) (source : Source) where
     leads_turned {s} m h (rooms.goes e l) i = (f s m h i.0, leads_turned (endings.goes_on G source m e) (endings.goes_met G source m e h i.0) l i.1)
     leads_turned {s} m h (rooms.ticks e l) i = (f s m h i.0, leads_turned (endings.ticks_on G source m e) (endings.ticks_met G source m e h i.0) l i.1)
 
-module _ (p : Program) (formed : IsFormed p) (accepted : breaks_of p ≡ []) (within : IsWithinLimits p) (few : Few) (many : ℕ) (places : (n : Exec) (w : Value) (b : Ty) → Base few n w b → IsPlace w) (input : List ℕ) (opts : Options) (range : InRange opts) (first : MainPasses (table_of p) few ((table_of p).routine (source_of p).main).this 0) (j : Journal) (w : World) (r : Runs (source_of p) input opts j w) (fits : RunFits (source_of p) input opts j w r) (on : is_over j ≡ false) (below : PassesBelow few opts j) (met : RunMeets (Meets (table_of p) few) (source_of p) input opts j w r) (told : RunMeets (Told p few many) (source_of p) input opts j w r) (reads : RunMeets (KnowsReads (table_of p) few) (source_of p) input opts j w r) where
+module _ (p : Program) (formed : IsFormed p) (accepted : breaks_of p ≡ []) (within : IsWithinLimits p) (few : Few) (many : ℕ) (places : (n : Exec) (w : Value) (b : Ty) → Base few n w b → IsBase w b) (input : List ℕ) (opts : Options) (range : InRange opts) (first : MainPasses (table_of p) few ((table_of p).routine (source_of p).main).this 0) (j : Journal) (w : World) (r : Runs (source_of p) input opts j w) (fits : RunFits (source_of p) input opts j w r) (on : is_over j ≡ false) (below : PassesBelow few opts j) (met : RunMeets (Meets (table_of p) few) (source_of p) input opts j w r) (told : RunMeets (Told p few many) (source_of p) input opts j w r) (reads : RunMeets (KnowsReads (table_of p) few) (source_of p) input opts j w r) where
   abbrev t : Table
   t = table_of p
 
@@ -172,6 +174,11 @@ module _ (p : Program) (formed : IsFormed p) (accepted : breaks_of p ≡ []) (wi
     -- of operands it is known what is the execution's own
     pub put_on : (v : State) (l : Leads source start v) → LeadsMeet Facts source start v l → Puts v
     put_on v l h = stands_on l (fair_on v l h) begins
+
+    -- and nothing that is to be cleaned up stands around what is built or destroyed
+    pub lone_on : (v : State) (l : Leads source start v) → LeadsMeet Facts source start v l → LoneState t few v
+    lone_on v l h =
+        (law_lone_runs t few source input opts j w r (law_puts.runs p formed accepted few input opts range j w r fits run_fair)).comes u v (comes_to v l) (law_puts.leads p formed accepted few input opts range j w r fits run_fair on u v (comes_to v l) (fair_on v l h))
 
     tells_on : (v : State) (l : Leads source start v) → LeadsMeet Seen source start v l → Seen v → FindsTold t few source v
     tells_on v l h k =

@@ -1,5 +1,5 @@
 -- An event is raised at an object that is at home in what is the own of who raises it, or in what that has of others.
-use Rattle.std.proofs.Common.{◌≡◌, ℕ, ◌⊎◌, inl, inr, false, List, [], ◌∷◌, refl, sym, subst, ⊎_elim}
+use Rattle.std.proofs.Common.{true, ◌≡◌, ℕ, ◌⊎◌, inl, inr, false, List, [], ◌∷◌, refl, sym, subst, ⊎_elim}
 use Rattle.uc_tree.specs.Source as src
 use Rattle.uc_tree.specs.Source.{CleanUp, Source}
 use Rattle.uc_machine.specs.declared.exec.Exec.{Exec}
@@ -9,20 +9,17 @@ use Rattle.uc_machine.specs.Pieces.{Value, Object, Todo, RaiseAtNow, Sort, Activ
 use Rattle.uc_typing.specs.Typing.{Ty, Cell, Obj, Raw, Row, Table}
 use Rattle.uc_life_laws.specs.Things.{Few, Within, itself, field, element, AtField, IsFor, Marks, InTodo, Base, Things, Stands, lies, inside}
 use Rattle.uc_life_laws.specs.Belonging.{Belongs, frame, object}
-use Rattle.uc_life_laws.specs.Knowing.{InMaking, KnowsState}
+use Rattle.uc_life_laws.specs.Knowing.{KnowsState}
 use Rattle.uc_life_laws.specs.Marks.{Marked, OfClean, OfSort, AllLone, LoneStack}
-use Rattle.uc_life_laws.specs.Rooted.{IsPlace}
+use Rattle.uc_life_laws.specs.Rooted.{IsBase}
 use Rattle.uc_life_laws.proofs.Own.{further_own}
 use Rattle.uc_life_laws.proofs.Rooted.{things_split, stands_split, stands_things}
-use Rattle.uc_apart_laws.specs.Clear.{IsNoHome}
 use Rattle.uc_tasked_laws.specs.Aims.{IsAimed}
 use Rattle.uc_tasked_laws.proofs.Aiming.{law_aimed}
-use Rattle.uc_making_laws.specs.OwnThis.{ThisStack}
 use Rattle.uc_life_laws.specs.Held.{AreLines}
 use Rattle.uc_rooted_runs.specs.MainRuns.{EndsMains}
-use Rattle.uc_putting_laws.specs.ObjectsAtHand.{lets_go, IsBuilt}
 use Rattle.uc_making_laws.specs.NoOthers.{NoThis}
-use Rattle.uc_making_laws.specs.Builders.{Lets}
+use Rattle.uc_making_laws.specs.Builders.{lets_built, Lets, Building}
 use Rattle.uc_making_laws.specs.BuilderRuns.{FinishesBy, Finishes, Nears, NearState}
 use Rattle.uc_making_laws.proofs.NoOthers.{law_no_others}
 
@@ -34,7 +31,7 @@ module _ (t : Table) (few : Few) (n : Exec) where
   within_own w a v b h (field {v = x} {c} k i f) = further_own t few n _ x (within_own w a x (Obj c) h k)
   within_own w a v b h (element {v = x} {m} {b = e} k j l) = further_own t few n _ x (within_own w a x (Row m e) h k)
 
-  stands_own : (K : Value → Ty → Type 0) → ((w : Value) (a : Ty) → K w a → Belongs few n w) → (b : Ty) (v : Value) → Stands t few K b v → Belongs few n v
+  pub stands_own : (K : Value → Ty → Type 0) → ((w : Value) (a : Ty) → K w a → Belongs few n w) → (b : Ty) (v : Value) → Stands t few K b v → Belongs few n v
   stands_own K own b v (lies {w = w} {a} k h) = within_own w a v b (own w a k) h
   stands_own K own b v (inside {o = o} {c} m k h) =
       within_own (Object o) (Obj c) v b (object (stands_own K own (Cell (Obj c)) (few.home o) k)) h
@@ -76,42 +73,40 @@ module _ (t : Table) (few : Few) (n : Exec) where
     todo_own (p ∷ todo) h w a k =
         sort_own (piece.sort p) todo _ _ w a (by_sort p todo h) (λ r q. todo_own todo r w a q) k
 
-  stack_own : (cs : List Active) → LoneStack t few n cs → (w : Value) (a : Ty) → Marked t n cs w a → Belongs few n w
+  pub stack_own : (cs : List Active) → LoneStack t few n cs → (w : Value) (a : Ty) → Marked t n cs w a → Belongs few n w
   stack_own [] h w a k = absurd k
   stack_own (c ∷ older) h w a (inl k) = todo_own c.frame c.this older c.control h.0 w a k
   stack_own (c ∷ older) h w a (inr k) = stack_own older h.1 w a k
 
--- so where it is neither, nobody raises one: none of the activations is of the object, and it is known to them only as what they build or destroy
-module _ (t : Table) (few : Few) (places : (n : Exec) (w : Value) (b : Ty) → Base few n w b → IsPlace w) (s : State) (known : KnowsState t few [] s) (lone : LoneStack t few s.env.exec (s.run ∷ s.callers)) (this : ThisStack t few s.env.exec (s.run ∷ s.callers)) (o : ℕ) (zero : o ≡ 0 → ⊥) (foreign : Belongs few s.env.exec (few.home o) → ⊥) (unheld : IsNoHome t few o (Base few s.env.exec)) where
+-- so where it is neither, nobody raises one: none of the activations is of the object, what the execution has of others is not that in which it is at home, and the
+-- execution was not made for it as for a task
+module _ (t : Table) (few : Few) (places : (n : Exec) (w : Value) (b : Ty) → Base few n w b → IsBase w b) (s : State) (known : KnowsState t few [] s) (o : ℕ) (unbuilt : NoThis o (s.run ∷ s.callers)) (foreign : (i : ℕ) → t.tasks i ≡ true → Stands t few (Marked t s.env.exec (s.run ∷ s.callers)) (Cell (Obj i)) (few.home o) → ⊥) (away : (c : ℕ) → Stands t few (Base few s.env.exec) (Cell (Obj c)) (few.home o) → ⊥) (unheld : (c : ℕ) → t.tasks c ≡ true → Base few s.env.exec (Object o) (Raw c) → ⊥) where
   abbrev n : Exec
   n = s.env.exec
 
   abbrev all : List Active
   all = s.run ∷ s.callers
 
-  no_home : IsNoHome t few o (Things t few s.env.exec (s.run ∷ s.callers))
-  no_home c h =
-      ⊎_elim (λ m. foreign (stands_own t few n (Marked t n all) (stack_own t few n all lone) (Cell (Obj c)) (few.home o) m)) (λ b. unheld c b) (stands_split t few (Things t few n all) (Marked t n all) (Base few n) (things_split t few n all) (Cell (Obj c)) (few.home o) h)
+  no_home : (c : ℕ) → t.tasks c ≡ true → Stands t few (Things t few s.env.exec (s.run ∷ s.callers)) (Cell (Obj c)) (few.home o) → ⊥
+  no_home c k h =
+      ⊎_elim (λ m. foreign c k m) (λ b. away c b) (stands_split t few (Things t few n all) (Marked t n all) (Base few n) (things_split t few n all) (Cell (Obj c)) (few.home o) h)
 
-  not_made : (i : ℕ) → InMaking known.sigs (s.run ∷ s.callers) (Object o) (Raw i) → ⊥
-  not_made i m =
-      law_no_others.making t few o known.sigs all (law_no_others.none t few o n all this zero foreign no_home) i m
+  not_whole : (i : ℕ) → IsBase (Object o) (Obj i) → ⊥
+  not_whole i (inl h) = h
+  not_whole i (inr h) = let e : Obj i ≡ Raw h.1 = h.3 in absurd (cc)
 
-  not_placed : IsPlace (Object o) → ⊥
-  not_placed h = h
-
-  not_aimed : (i : ℕ) → IsAimed t few s.env.exec known.sigs (s.run ∷ s.callers) i o → ⊥
-  not_aimed i (inl h) = no_home i (stands_things t few n known.sigs all (Obj i) (few.home o) h)
-  not_aimed i (inr (inl (inl h))) = not_placed (places n (Object o) (Obj i) h)
-  not_aimed i (inr (inl (inr h))) = not_placed (places n (Object o) (Raw i) h)
-  not_aimed i (inr (inr h)) = not_made i h
+  not_aimed : (i : ℕ) → t.tasks i ≡ true → IsAimed t few s.env.exec known.sigs (s.run ∷ s.callers) i o → ⊥
+  not_aimed i k (inl h) = no_home i k (stands_things t few n known.sigs all (Obj i) (few.home o) h)
+  not_aimed i k (inr (inl (inl h))) = not_whole i (places n (Object o) (Obj i) h)
+  not_aimed i k (inr (inl (inr h))) = unheld i k h
+  not_aimed i k (inr (inr h)) = law_no_others.making t few o known.sigs all unbuilt i h
 
   pub not_raised : (todo : List Todo) → s.run.control ≡ RaiseAtNow ∷ todo → top s.run.operands ≡ Object o → ⊥
-  not_raised todo control at = let a = law_aimed t few s known todo control o at in not_aimed a.0 a.2
+  not_raised todo control at = let a = law_aimed t few s known todo control o at in not_aimed a.0 a.1 a.2
 
 -- what is under way is that of an activation of who made it
-module _ (source : Source) (o : ℕ) (m : Exec) (s : State) (near : NearState source o m s) (none : NoThis o (s.run ∷ s.callers)) where
-  is_of : (cs : List Active) → IsBuilt cs o → NoThis o cs → ⊥
+module _ (source : Source) (o : ℕ) (m : Exec) (s : State) (near : NearState source false o m s) (none : NoThis o (s.run ∷ s.callers)) where
+  is_of : (cs : List Active) → Building false cs o → NoThis o cs → ⊥
   is_of [] b h = b
   is_of (a ∷ cs) (inl b) h = h.0 b.0
   is_of (a ∷ cs) (inr b) h = is_of cs b h.1
@@ -119,22 +114,22 @@ module _ (source : Source) (o : ℕ) (m : Exec) (s : State) (near : NearState so
   pub not_under_way : (todo : List Todo) → s.run.control ≡ RaiseAtNow ∷ todo → s.env.exec ≡ m → ⊥
   not_under_way todo control e = by (near.stack e)
     where
-      by : (IsBuilt s.callers o ⊎ ((s.run.this ≡ Object o) × Lets s.run.control)) ⊎ Nears source o m s.run.control s.run.operands → ⊥
+      by : (Building false s.callers o ⊎ ((s.run.this ≡ Object o) × Lets false s.run.control)) ⊎ Nears source false o m s.run.control s.run.operands → ⊥
       by (inl (inl b)) = is_of s.callers b none.1
       by (inl (inr b)) = none.0 b.0
-      by (inr n) = subst (λ l. Nears source o m l s.run.operands) control n
+      by (inr n) = subst (λ l. Nears source false o m l s.run.operands) control n
 
 -- at the end of a main nothing is left that lets go of an object
 
-lines_none : (todo : List Todo) → AreLines todo → lets_go todo ≡ false
+lines_none : (todo : List Todo) → AreLines todo → lets_built false todo ≡ false
 lines_none [] h = refl
 lines_none (piece.Within line ∷ todo) h = lines_none todo h
 lines_none (p ∷ todo) h = absurd h
 
-pub finishes : (source : Source) (s : State) → EndsMains source s → Finishes s
+pub finishes : (source : Source) (s : State) → EndsMains source s → Finishes false s
 finishes source s h = by s.run.control refl
   where
-    by : (l : List Todo) → s.run.control ≡ l → FinishesBy l
+    by : (l : List Todo) → s.run.control ≡ l → FinishesBy false l
     by (piece.Finish ∷ todo) e = lines_none todo (h.finish todo e)
     by [] e = tt
     by (p ∷ todo) e = tt

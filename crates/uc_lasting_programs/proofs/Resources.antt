@@ -11,9 +11,15 @@ use Rattle.uc_typing.specs.Typing.{Ty, Cell, Obj, Row, Clu, Pro, Table, element_
 use Rattle.uc_typing.specs.States.{IsNumbered}
 use Rattle.uc_state_laws.specs.There.{OfVariable, OfElements, HoldsObject, IsThere}
 use Rattle.uc_life_laws.specs.Things.{Few, IsResource, Within, itself, field, element, Holds, IsFew, Known}
-use Rattle.uc_lasting_programs.specs.Remaining.{IsNumberCells}
+use Rattle.uc_building_laws.specs.BuildingRuns.{IsByNumber}
 use Rattle.uc_lasting_programs.proofs.Clusters.{within_cell}
 use Rattle.uc_lasting_programs.proofs.MutexScopes.{IsMutexCells}
+
+-- a variable that is known by its number, a mutex object, a cluster or a processor, or an array of such
+abbrev pub IsNumberCells : Table → Ty → Type 0
+IsNumberCells t (Cell b) = IsByNumber t b
+IsNumberCells t (Row n (Cell b)) = IsByNumber t b
+IsNumberCells t a = ⊥
 
 -- a cluster or a processor, or an array of such
 abbrev pub IsResourceCells : Ty → Type 0

@@ -1,5 +1,5 @@
 -- What is told of a run is what the laws of runs may be asked with.
-use Rattle.std.proofs.Common.{◌≡◌, ℕ, inl, Bool, true, List, [], Option, Some, None, refl, sym, ap, ◌∙◌, subst, ◌||◌}
+use Rattle.std.proofs.Common.{inr, ◌≡◌, ℕ, inl, Bool, true, List, [], Option, Some, None, refl, sym, ap, ◌∙◌, subst, ◌||◌}
 use Rattle.std.proofs.lemmas.Bool.{eq-eqb, lt-ltb}
 use Rattle.uc_tree.specs.Programs.{Program}
 use Rattle.uc_entry.specs.declared.entry.Options.{Options}
@@ -15,14 +15,14 @@ use Rattle.uc_resolve.specs.Resolve.{source_of}
 use Rattle.uc_sound.specs.Sounds.{of_program}
 use Rattle.uc_sound.specs.Tables.{table_of}
 use Rattle.uc_sound.proofs.MainLemmas.{law_mains}
-use Rattle.uc_typing.specs.Typing.{Ty, Cell, Obj}
+use Rattle.uc_typing.specs.Typing.{Ty, Cell, Obj, Raw}
 use Rattle.uc_typing.specs.States.{IsTask, IsOfTask}
 use Rattle.uc_life_laws.specs.Things.{Few, Base, Stands, lies, inside, itself}
 use Rattle.uc_life_laws.specs.Knowing.{main_of}
 use Rattle.uc_life_laws.specs.KnownAnswers.{MainPasses}
 use Rattle.uc_life_laws.specs.Belonging.{Belongs, frame, fields, object}
 use Rattle.uc_life_laws.specs.Homes.{home_of}
-use Rattle.uc_life_laws.specs.Rooted.{IsPlace}
+use Rattle.uc_life_laws.specs.Rooted.{IsBase}
 use Rattle.uc_life_laws.proofs.Homes.{law_once}
 use Rattle.uc_life_laws.proofs.NewNumbers.{some_object}
 use Rattle.uc_lasting_programs.specs.Telling.{main_class, on_places, few_of, LawTelling}
@@ -42,10 +42,11 @@ none_own few n (piece.Number m) k z e = elim k [ ]
 none_own few n (piece.Running x) k z e = elim k [ ]
 none_own few n piece.Nothing k z e = elim k [ ]
 
-placed : (c : Option ℕ) (base : Exec → Value → Ty → Bool) (n : Exec) (w : Value) (b : Ty) → on_places c base n w b ≡ true → IsPlace w
+placed : (c : Option ℕ) (base : Exec → Value → Ty → Bool) (n : Exec) (w : Value) (b : Ty) → on_places c base n w b ≡ true → IsBase w b
 placed c base n (piece.Number z) b e = absurd (cc)
-placed c base n (Place o p) b e = tt
+placed c base n (Place o p) b e = inl tt
 placed c base n (piece.Running x) b e = absurd (cc)
+placed c base n (piece.Object o) (Raw d) e = inr (o, d, refl, refl)
 placed c base n (piece.Object o) b e = absurd (cc)
 placed c base n piece.Nothing b e = absurd (cc)
 

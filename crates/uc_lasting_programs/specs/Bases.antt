@@ -1,12 +1,13 @@
 -- What executions have of others as a run tells it: each its seat, and each place around which nothing goes, is given up, is built or is entered to be destroyed
 -- as long as it lives; and what is left to show of ways where that is told, of seats alone.
-use Rattle.std.specs.Prelude.{◌≡◌, ℕ, zero, suc, ◌<◌, ◌+◌, ◌&&◌, ◌||◌, Bool, true, false, not, List, [], ◌∷◌, Option, Some, None, nat_lt}
+use Rattle.std.specs.Prelude.{◌≡◌, ℕ, zero, suc, ◌+◌, ◌&&◌, ◌||◌, Bool, true, false, not, List, [], ◌∷◌, Option, Some, None, nat_eq, nat_lt}
 use Rattle.uc_tree.specs.Programs.{Program}
 use Rattle.uc_tree.specs.Source.{Source}
 use Rattle.uc_entry.specs.declared.entry.Options.{Options}
 use Rattle.uc_entry.specs.declared.entry.Entry.{Entry}
 use Rattle.uc_entry.specs.declared.request.Asked.{Asked}
 use Rattle.uc_acts.specs.Journal.{Journal}
+use Rattle.uc_acts.specs.Serves.{left}
 use Rattle.uc_acts.specs.Known.{has_ended, is_gone, object_count, owner, task_count}
 use Rattle.uc_machine.specs.declared.exec.Exec.{Exec}
 use Rattle.uc_machine.specs.declared.exec.Home.{Home}
@@ -18,24 +19,22 @@ use Rattle.uc_machine.specs.Executions.{exec_eq}
 use Rattle.uc_machine.specs.Monitors.{this_object}
 use Rattle.uc_machine.specs.Switches.{without}
 use Rattle.uc_machine.specs.Pieces as piece
-use Rattle.uc_machine.specs.Pieces.{Link, Value, Place, Todo, EnterNow, MadeNow, SpawnNow, GoneNow, GiveUpNow, RaiseAtNow, Active, State, Env, Members, object_in, top}
+use Rattle.uc_machine.specs.Pieces.{Link, Value, Place, Todo, EnterNow, MadeNow, SpawnNow, GoneNow, GiveUpNow, RaiseAtNow, State, Env, Members, object_in, top}
+use Rattle.uc_machine.specs.Answering.{answered}
 use Rattle.uc_machine.specs.Rides.{Rides, slices, goes_on, ticks, asks}
-use Rattle.uc_meaning.specs.Runs.{World, May, Runs, AsksIn, gives, no_room, acts, begun, more}
+use Rattle.uc_meaning.specs.Runs.{World, May, Runs, AsksIn, drawn, gives, no_room, acts, begun, more}
 use Rattle.uc_resolve.specs.Resolve.{source_of}
-use Rattle.uc_typing.specs.Typing.{Ty, Num, Cell, Obj, Raw, Row, Clu, Pro, Table}
+use Rattle.uc_state_laws.specs.Opens.{RideMeets}
+use Rattle.uc_typing.specs.Typing.{Ty, Num, Cell, Obj, Raw, Row, Clu, Pro}
 use Rattle.uc_depth_laws.specs.Entering.{is_ending}
 use Rattle.uc_depth_laws.specs.Owing.{Ex, entering, is_again}
 use Rattle.uc_life_laws.specs.Homes.{home_of}
-use Rattle.uc_life_laws.specs.Knowing.{main_of}
-use Rattle.uc_life_laws.specs.KnownRuns.{made_by}
-use Rattle.uc_life_laws.specs.Things.{Few, Base, or_raw}
 use Rattle.uc_life_laws.specs.Belonging.{Belongs}
-use Rattle.uc_life_laws.specs.LifeStates.{EnvBy}
-use Rattle.uc_life_laws.specs.Rooted.{Lives}
-use Rattle.uc_apart_laws.specs.Clear.{IsNoHome}
+use Rattle.uc_life_laws.specs.Knowing.{main_of}
+use Rattle.uc_life_laws.specs.Things.{Few}
 use Rattle.uc_apart_laws.specs.Before.{world_at}
-use Rattle.uc_making_laws.specs.BeforeRides.{IsLone}
-use Rattle.uc_lasting_programs.specs.Seats.{same_path, same_owner, seated, housed}
+use Rattle.uc_lasting_programs.specs.Lent.{has_read}
+use Rattle.uc_lasting_programs.specs.Seats.{same_path, same_owner, seated}
 
 -- a place lies at another, or in what is there
 
@@ -120,13 +119,15 @@ module _ (homes : ℕ → Value) where
   module _ (source : Source) (j : Journal) (w : World) (u : ℕ) where
     -- while task u has come to a state something is not to be had of others: around what goes or is given up there by nobody that lives; around what has been
     -- built by none of those that do not run in the task, but of those at home in it; around what is entered again to be destroyed, and around what an event is
-    -- raised at and is of no task yet, not by who runs
+    -- raised at and is of no task yet, not by who runs; and where a task enters its own object so, all is barred to everybody
     abbrev pub bars_by : List Todo → State → Exec → Value → Bool
     bars_by (GoneNow ∷ todo) v n z = lives_in n j (world_at w u v) (task_count j + suc u) && is_around (this_object v) z
     bars_by (GiveUpNow ∷ todo) v n z = lives_in n j (world_at w u v) (task_count j + suc u) && is_around (this_object v) z
     bars_by (MadeNow ∷ todo) v n z = env_has n (record v.env { hand = without (this_object v) v.env.hand }) && is_around (this_object v) z
     bars_by (SpawnNow r ∷ todo) v n z = env_has n (record v.env { hand = without (this_object v) v.env.hand }) && is_around (this_object v) z
-    bars_by (EnterNow m r ∷ todo) v n z = (exec_eq n v.env.exec && (is_ending source r && is_again source r v)) && is_around (entering source r v) z
+    bars_by (EnterNow m r ∷ todo) v n z =
+        ((exec_eq n v.env.exec && (is_ending source r && is_again source r v)) && is_around (entering source r v) z) ||
+        ((is_ending source r && is_again source r v) && nat_eq v.env.own (entering source r v))
     bars_by (RaiseAtNow ∷ todo) v n z =
         (exec_eq n v.env.exec && is_no_task j (object_in (top v.run.operands))) && is_around (object_in (top v.run.operands)) z
     bars_by todo v n z = false
@@ -175,62 +176,47 @@ abbrev pub is_scalar : Ty → Bool
 is_scalar (Cell Num) = true
 is_scalar a = false
 
+abbrev pub is_place : Value → Bool
+is_place (Place o p) = true
+is_place v = false
+
 -- a place is another's: it lies in a frame of another execution, or in a mutex object
 abbrev pub of_others : Exec → Value → Bool
 of_others n (Place (Frame m d) p) = not (exec_eq m n)
 of_others n (Place (Fields o) p) = true
 of_others n v = false
 
--- what is told of a run and of the way to what is asked next: seats, and all that nothing bars; each place that is another's, as what no mutex object is at home
--- in; and each, as that of a scalar
-abbrev pub unbarred : (ℕ → Value) → (source : Source) (input : List ℕ) (opts : Options) {j : Journal} {w : World} → Runs source input opts j w → {p u k : ℕ} {s : State} {a : Asked} →
-    AsksIn source opts j w p u k s a → Exec → Value → Bool
-unbarred homes source input opts r d n z = not (way_bars homes source input opts r d n z)
+-- what is told of a run and of the way to what is asked next: seats, each place that nothing bars, and each at which what it reads is at home; each place that is
+-- another's, as what no mutex object is at home in; and each, as that of a scalar
+abbrev pub open_to : (p : Program) (input : List ℕ) (opts : Options) {j : Journal} {w : World} → Runs (source_of p) input opts j w → {q t k : ℕ} {s : State} {a : Asked} →
+    AsksIn (source_of p) opts j w q t k s a → Exec → Value → Bool
+open_to p input opts {j} {w} r d n z = is_place z &&
+    (not (way_bars (λ o. home_of (source_of p) input opts j w r o) (source_of p) input opts r d n z) || has_read p input opts r d n z)
 
 abbrev pub based : (p : Program) (input : List ℕ) (opts : Options) {j : Journal} {w : World} → Runs (source_of p) input opts j w → {q t k : ℕ} {s : State} {a : Asked} →
     AsksIn (source_of p) opts j w q t k s a → Exec → Value → Ty → Bool
 based p input opts {j} {w} r d n z b = seated p input opts r d n z b ||
-    (unbarred (λ o. home_of (source_of p) input opts j w r o) (source_of p) input opts r d n z || ((of_others n z && is_bare b) || is_scalar b))
+    (open_to p input opts r d n z || ((of_others n z && is_bare b) || is_scalar b))
 
--- of others the homes alone of mutex objects for which executions were made are told
-abbrev pub seats_of : (p : Program) (input : List ℕ) (opts : Options) {j : Journal} {w : World} → Runs (source_of p) input opts j w → {q t k : ℕ} {s : State} {a : Asked} →
-    AsksIn (source_of p) opts j w q t k s a → Few
-seats_of p input opts {j} {w} r d = record {
-  numbers = or_raw (made_by opts j);
-  home = λ o. home_of (source_of p) input opts j w r o;
-  base = housed p input opts r d;
-}
+-- what holds in the states of the way to each act of a run, by the journal and the world before that and the task that acts
+module _ (P : Journal → World → ℕ → State → Type 0) (source : Source) (input : List ℕ) (opts : Options) where
+  abbrev pub MayHoldOnWay : {j : Journal} {w : World} {a : List Entry} {x : World} → May source opts input j w a x → Type 0
+  MayHoldOnWay (gives p u s h) = Unit {0}
+  MayHoldOnWay (no_room p u s h) = Unit {0}
+  MayHoldOnWay {j} {w} (acts p u n s q d) = RideMeets (P j w u) source (answered source d.given (drawn j w u)) (left opts j u) s n q d.rides
 
--- what is left to show of ways
+  abbrev pub RunHoldsOnWay : {j : Journal} {w : World} → Runs source input opts j w → Type 0
+  RunHoldsOnWay begun = Unit {0}
+  RunHoldsOnWay (more r o m) = RunHoldsOnWay r × MayHoldOnWay m
 
--- `made`: seats of those that were made
-module _ (t : Table) (few made : Few) (j : Journal) (w : World) (u : ℕ) (v : State) where
-  -- of these, what is the own of who runs
-  abbrev pub OwnSeats : Exec → Value → Ty → Type 0
-  OwnSeats n z b = Base made n z b × Belongs few v.env.exec z
+-- where an object goes, is given up or has been built this is asked of what is the own of who runs alone
+abbrev pub AsksOpen : Few → State → List Todo → Value → Type 0 → Type 0
+AsksOpen few v (GoneNow ∷ todo) z A = Belongs few v.env.exec z → A
+AsksOpen few v (GiveUpNow ∷ todo) z A = Belongs few v.env.exec z → A
+AsksOpen few v (MadeNow ∷ todo) z A = Belongs few v.env.exec z → A
+AsksOpen few v (SpawnNow r ∷ todo) z A = Belongs few v.env.exec z → A
+AsksOpen few v todo z A = A
 
-  -- an object is not at home there: in that of one that lives; in that of one that does not run, in the task, but of those at home in the object
-  abbrev pub LiveApart : ℕ → Type 0
-  LiveApart o = (n : Exec) (cs : List Active) → Lives j (world_at w u v) n cs → IsNoHome t made o (OwnSeats n)
-
-  abbrev pub ApartBy : ℕ → Stage → Exec → Type 0
-  ApartBy o Fresh n = Unit {0}
-  ApartBy o Started n = IsNoHome t made o (OwnSeats n)
-  ApartBy o Ended n = Unit {0}
-
-  abbrev pub HaveApart : Type 0
-  HaveApart = EnvBy (λ n y. ApartBy (this_object v) y.links.stage n) (record v.env { hand = without (this_object v) v.env.hand })
-
-  -- what `ElsewhereOnWay` asks, but of these alone; and where who runs is at home in an older mutex object than the own one of the task, what is entered again
-  -- to be destroyed is not that
-  abbrev pub SeatsElsewhereBy : Source → List Todo → Type 0
-  SeatsElsewhereBy source (GoneNow ∷ todo) = IsLone t few j w u v (this_object v) → LiveApart (this_object v)
-  SeatsElsewhereBy source (GiveUpNow ∷ todo) = IsLone t few j w u v (this_object v) → LiveApart (this_object v)
-  SeatsElsewhereBy source (MadeNow ∷ todo) = IsLone t few j w u v (this_object v) → HaveApart
-  SeatsElsewhereBy source (SpawnNow r ∷ todo) = IsLone t few j w u v (this_object v) → HaveApart
-  SeatsElsewhereBy source (EnterNow m r ∷ todo) = is_ending source r ≡ true → is_again source r v ≡ true → IsLone t few j w u v (entering source r v) →
-      (q : ℕ) → v.env.exec.home ≡ Object q → q < v.env.own → v.env.own ≡ entering source r v → ⊥
-  SeatsElsewhereBy source todo = Unit {0}
-
-  abbrev pub SeatsElsewhere : Source → Type 0
-  SeatsElsewhere source = SeatsElsewhereBy source v.run.control
+-- in a state nothing bars what executions read
+abbrev pub ReadsOpen : Few → (source : Source) (read : Exec → Value → Bool) (j : Journal) (w : World) (u : ℕ) (v : State) → Type 0
+ReadsOpen few source read j w u v = (n : Exec) (z : Value) → read n z ≡ true → AsksOpen few v v.run.control z (bars_by few.home source j w u v.run.control v n z ≡ false)

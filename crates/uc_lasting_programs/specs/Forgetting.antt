@@ -20,7 +20,7 @@ use Rattle.uc_life_laws.specs.KnownAnswers.{MainPasses}
 use Rattle.uc_life_laws.specs.KnownRuns.{PassesBelow, Meets}
 use Rattle.uc_life_laws.specs.Lasting.{RunForgets}
 use Rattle.uc_life_laws.specs.Belonging.{Belongs}
-use Rattle.uc_life_laws.specs.Rooted.{IsPlace}
+use Rattle.uc_life_laws.specs.Rooted.{IsBase}
 use Rattle.uc_letting_laws.specs.AloneRuns.{RunAlone}
 use Rattle.uc_putting_laws.specs.PuttingLaws.{setting_of, Fair}
 use Rattle.uc_making_laws.specs.ForgetsThis.{RunGoes, IsLeftNowhere}
@@ -38,7 +38,7 @@ pub record IsLeftOf (p : Program) (few : Few) (many : ℕ) (input : List ℕ) (o
 abbrev pub LawForgetsPrograms : Type 0
 LawForgetsPrograms =
     (p : Program) → IsFormed p → breaks_of p ≡ [] → IsWithinLimits p → (few : Few) (many : ℕ) →
-    ((n : Exec) (w : Value) (b : Ty) → Base few n w b → IsPlace w) →
+    ((n : Exec) (w : Value) (b : Ty) → Base few n w b → IsBase w b) →
     ((n : Exec) → Belongs few n (few.home 0) → ⊥) →
     (input : List ℕ) (opts : Options) → InRange opts →
     (j : Journal) (w : World) (r : Runs (source_of p) input opts j w) →

@@ -7,6 +7,7 @@ pub mod Ways
 pub mod Bases
 pub mod OfOthers
 pub mod Lying
+pub mod Lent
 pub mod Telling
 pub mod Seats
 pub mod Meeting

@@ -8,6 +8,7 @@ use Rattle.uc_typing.specs.States.{Is}
 use Rattle.uc_life_laws.specs.Things.{Few, IsTracked, IsMutex, IsFew, LiesIn}
 use Rattle.uc_life_laws.specs.Knowing.{Here}
 use Rattle.uc_building_laws.specs.ScopedReads.{cell_of, is_bound, field_type, element_type, is_type, stack_has}
+use Rattle.uc_lasting_programs.specs.Lent.{is_anothers}
 use Rattle.uc_lasting_programs.specs.OfOthers.{IsHad}
 
 module _ (t : Table) (few : Few) (s : State) where
@@ -53,8 +54,13 @@ module _ (t : Table) (few : Few) (gs : List Sig) (g : Sig) (s : State) where
   LiesElsewhere false false c v = LiesAtHand (Obj c) v ⊎ IsHad t s.env.exec (Obj c) v
 
   -- of what is no object the place is of no matter
+  -- nor of one that is another's: what is read is had of others
+  abbrev pub UnlessAnothers : Bool → Type 0 → Type 0
+  UnlessAnothers true lies = Unit {0}
+  UnlessAnothers false lies = lies
+
   abbrev pub LiesLeft : Ty → Value → Type 0
-  LiesLeft (Obj c) v = LiesElsewhere (object_in_scope t few s (t.mutex c) c v) (home_in_this t few g s c v) c v
+  LiesLeft (Obj c) v = UnlessAnothers (t.mutex c && is_anothers few.home s.env.exec v) (LiesElsewhere (object_in_scope t few s (t.mutex c) c v) (home_in_this t few g s c v) c v)
   LiesLeft a v = Unit {0}
 
   -- a binding is of its type, with such a number, and lies so

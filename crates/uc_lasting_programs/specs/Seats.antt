@@ -1,4 +1,4 @@
--- What executions have of others as a run tells it: each the object for which it was made, or, where that is a mutex object, the place at which it is at home.
+-- What executions have of others as a run tells it: each the object for which it was made, as one that is not whole.
 use Rattle.std.specs.Prelude.{ℕ, ◌&&◌, ◌||◌, Bool, true, false, List, [], ◌∷◌, Option, Some, None, nat_eq}
 use Rattle.uc_tree.specs.Programs.{Program}
 use Rattle.uc_tree.specs.Source.{Shape, Integer, Character, Truth, Binding, Last, Field, Array, Source}
@@ -18,8 +18,7 @@ use Rattle.uc_machine.specs.Rides.{Rides, slices, goes_on, ticks, asks}
 use Rattle.uc_meaning.specs.Runs.{World, May, Runs, AsksIn, gives, no_room, acts, begun, more}
 use Rattle.uc_resolve.specs.Resolve.{source_of}
 use Rattle.uc_sound.specs.Tables.{table_of}
-use Rattle.uc_typing.specs.Typing.{Ty, Cell, Obj, Raw, Table}
-use Rattle.uc_life_laws.specs.Homes.{home_of}
+use Rattle.uc_typing.specs.Typing.{Ty, Raw, Table}
 use Rattle.uc_life_laws.specs.Knowing.{main_of}
 
 -- whether two places are the same
@@ -50,28 +49,27 @@ same_owner (Frame n d) (Frame m e) = exec_eq n m && nat_eq d e
 same_owner (Fields o) (Fields u) = nat_eq o u
 same_owner o u = false
 
-abbrev pub is_place : Value → Value → Bool
-is_place (Place o p) (Place u q) = same_owner o u && same_path p q
-is_place v w = false
+abbrev pub is_same : Value → Value → Bool
+is_same (Place o p) (Place u q) = same_owner o u && same_path p q
+is_same (Object o) (Object u) = nat_eq o u
+is_same v w = false
 
--- `homes`: where mutex objects are at home. What has this object of this class, has this at hand: of a mutex object the place at which that is at home; any other
--- one is had as one that is not whole, so that nothing is had which stands in it
-abbrev pub is_seat : (ℕ → Value) → ℕ → Value → Value → Ty → Bool
-is_seat homes c (Place o p) w (Raw d) = nat_eq c d && is_place (Place o p) w
-is_seat homes c (Object o) w (Cell (Obj d)) = nat_eq c d && is_place (homes o) w
-is_seat homes c v w a = false
+-- what has this object of this class has it at hand as one that is not whole, so that nothing is had which stands in it
+abbrev pub is_seat : ℕ → Value → Value → Ty → Bool
+is_seat c v w (Raw d) = nat_eq c d && is_same v w
+is_seat c v w a = false
 
 abbrev pub of_class : Option ℕ → (ℕ → Bool) → Bool
 of_class None f = false
 of_class (Some c) f = f c
 
-module _ (t : Table) (homes : ℕ → Value) where
+module _ (t : Table) where
   -- what a state makes next: an execution for the object at hand, or the main of a task
   abbrev pub seat_by : List Todo → State → Exec → Value → Ty → Bool
   seat_by (SetUpNow r ∷ todo) s n w a = exec_eq n (new_exec (home_at s.run.this s.env) s.env) &&
-      of_class (t.routine r).this (λ c. is_seat homes c s.run.this w a)
+      of_class (t.routine r).this (λ c. t.executes c && is_seat c s.run.this w a)
   seat_by (SpawnNow r ∷ todo) s n w a = exec_eq n (main_of (this_object s)) &&
-      of_class (t.routine r).this (λ c. is_seat homes c (Object (this_object s)) w a)
+      of_class (t.routine r).this (λ c. is_seat c (Object (this_object s)) w a)
   seat_by todo s n w a = false
 
   -- what a ride makes, and a run
@@ -95,14 +93,4 @@ module _ (t : Table) (homes : ℕ → Value) where
 abbrev pub seated : (p : Program) (input : List ℕ) (opts : Options) {j : Journal} {w : World} → Runs (source_of p) input opts j w → {q t k : ℕ} {s : State} {a : Asked} →
     AsksIn (source_of p) opts j w q t k s a → Exec → Value → Ty → Bool
 seated p input opts {j} {w} r d n v b =
-    run_seats (table_of p) (λ o. home_of (source_of p) input opts j w r o) (source_of p) input opts r n v b ||
-    ride_seats (table_of p) (λ o. home_of (source_of p) input opts j w r o) d.rides n v b
-
--- those of them that are whole: places at which mutex objects are at home
-abbrev pub but_raw : (Exec → Value → Ty → Bool) → Exec → Value → Ty → Bool
-but_raw f n v (Raw c) = false
-but_raw f n v b = f n v b
-
-abbrev pub housed : (p : Program) (input : List ℕ) (opts : Options) {j : Journal} {w : World} → Runs (source_of p) input opts j w → {q t k : ℕ} {s : State} {a : Asked} →
-    AsksIn (source_of p) opts j w q t k s a → Exec → Value → Ty → Bool
-housed p input opts r d n v b = but_raw (seated p input opts r d) n v b
+    run_seats (table_of p) (source_of p) input opts r n v b || ride_seats (table_of p) d.rides n v b

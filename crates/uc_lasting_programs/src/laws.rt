@@ -29,8 +29,8 @@ pub fn law_calls_runs()
 {}
 
 /// So nobody else has at hand what is let go of, so far and on the way to what is asked next, as long as what
-/// no law gives of these ways holds; behind each act by which an object goes nobody has its home at hand; and
-/// where an event is raised on the way, what executions have of others stands upwards.
+/// executions have of others is elsewhere; and behind each act by which an object goes nobody has its home at
+/// hand, if nobody has that of others there.
 pub fn law_ways()
     ensures { LawWays }
 {}

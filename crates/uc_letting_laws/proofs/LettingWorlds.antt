@@ -1,5 +1,5 @@
 -- In every run tasks are as deep in objects as they owe them, as long as each step finds what it is to find.
-use Rattle.std.proofs.Common.{◌≡◌, ℕ, suc, ◌==◌, ◌<◌, ◌≤◌, ◌||◌, ◌⊎◌, inl, inr, Bool, true, false, not, List, [], ◌∷◌, ◌++◌, Option, Some, None, length, ◌+◌, refl, sym, ap, ◌∙◌, subst, arith, ⊎_elim}
+use Rattle.std.proofs.Common.{◌≡◌, ℕ, suc, ◌==◌, ◌<◌, ◌≤◌, ◌||◌, ◌⊎◌, inl, inr, Bool, true, false, not, List, [], ◌∷◌, ◌++◌, Option, Some, None, length, ◌+◌, refl, sym, ap, ◌∙◌, subst, arith, append-nil, append_assoc, ⊎_elim}
 use Rattle.std.specs.Prelude.{pos, nat_lt, is_some, if◌then◌else◌}
 use Rattle.std.proofs.lemmas.Bool.{eqb-true, eq-eqb, ne_eqb, cases_lt}
 use Rattle.uc_tree.specs.Source.{Source, routine_of}
@@ -11,7 +11,7 @@ use Rattle.uc_entry.specs.declared.request.Request.{Request}
 use Rattle.uc_entry.specs.declared.request.Request.TheVariants as ask
 use Rattle.uc_entry.specs.Keyed.{find}
 use Rattle.uc_acts.specs.Journal.{Journal, begin, cost, asking as asking_entry, inside, held, is_over, own_object}
-use Rattle.uc_acts.specs.Known.{has, owner, object_count, task_count, has_ended, spawns, takes_out}
+use Rattle.uc_acts.specs.Known.{has, owner, object_count, task_count, has_ended, is_gone, spawns, takes_object, takes_out}
 use Rattle.uc_acts.specs.Answers.{just_made}
 use Rattle.uc_acts.specs.Serves.{Serves}
 use Rattle.uc_acts.specs.Sound.{Sound, Spot}
@@ -26,7 +26,8 @@ use Rattle.uc_acts.proofs.Given.{law_dispatch}
 use Rattle.uc_acts.proofs.Hush.{door_silent}
 use Rattle.uc_acts.proofs.Making.{law_new}
 use Rattle.uc_acts.proofs.Law.{good_whole, lawful_act}
-use Rattle.uc_acts.proofs.Living.{going_row}
+use Rattle.uc_acts.proofs.Living.{going_row, lived_run}
+use Rattle.uc_acts.proofs.Counted.{gone_push}
 use Rattle.uc_acts.proofs.Held.{law_held}
 use Rattle.uc_acts.proofs.Moves.{one_inside}
 use Rattle.uc_machine.specs.declared.exec.Exec.{Exec}
@@ -74,7 +75,7 @@ use Rattle.uc_state_laws.proofs.HandWalk.{walk}
 use Rattle.uc_letting_laws.proofs.Insiders.{GoesOut, Kicks, Insiders, row_kicks, row_insiders}
 use Rattle.uc_letting_laws.proofs.NewObjects.{made_for, gives_away, is_fresh, new_for, told_for, both_hold, both_are, own_not_told, told_away, told_new, told_other, told_stays, other_stays, not_here, nobody, owner_more, owner_stays, new_unowned, new_made, fresh_stays, gives_more, Makers, makers_stay, fresh_made, makers_given, makers_begin}
 use Rattle.uc_letting_laws.proofs.Owners.{own_same, own_given}
-use Rattle.uc_letting_laws.proofs.Hands.{FreeMembers, Found, free_found, has_self, hand_finds, redrawn, just_go, found_none, found_some, some_found, found_engaged}
+use Rattle.uc_letting_laws.proofs.Hands.{FreeMembers, Found, free_found, has_self, hand_finds, hand_lacks, redrawn, just_go, found_none, found_some, some_found, found_engaged}
 use Rattle.uc_state_laws.proofs.Places.{flipped, still}
 use Rattle.uc_state_laws.proofs.Rows.{over_by}
 use Rattle.uc_state_laws.proofs.DeepWorlds.{DeepWorld, known, deep_in_hand, deep_run, ended_before, spawns_none, spawned_by, spawned_true}
@@ -160,15 +161,26 @@ module _ (part : ℕ → Part) (source : Source) (entered : EnteredSource source
 
 -- tasks at rest, behind what they asked last
 
+or_true : (b : Bool) → (b || true) ≡ true
+or_true true = refl
+or_true false = refl
+
+-- what has gone is gone for good
+gone_stays : (o : ℕ) (j a : List Entry) → is_gone o j ≡ true → is_gone o (j ++ a) ≡ true
+gone_stays o j [] h = ap (is_gone o) (append-nil j) ∙ h
+gone_stays o j (e ∷ a) h =
+    ap (is_gone o) (sym (append_assoc j (e ∷ []) a)) ∙ gone_stays o (j ++ e ∷ []) a (gone_push o j e ∙ ap (λ b. b || takes_object e.kind e o) h)
+
 abbrev pub Rests : (source : Source) (news : Tests) → Request → State → Type 0
 Rests source news ask.End s = ⊥
 Rests source news (ask.Fault n) s = ⊥
 Rests source news r s = DeepAsk source news r s
 
--- an object that was called is not where the execution is at home that called it, and one that was asked for is of no task yet
+-- an object that was called is not where the execution is at home that called it, one that was asked for is of no task yet, and what was taken out is gone
 abbrev pub Brings : ℕ → Journal → Request → Home → Type 0
 Brings u j (ask.Call o m) h = h ≡ home.Object o → ⊥
 Brings u j (ask.Make c) h = (o : ℕ) → just_made u j ≡ o ∷ [] → is_fresh u j o ≡ true
+Brings u j (ask.Gone o) h = is_gone o j ≡ true
 Brings u j r h = Unit {0}
 
 pub record OwingTask (source : Source) (j : Journal) (u : ℕ) (s : State) : Type 0 where
@@ -251,6 +263,7 @@ module _ (part : ℕ → Part) (source : Source) (entered : EnteredSource source
                 let b = own_one (w.tasks t).env.own in
                 let c : depth_in (find (w.tasks t).env.own (w.tasks t).env.depths) ≡ 0 = ap depth_in (subst (λ q. find q (w.tasks t).env.depths ≡ None) (sym e ∙ own) none) in
                 omega (arith, a, b, c))
+    suits (ask.Gone o) f h n = (h, hand_lacks (held t j) w.homes o ((law_held j).inside t o ∙ ap (λ l. has l t) ((lived_run opts source.sites input r.kernel going).dead o n).inside))
     suits ask.End f h n = absurd h
     suits (ask.Fault k) f h n = absurd h
     suits q f h n = (h, tt)
@@ -393,6 +406,7 @@ module _ (part : ℕ → Part) (source : Source) (entered : EnteredSource source
             by (ask.Make c) e h = h.1.env.hand
             by ask.Slice e h = h.env.hand
             by (ask.Spawn o) e h = h.0.deep.env.hand
+            by (ask.Gone o) e h = h.1
             by ask.End e h = h.hand
             by (ask.Fault k) e h =
                 no_both (is_over (j ++ a)) (ap (λ l. is_over (j ++ l)) (is ∙ ap (row opts source.sites input j p t (cost n asked.line) asked.line) e) ∙ over_by j _ refl) on
@@ -535,6 +549,9 @@ module _ (part : ℕ → Part) (source : Source) (entered : EnteredSource source
             by : (o : ℕ) → just_made t (j ++ act opts source.sites input j p t n asked) ≡ o ∷ [] → (b : Bool) → act opts source.sites input j p t n asked ≡ or_fault b (asking_entry kind.Make p t (cost n asked.line) (object_count j) (pos c) (pos 0)) (fault p t (cost n asked.line) 16 asked.line) → is_fresh t (j ++ act opts source.sites input j p t n asked) o ≡ true
             by o h true g = subst (λ l. is_fresh t (j ++ l) o ≡ true) (sym g) (subst (λ v. is_fresh t (j ++ asking_entry kind.Make p t (cost n asked.line) (object_count j) (pos c) (pos 0) ∷ []) v ≡ true) (here o h) (fresh_made t j (asking_entry kind.Make p t (cost n asked.line) (object_count j) (pos c) (pos 0)) x.makers refl refl refl))
             by o h false g = no_both (is_over (j ++ a)) (ap (λ l. is_over (j ++ l)) g ∙ over_by j _ refl) on
+        to_brings (ask.Gone o) k =
+            let one : a ≡ asking_entry kind.Gone p t (cost n asked.line) o (pos 0) (pos 0) ∷ [] = is ∙ ap (row opts source.sites input j p t (cost n asked.line) asked.line) k in
+            ap (λ l. is_gone o (j ++ l)) one ∙ (gone_push o j (asking_entry kind.Gone p t (cost n asked.line) o (pos 0) (pos 0)) ∙ (ap (λ b. is_gone o j || b) (eq-eqb o o refl) ∙ or_true (is_gone o j)))
         to_brings (ask.Spawn o) k = tt
         to_brings q k = tt
 
@@ -556,6 +573,7 @@ module _ (part : ℕ → Part) (source : Source) (entered : EnteredSource source
         brings_other u h (ask.Make c) i n = λ o e.
             let g = n o (sym (made.others u h) ∙ e) in
             fresh_stays u o j a (kept_of u h o (both_hold (made_for u o j) _ g).0) g
+        brings_other u h (ask.Gone o) i n = gone_stays o j a n
         brings_other u h q i n = tt
 
         other_after : (u : ℕ) → (u == t) ≡ false → spawns (act opts source.sites input j p t n asked) u ≡ false → OwingTask source j u (drawn j w u) → OwingTask source (j ++ act opts source.sites input j p t n asked) u (with_hand (hand_of (held u (j ++ act opts source.sites input j p t n asked)) (world_after source (act opts source.sites input j p t n asked) w t s).homes) (w.tasks u))
@@ -642,6 +660,7 @@ module _ (part : ℕ → Part) (source : Source) (entered : EnteredSource source
       given_brings : (u : ℕ) (q : Request) (i : Home) → Brings u j q i → Brings u (j ++ dispatch p t ∷ []) q i
       given_brings u (ask.Call o m) i n = n
       given_brings u (ask.Make c) i n = λ o e. fresh_stays u o j (dispatch p t ∷ []) refl (n o (sym (just_made_given u p t j) ∙ e))
+      given_brings u (ask.Gone o) i n = gone_stays o j (dispatch p t ∷ []) n
       given_brings u q i n = tt
 
   -- both go on to hold

@@ -16,7 +16,9 @@ use Rattle.uc_typing.specs.Typing.{Table}
 use Rattle.uc_life_laws.specs.Things.{Few}
 use Rattle.uc_life_laws.specs.LifeStates.{SlotBy, ParkedBy, HandBy, EnvBy}
 use Rattle.uc_life_laws.specs.Knowing.{KnowsBy, KnowsSlot, KnowsState}
-use Rattle.uc_depth_laws.specs.Owing.{Tests, First, Any, Done, Skipped, CallOf, Bound, counted, is_told, Entered, entering, Ex, owed_by, owed_waiting, owed_all, owed_at, owed_slot, owed_parked, owed_hand, owed_own, owed_resting, owed_elsewhere, EngagedBy, EngagedSlot, EngagedParked, EngagedHand, Deep, AloneAt}
+use Rattle.uc_depth_laws.specs.Entering.{Aspect}
+use Rattle.uc_depth_laws.specs.Owing.{Tests, First, Any, Done, Skipped, CallOf, Bound, counted, is_told, Entered, entering, Ex, owed_by, owed_waiting, owed_all, owed_at, owed_slot, owed_parked, owed_hand, owed_own, owed_elsewhere, EngagedBy, EngagedSlot, EngagedParked, EngagedHand, Deep, AloneAt}
+use Rattle.uc_depth_laws.proofs.Alone.{other_made, other_spawned, other_gone, other_given_up}
 use Rattle.uc_depth_laws.proofs.Depths.{counted_none}
 use Rattle.uc_depth_laws.proofs.Kept.{either}
 use Rattle.uc_life_laws.specs.AtHand.{IsAtHand, FarBy, IsFar, elsewhere, IsApartAt, LawApart}
@@ -73,18 +75,12 @@ module _ (t : Table) (few : Few) (source : Source) (news : Tests) (o : ℕ) wher
       by true e = absurd (d (eqb-true own o e))
       by false e = refl
 
-module _ (t : Table) (few : Few) (source : Source) (news : Tests) (s : State) (k : KnowsState t few [] s) (deep : Deep source news s) where
+module _ (t : Table) (few : Few) (source : Source) (news : Tests) (s : State) (mine : (k : Aspect) → news s.env.exec.home k s.env.own ≡ false) (k : KnowsState t few [] s) (deep : Deep source news s) where
   abbrev o : ℕ
   o = this_object s
 
   house : ParkedBy (IsFar t few o) (home.Task s.env.own) s.env.house.parked → owed_parked o s.env.house.parked ≡ 0
   house f = parked_owe t few source news o (home.Task s.env.own) s.env.house.parked k.env.house deep.env.house f
-
-  resting : EnvBy (IsFar t few o) s.env → owed_resting o s.env ≡ 0
-  resting f =
-      let a = house f.house in
-      let b = hand_owes t few source news o s.env.hand k.env.hand deep.env.hand f.hand in
-      omega (arith, a, b)
 
   others_owe : EnvBy (IsFar t few o) (elsewhere t few source s k) → owed_elsewhere o s.env ≡ 0
   others_owe f =
@@ -110,12 +106,12 @@ module _ (t : Table) (few : Few) (source : Source) (news : Tests) (s : State) (k
       let y = entered m r todo c (entering source r s) x.1 in
       let z = own_none t few source news (entering source r s) s.env.own x.2 in
       (x.0, omega (arith, y, z))
-  alone (piece.MadeNow ∷ todo) c h = others_owe h
-  alone (piece.SpawnNow r ∷ todo) c h = others_owe h
-  alone (piece.GoneNow ∷ todo) c h = resting h
-  alone (piece.GiveUpNow ∷ todo) c h = resting h
+  alone (piece.MadeNow ∷ todo) c h = others_owe (h (other_made source news s deep mine todo c))
+  alone (piece.SpawnNow r ∷ todo) c h = others_owe (h (other_spawned source news s deep mine r todo c))
+  alone (piece.GoneNow ∷ todo) c h = others_owe (h (other_gone source news s deep mine todo c))
+  alone (piece.GiveUpNow ∷ todo) c h = others_owe (h (other_given_up source news s deep mine todo c))
   alone [] c h = tt
   alone (p ∷ todo) c h = tt
 
 pub law_apart : LawApart
-law_apart t few source news s k deep h = alone t few source news s k deep s.run.control refl h
+law_apart t few source news s mine k deep h = alone t few source news s mine k deep s.run.control refl h

@@ -17,15 +17,14 @@ use Rattle.uc_machine.specs.Pieces as piece
 use Rattle.uc_machine.specs.Pieces.{Link, Value, Number, Place, Running, Object, Nothing, Todo, Sort, Active, State, Env, Members, further}
 use Rattle.uc_meaning.specs.Runs.{World}
 use Rattle.uc_typing.specs.Typing.{Ty, Cell, Obj, Raw, Row, Sig, Table}
-use Rattle.uc_life_laws.specs.Things.{Few, Within, itself, field, element, AtField, IsFor, Marks, InTodo, Base, Things, Around, Variables, Stands, lies, inside, Held}
+use Rattle.uc_life_laws.specs.Things.{Few, Within, itself, field, element, AtField, IsFor, Marks, InTodo, Base, Things, Stands, lies, inside, Held}
 use Rattle.uc_life_laws.specs.LifeStates.{SlotBy, ParkedBy, HandBy, MembersBy, EnvBy}
 use Rattle.uc_life_laws.specs.Knowing.{AtHand, InMaking, KnowsState}
-use Rattle.uc_life_laws.proofs.Knowns.{held_more, around_hand}
 use Rattle.uc_life_laws.proofs.Reading.{within_raw, not_whole, NoNumber, behind_number}
 use Rattle.uc_life_laws.proofs.Fewer.{both_members, both_env}
 use Rattle.uc_life_laws.specs.Fewer.{Lasts, HandLasts, ExLasts, RunLasts}
 use Rattle.uc_life_laws.specs.Lasting.{lasting_numbers, lasting, WorldLasts}
-use Rattle.uc_life_laws.specs.Rooted.{OwnThings, InSlot, InParked, InHand, InMembers, Lives, IsPlace, Yet, Had, OwnObject, Apart, StageApart, ExApart, RunApart, FreshKeeps, FreshLast, Rooted, LawRooted}
+use Rattle.uc_life_laws.specs.Rooted.{OwnThings, InSlot, InParked, InHand, InMembers, Lives, IsPlace, Yet, Had, OwnObject, Apart, StageApart, ExApart, RunApart, FreshKeeps, FreshLast, IsBase, Rooted, LawRooted}
 
 -- executions that do not run, each with where it is, if it has begun and not ended
 
@@ -115,6 +114,25 @@ module _ (t : Table) where
     things_place n (c ∷ cs) w a (inl m) u e = todo_place (Frame n c.frame) c.this w a c.control m u e
     things_place n (c ∷ cs) w a (inr m) u e = things_place n cs w a m u e
 
+  base_raw : (w : Value) (a : Ty) → IsBase w a → (u : ℕ) → w ≡ Object u → (c : ℕ) × (a ≡ Raw c)
+  base_raw w a (inl h) u e = absurd (base_place w h u e)
+  base_raw w a (inr h) u e = (h.1, h.3)
+
+  -- an object is among things as what is had of others alone
+  pub things_object : (few : Few) (n : Exec) (cs : List Active) (w : Value) (a : Ty) → Things t few n cs w a → (u : ℕ) → w ≡ Object u → Base few n w a
+  things_object few n [] w a m u e = m
+  things_object few n (c ∷ cs) w a (inl m) u e = absurd (todo_place (Frame n c.frame) c.this w a c.control m u e)
+  things_object few n (c ∷ cs) w a (inr m) u e = things_object few n cs w a m u e
+
+  -- and then as one that is not whole, so no whole one lies in it
+  module _ (few : Few) (foreign : (n : Exec) (w : Value) (b : Ty) → Base few n w b → IsBase w b) where
+    pub things_raw : (n : Exec) (cs : List Active) (w : Value) (a : Ty) → Things t few n cs w a → (u c : ℕ) → Within t w a (Object u) (Obj c) → ⊥
+    things_raw n cs w a m u c h =
+        let at = within_object w a (Object u) (Obj c) u h refl in
+        let r = base_raw w a (foreign n w a (things_object few n cs w a m u at)) u at in
+        let e : Obj c ≡ Raw r.0 = within_raw t w r.0 (Object u) (Obj c) (subst (λ d. Within t w d (Object u) (Obj c)) r.1 h) in
+        absurd (cc)
+
   -- what is own, and what is of others
   pub things_split : (few : Few) (n : Exec) (cs : List Active) (w : Value) (a : Ty) → Things t few n cs w a → OwnThings t n cs w a ⊎ Base few n w a
   things_split few n [] w a m = inr m
@@ -143,7 +161,7 @@ module _ (t : Table) where
         absurd (cc)
     stands_things n gs cs b v (inside {o = o} {c} m k h) = inside m (stands_things n gs cs (Obj c) (few.home o) k) h
 
-module _ (t : Table) (few : Few) (j : Journal) (a : List Entry) (x : World) (own : Exec → Value → Ty → Bool) (yet : Exec → List Active → Value → Ty → Bool) (rank : Exec → ℕ) (o : ℕ) (alone : (u : ℕ) → is_gone u j ≡ false → is_gone u (j ++ a) ≡ true → u ≡ o) (places : (n : Exec) (w : Value) (b : Ty) → Base few n w b → IsPlace w) (fresh : FreshLast t few j a x) (r : Rooted t few j a x own yet rank o) where
+module _ (t : Table) (few : Few) (j : Journal) (a : List Entry) (x : World) (own : Exec → Value → Ty → Bool) (yet : Exec → List Active → Value → Ty → Bool) (rank : Exec → ℕ) (o : ℕ) (alone : (u : ℕ) → is_gone u j ≡ false → is_gone u (j ++ a) ≡ true → u ≡ o) (places : (n : Exec) (w : Value) (b : Ty) → Base few n w b → IsBase w b) (fresh : FreshLast t few j a x) (r : Rooted t few j a x own yet rank o) where
   -- what one has of others, but its own object
   abbrev OfOthers : Exec → Value → Ty → Type 0
   OfOthers n w b = Base few n w b × (own n w b ≡ false)
@@ -203,7 +221,7 @@ module _ (t : Table) (few : Few) (j : Journal) (a : List Entry) (x : World) (own
   -- of what some of its activations have at hand: things, and what is being built or destroyed but is not this object
   module _ (n : Exec) (cs : List Active) (i : Lives (j ++ a) x n cs) (gs : List Sig) (ds : List Active) (more : (w : Value) (b : Ty) → Things t few n ds w b → Things t few n cs w b) where
     none_held : Apart t (lasting few j) left o gs ds → (c : ℕ) → Held t (lasting few j) (AtHand t (lasting few j) n gs ds) (Obj c) (Object o) → ⊥
-    none_held p c (inl (lies {w = w} {a = d} (inl k) h)) = things_place t few places n ds w d k o (within_object t w d (Object o) (Obj c) o h refl)
+    none_held p c (inl (lies {w = w} {a = d} (inl k) h)) = things_raw t few places n ds w d k o c h
     none_held p c (inl (lies {w = w} {a = d} (inr k) h)) =
         let q = not_whole t n gs ds w d k in
         let e : Obj c ≡ Raw q.0 = within_raw t w q.0 (Object o) (Obj c) (subst (λ d. Within t w d (Object o) (Obj c)) q.1 h) in
@@ -213,7 +231,7 @@ module _ (t : Table) (few : Few) (j : Journal) (a : List Entry) (x : World) (own
         let same : u ≡ o = cc in
         let s : Stands t few (Things t few n ds) (Cell (Obj d)) (few.home u) = stands_things t few n gs ds (Obj d) (few.home u) (stands_left (AtHand t (lasting few j) n gs ds) (Cell (Obj d)) (few.home u) k) in
         no_home (suc (rank n)) n cs (omega arith) i d (stands_more t few (Things t few n ds) (Had t few yet n cs) (λ w b m. things_had n cs w b (more w b m)) (Cell (Obj d)) (few.home o) (subst (λ (u : ℕ). Stands t few (Things t few n ds) (Cell (Obj d)) (few.home u)) same s))
-    none_held p c (inr h) = ⊎_elim (λ k. things_place t few places n ds h.0 (Raw h.1) k o e) (λ k. ⊎_elim (λ k. p h.1 (subst (λ w. InMaking gs ds w (Raw h.1)) e k)) (λ k. subst NoNumber e (behind_number t n ds h.0 (Raw h.1) k)) k) h.2
+    none_held p c (inr h) = ⊎_elim (λ k. r.beside.unheld n cs i h.1 (subst (λ w. Base few n w (Raw h.1)) e (things_object t few n ds h.0 (Raw h.1) k o e))) (λ k. ⊎_elim (λ k. p h.1 (subst (λ w. InMaking gs ds w (Raw h.1)) e k)) (λ k. subst NoNumber e (behind_number t n ds h.0 (Raw h.1) k)) k) h.2
       where
         e : h.0 ≡ Object o
         e = within_object t h.0 (Obj h.1) (Object o) (Obj c) o h.3 refl

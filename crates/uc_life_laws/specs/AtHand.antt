@@ -1,5 +1,5 @@
 -- Who owes an object anything has it at hand, where all is known that executions can come by.
-use Rattle.std.specs.Prelude.{◌≡◌, ℕ, ◌⊎◌, Bool, true, List, [], ◌∷◌}
+use Rattle.std.specs.Prelude.{◌≡◌, ℕ, ◌⊎◌, Bool, true, false, List, [], ◌∷◌}
 use Rattle.uc_tree.specs.Source.{Source}
 use Rattle.uc_machine.specs.declared.exec.Exec.{Exec}
 use Rattle.uc_machine.specs.declared.exec.Home.TheVariants as home
@@ -49,8 +49,8 @@ module _ (t : Table) (few : Few) (o : ℕ) where
   abbrev pub IsFar : Exec → Ex → Type 0
   IsFar n x = FarBy x.links.stage n x
 
--- just before an object is let go of however deep the task is, none has it at hand that may go on and does not run, but for such as are at home in
--- one that has been built; where a task enters one to destroy it in which it is already, the running execution is not at home there and none of its
+-- just before an object is let go of however deep the task is, which is not its own one, none has it at hand that may go on and does not run, but for
+-- such as are at home there; where a task enters one to destroy it in which it is already, the running execution is not at home there and none of its
 -- activations has it at hand, and it is not the own one
 module _ (t : Table) (few : Few) (source : Source) (s : State) (k : KnowsState t few [] s) where
   -- without what is at home in the object
@@ -63,16 +63,18 @@ module _ (t : Table) (few : Few) (source : Source) (s : State) (k : KnowsState t
       (s.env.exec.home ≡ home.Object (entering source r s) → ⊥) ×
       (IsAtHand t few s.env.exec k.sigs (s.run ∷ s.callers) (entering source r s) → ⊥) ×
       (s.env.own ≡ entering source r s → ⊥)
-  IsApartAt (MadeNow ∷ todo) = EnvBy (IsFar t few (this_object s)) elsewhere
-  IsApartAt (SpawnNow r ∷ todo) = EnvBy (IsFar t few (this_object s)) elsewhere
-  IsApartAt (GoneNow ∷ todo) = EnvBy (IsFar t few (this_object s)) s.env
-  IsApartAt (GiveUpNow ∷ todo) = EnvBy (IsFar t few (this_object s)) s.env
+  IsApartAt (MadeNow ∷ todo) = (s.env.own ≡ this_object s → ⊥) → EnvBy (IsFar t few (this_object s)) elsewhere
+  IsApartAt (SpawnNow r ∷ todo) = (s.env.own ≡ this_object s → ⊥) → EnvBy (IsFar t few (this_object s)) elsewhere
+  IsApartAt (GoneNow ∷ todo) = (s.env.own ≡ this_object s → ⊥) → EnvBy (IsFar t few (this_object s)) elsewhere
+  IsApartAt (GiveUpNow ∷ todo) = (s.env.own ≡ this_object s → ⊥) → EnvBy (IsFar t few (this_object s)) elsewhere
   IsApartAt todo = Unit {0}
 
   abbrev pub IsApart : Type 0
   IsApart = IsApartAt s.run.control
 
+-- then nothing else is owed to it, where of the own object nothing is told
 abbrev pub LawApart : Type 0
 LawApart =
-    (t : Table) (few : Few) (source : Source) (news : Tests) (s : State)
+    (t : Table) (few : Few) (source : Source) (news : Tests) (s : State) →
+    ((k : Aspect) → news s.env.exec.home k s.env.own ≡ false) →
     (k : KnowsState t few [] s) → Deep source news s → IsApart t few source s k → Alone source s

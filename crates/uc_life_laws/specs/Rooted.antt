@@ -60,6 +60,10 @@ IsPlace (piece.Running n) = ⊥
 IsPlace (piece.Object o) = ⊥
 IsPlace piece.Nothing = ⊥
 
+-- what executions may have of others: what is at a place, or a mutex object as one that is not whole
+abbrev pub IsBase : Value → Ty → Type 0
+IsBase w b = IsPlace w ⊎ ((o : ℕ) × (c : ℕ) × (w ≡ piece.Object o) × (b ≡ Raw c))
+
 -- what an execution is still to clean up: what it has marks for, and what else is told, such as that which it is about to destroy
 abbrev pub Yet : Table → (Exec → List Active → Value → Ty → Bool) → Exec → List Active → Value → Ty → Type 0
 Yet t yet n cs w a = OwnThings t n cs w a ⊎ (yet n cs w a ≡ true)
@@ -115,10 +119,11 @@ StandsUpwards t few j x own yet rank =
     (m : Exec) × (ds : List Active) × Lives j x m ds × (rank m < rank n) × Stands t few (Had t few yet m ds) b w
 
 -- after an act that takes out an object: nobody is to clean up that in which it is at home, nor does it stand in the own object of one that
--- lives; and whoever may go on does not build or destroy it
+-- lives, nor has one that lives it of others as one that is not whole; and whoever may go on does not build or destroy it
 pub record RootedBeside (t : Table) (few : Few) (j : Journal) (a : List Entry) (x : World) (own : Exec → Value → Ty → Bool) (yet : Exec → List Active → Value → Ty → Bool) (o : ℕ) : Type 0 where
   pub outside : (n : Exec) (cs : List Active) → Lives (j ++ a) x n cs → (c : ℕ) →
       Stands t few (OwnObject few own n) (Cell (Obj c)) (few.home o) → ⊥
+  pub unheld : (n : Exec) (cs : List Active) → Lives (j ++ a) x n cs → (c : ℕ) → Base few n (piece.Object o) (Raw c) → ⊥
   pub unmarked : (n : Exec) (cs : List Active) → Lives (j ++ a) x n cs → (c : ℕ) →
       Stands t few (Yet t yet n cs) (Cell (Obj c)) (few.home o) → ⊥
   pub tasks : (u : ℕ) → EnvBy (ExApart t (lasting few j) (lasting_numbers few.numbers (j ++ a)) o) (x.tasks u).env
@@ -132,12 +137,12 @@ pub record Rooted (t : Table) (few : Few) (j : Journal) (a : List Entry) (x : Wo
   pub up : StandsUpwards t few (j ++ a) x own yet rank
   pub beside : RootedBeside t few j a x own yet o
 
--- then what has gone is at hand of nobody, if that object alone has gone, what executions have of others are places, those that have not begun
+-- then what has gone is at hand of nobody, if that object alone has gone, what executions have of others are places, or objects that are not whole, those that have not begun
 -- know their own objects alone, and those that have ended have nothing in scope
 abbrev pub LawRooted : Type 0
 LawRooted =
     (t : Table) (few : Few) (j : Journal) (a : List Entry) (x : World) (own : Exec → Value → Ty → Bool)
     (yet : Exec → List Active → Value → Ty → Bool) (rank : Exec → ℕ) (o : ℕ) →
     ((u : ℕ) → is_gone u j ≡ false → is_gone u (j ++ a) ≡ true → u ≡ o) →
-    ((n : Exec) (w : Value) (b : Ty) → Base few n w b → IsPlace w) →
+    ((n : Exec) (w : Value) (b : Ty) → Base few n w b → IsBase w b) →
     FreshLast t few j a x → Rooted t few j a x own yet rank o → WorldLasts t few j a x

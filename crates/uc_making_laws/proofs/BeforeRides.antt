@@ -1,5 +1,5 @@
 -- Just before an object goes, or is given up, it is nowhere in the world, on the way to what is asked next.
-use Rattle.std.proofs.Common.{◌≡◌, ℕ, ◌<◌, inl, inr, List, [], ◌∷◌, ◌++◌, refl, sym, ap, ◌∙◌, subst}
+use Rattle.std.proofs.Common.{◌≡◌, ℕ, ◌<◌, ◌≤◌, inl, inr, List, [], ◌∷◌, ◌++◌, refl, sym, ◌∙◌, subst}
 use Rattle.uc_tree.specs.Source.{Source}
 use Rattle.uc_entry.specs.declared.request.Asked.{Asked}
 use Rattle.uc_acts.specs.Journal.{Journal, held}
@@ -13,6 +13,8 @@ use Rattle.uc_machine.specs.Answering.{answered}
 use Rattle.uc_machine.specs.Rides.{Rides, slices, goes_on, ticks, asks}
 use Rattle.uc_meaning.specs.Runs.{World, Runs, acts, more, drawn, world_after}
 use Rattle.uc_state_laws.proofs.Others.{run_rests, asking as asks_with}
+use Rattle.uc_acts.specs.Stations.{times}
+use Rattle.uc_acts.proofs.Held.{law_held}
 use Rattle.uc_step_laws.specs.Hands.{keys}
 use Rattle.uc_step_laws.specs.Holding.{StepHolding}
 use Rattle.uc_state_laws.specs.RoomRuns as way
@@ -33,7 +35,7 @@ use Rattle.uc_life_laws.specs.Belonging.{Belongs}
 use Rattle.uc_life_laws.specs.Marks.{Marked, Free, Outward, AllLone, LoneState, LoneStep, Puts}
 use Rattle.uc_life_laws.proofs.UnmarkedWalk.{law_steps}
 use Rattle.uc_life_laws.proofs.UnmarkedWorlds.{law_runs}
-use Rattle.uc_apart_laws.specs.Before.{world_at, Before, BeforeAt, NowhereBefore}
+use Rattle.uc_apart_laws.specs.Before.{Before, BeforeAt, IsUnmarked}
 use Rattle.uc_apart_laws.specs.Clear.{ClearEx}
 use Rattle.uc_putting_laws.specs.LoneObjects.{LoneObjectAt, LoneObject}
 use Rattle.uc_rooted_runs.specs.FreshStates.{FreshEnv, FreshStep}
@@ -45,8 +47,8 @@ use Rattle.uc_rooted_runs.proofs.KeptRuns.{keeps_at, run_keeps}
 use Rattle.uc_rooted_runs.proofs.MainRuns.{law_mains}
 use Rattle.uc_making_laws.specs.OwnThis.{ThisState}
 use Rattle.uc_making_laws.specs.RideWhile.{RideWhile}
-use Rattle.uc_making_laws.specs.BeforeRides.{HasNoHome, LiveElsewhere, ElsewhereOnWay, ElsewhereOnWayBy, LawBeforeRides}
-use Rattle.uc_making_laws.proofs.BeforeWorlds.{clear as clear_of, before as nowhere_before}
+use Rattle.uc_making_laws.specs.BeforeRides.{HasNoHome, ElsewhereOnWay, ElsewhereOnWayBy, LawBeforeRides}
+use Rattle.uc_making_laws.proofs.BeforeWorlds.{clear as clear_of, before as unmarked_before}
 use Rattle.uc_making_laws.proofs.ThisRuns.{law_this_runs}
 use Rattle.uc_making_laws.proofs.Upheld.{own_at, ends, settled_next, ride_keys}
 
@@ -125,28 +127,28 @@ law_before_rides t few source input opts j w r range fits on zero leaves spares 
     let e = own_start source input opts range rests on u d.given d.told in
     let same : e.hand ≡ held u j = sym (ride_keys source e.hand d.rides e.settled) ∙ (asks_with source input opts range rests on p u n s q d).hand in
     let there = ride_own t few source j w u e.hand same d.rides e.settled owned in
-    ride_all t few source names.Spares (LoneState t few) (LoneObject t few source) (ThisState t few) (λ v. FreshEnv v.env) (λ v. IsOwn j w u v × (keys v.env.hand ≡ held u j)) (λ v. ElsewhereOnWay t few j w u v source) (λ v. Before t few j w u v source) (λ v l object h f m g.
-    at_state v l object (λ o belongs free k. clear_of t few source j w u lt all.later (all.elsewhere u lt) lone.world (worlds.world on) v l h f m.0 m.1 o belongs free zero k) (λ o k belongs free. nowhere_before t few source j w u lt all.later (all.elsewhere u lt) lone.world (worlds.world on) v l h f m.0 m.1 zero o k belongs free) g) d.rides (ride_lone t few source d.rides put lone_start) objects these.rides.1 fresh_ride there apart
+    ride_all t few source names.Spares (LoneState t few) (LoneObject t few source) (ThisState t few) (λ v. FreshEnv v.env) (λ v. IsOwn j w u v × (keys v.env.hand ≡ held u j)) (λ v. ElsewhereOnWay t few v source) (λ v. Before t few j w u v source) (λ v l object h f m g.
+    at_state v l object (λ o belongs free k. clear_of t few source j w u lt all.later (all.elsewhere u lt) lone.world (worlds.world on) v l h f m.0 m.1 o belongs free zero k) (λ o belongs free. unmarked_before t few source j w u lt all.later (all.elsewhere u lt) lone.world (worlds.world on) v l h f m.0 m.1 o belongs free) (subst (λ l. (q : ℕ) → times q l ≤ 1) (sym m.1) (λ q. (law_held j).once u q)) g) d.rides (ride_lone t few source d.rides put lone_start) objects these.rides.1 fresh_ride there apart
   where
-    at_state : (v : State) → LoneState t few v → LoneObject t few source v → ((o : ℕ) → Belongs few v.env.exec (few.home o) → Free t few o (Marked t v.env.exec (v.run ∷ v.callers)) → EnvBy (HasNoHome t few o) (record v.env { hand = without o v.env.hand }) → EnvBy (ClearEx t few o) (record v.env { hand = without o v.env.hand })) → ((o : ℕ) → LiveElsewhere t few j w u v o → Belongs few v.env.exec (few.home o) → Free t few o (Marked t v.env.exec (v.run ∷ v.callers)) → NowhereBefore t few j w u v o) → ElsewhereOnWay t few j w u v source → Before t few j w u v source
-    at_state v l y clear f g = by v.run.control refl g l.stack.0 y
+    at_state : (v : State) → LoneState t few v → LoneObject t few source v → ((o : ℕ) → Belongs few v.env.exec (few.home o) → Free t few o (Marked t v.env.exec (v.run ∷ v.callers)) → EnvBy (HasNoHome t few o) (record v.env { hand = without o v.env.hand }) → EnvBy (ClearEx t few o) (record v.env { hand = without o v.env.hand })) → ((o : ℕ) → Belongs few v.env.exec (few.home o) → Free t few o (Marked t v.env.exec (v.run ∷ v.callers)) → IsUnmarked t few j w u v o) → ((q : ℕ) → times q (keys v.env.hand) ≤ 1) → ElsewhereOnWay t few v source → Before t few j w u v source
+    at_state v l y clear f once g = by v.run.control refl g l.stack.0 y
       where
-        by : (todo : List Todo) → v.run.control ≡ todo → ElsewhereOnWayBy t few j w u v source todo → AllLone t few v.env.exec v.run.frame v.run.this v.callers v.run.control → LoneObject t few source v → (k : KnowsState t few [] v) → BeforeAt t few j w u v source k v.run.control
+        by : (todo : List Todo) → v.run.control ≡ todo → ElsewhereOnWayBy t few v source todo → AllLone t few v.env.exec v.run.frame v.run.this v.callers v.run.control → LoneObject t few source v → (k : KnowsState t few [] v) → BeforeAt t few j w u v source k v.run.control
         by (piece.GoneNow ∷ todo) e h k object known =
             let at : AllLone t few v.env.exec v.run.frame v.run.this v.callers (piece.GoneNow ∷ todo) = subst (AllLone t few v.env.exec v.run.frame v.run.this v.callers) e k in
             let free = freed t few v.env.exec v.run v.callers (piece.GoneNow ∷ todo) (piece.GoneNow ∷ todo) (this_object v) refl at.0.1 e in
-            subst (λ c. BeforeAt t few j w u v source known c) (sym e) (f (this_object v) (h (at.0.0, free)) at.0.0 free)
+            subst (λ c. BeforeAt t few j w u v source known c) (sym e) (λ away. clear (this_object v) at.0.0 free (h (at.0.0, free) (away, once)), f (this_object v) at.0.0 free)
         by (piece.GiveUpNow ∷ todo) e h k object known =
             let at : AllLone t few v.env.exec v.run.frame v.run.this v.callers (piece.GiveUpNow ∷ todo) = subst (AllLone t few v.env.exec v.run.frame v.run.this v.callers) e k in
             let free = freed t few v.env.exec v.run v.callers (piece.GiveUpNow ∷ todo) (piece.GiveUpNow ∷ todo) (this_object v) refl at.0.1 e in
-            subst (λ c. BeforeAt t few j w u v source known c) (sym e) (f (this_object v) (h (at.0.0, free)) at.0.0 free)
+            subst (λ c. BeforeAt t few j w u v source known c) (sym e) (λ away. clear (this_object v) at.0.0 free (h (at.0.0, free) (away, once)), f (this_object v) at.0.0 free)
         by (piece.MadeNow ∷ todo) e h k object known =
             let at : LoneBefore t few (this_object v) todo v = subst (λ c. LoneObjectAt t few source c v) e object in
             let free = freed t few v.env.exec v.run v.callers (piece.MadeNow ∷ todo) (piece.MadeNow ∷ todo) (this_object v) refl at.1 e in
-            subst (λ c. BeforeAt t few j w u v source known c) (sym e) (clear (this_object v) at.0 free (h (at.0, free)))
+            subst (λ c. BeforeAt t few j w u v source known c) (sym e) (λ away. clear (this_object v) at.0 free (h (at.0, free) (away, once)))
         by (piece.SpawnNow r ∷ todo) e h k object known =
             let at : LoneBefore t few (this_object v) todo v = subst (λ c. LoneObjectAt t few source c v) e object in
             let free = freed t few v.env.exec v.run v.callers (piece.SpawnNow r ∷ todo) (piece.SpawnNow r ∷ todo) (this_object v) refl at.1 e in
-            subst (λ c. BeforeAt t few j w u v source known c) (sym e) (clear (this_object v) at.0 free (h (at.0, free)))
+            subst (λ c. BeforeAt t few j w u v source known c) (sym e) (λ away. clear (this_object v) at.0 free (h (at.0, free) (away, once)))
         by (p ∷ todo) e h k object known = subst (λ c. BeforeAt t few j w u v source known c) (sym e) (h known)
         by [] e h k object known = subst (λ c. BeforeAt t few j w u v source known c) (sym e) (h known)

@@ -1,6 +1,6 @@
 -- While a task has come to where an object goes, or is given up, it is nowhere in the world as it stands then; and of what has been built those are clear
 -- that have nothing of others in which it is at home.
-use Rattle.std.proofs.Common.{◌≡◌, ℕ, ◌==◌, ◌<◌, ◌≤◌, Bool, true, false, List, [], ◌∷◌, Option, Some, None, refl, sym, ap, ◌∙◌, subst, arith, inl, inr, ⊎_elim}
+use Rattle.std.proofs.Common.{◌≡◌, ℕ, ◌==◌, ◌<◌, ◌≤◌, Bool, true, false, List, [], ◌∷◌, Option, Some, None, refl, sym, ap, ◌∙◌, subst, arith, ⊎_elim}
 use Rattle.std.specs.Prelude.{if◌then◌else◌, nat_eq}
 use Rattle.std.proofs.lemmas.Bool.{eqb-true, eq-eqb, ne_eqb}
 use Rattle.uc_tree.specs.Source.{Source, routine_of}
@@ -19,14 +19,14 @@ use Rattle.uc_machine.specs.Quiet.{first_state}
 use Rattle.uc_meaning.specs.Runs.{World, or_else}
 use Rattle.uc_name_laws.proofs.Homes.{no_both}
 use Rattle.uc_life_laws.proofs.NamedWorlds.{found_none}
-use Rattle.uc_typing.specs.Typing.{Ty, Cell, Obj, Table}
-use Rattle.uc_life_laws.specs.Things.{Few, Base, Things, Stands}
+use Rattle.uc_typing.specs.Typing.{Table}
+use Rattle.uc_life_laws.specs.Things.{Few, Things}
 use Rattle.uc_life_laws.specs.LifeStates.{EnvBy, HandBy, MembersBy}
 use Rattle.uc_life_laws.proofs.Cells.{either, tested}
 use Rattle.uc_life_laws.proofs.Parked.{found_hand}
 use Rattle.uc_life_laws.specs.Rooted.{Lives}
 use Rattle.uc_life_laws.proofs.Fewer.{both_members, both_env}
-use Rattle.uc_life_laws.proofs.Rooted.{stands_split, things_split}
+use Rattle.uc_apart_laws.proofs.Clear.{home_split}
 use Rattle.uc_step_laws.specs.Hands.{keys}
 use Rattle.uc_life_laws.specs.OwnNames as own_names
 use Rattle.uc_life_laws.specs.OwnNames.{at_hand, IsElsewhere}
@@ -34,14 +34,13 @@ use Rattle.uc_life_laws.specs.Belonging.{Belongs}
 use Rattle.uc_life_laws.specs.Marks.{Marked, Free, LoneEx, LoneState, Freed}
 use Rattle.uc_life_laws.specs.Unmarked.{LoneWorld, Unmarked}
 use Rattle.uc_life_laws.proofs.Own.{law_own, law_unmarked}
-use Rattle.uc_apart_laws.specs.Before.{world_at, NowhereBefore}
+use Rattle.uc_apart_laws.specs.Before.{world_at, IsUnmarked}
 use Rattle.uc_apart_laws.specs.Clear.{IsNoHome, ClearBy, ClearEx}
-use Rattle.uc_apart_laws.specs.Nowhere.{IsNowhere, SparesEx}
 use Rattle.uc_rooted_runs.specs.FreshStates.{FreshEx, FreshEnv}
 use Rattle.uc_rooted_runs.proofs.UnmarkedRuns.{own_name}
 use Rattle.uc_making_laws.specs.OwnThis.{ThisEx, ThisState}
 use Rattle.uc_making_laws.specs.ThisRuns.{ThisWorld}
-use Rattle.uc_making_laws.specs.BeforeRides.{HasNoHomeBy, HasNoHome, LiveElsewhere}
+use Rattle.uc_making_laws.specs.BeforeRides.{HasNoHomeBy, HasNoHome}
 use Rattle.uc_making_laws.proofs.NoOthers.{in_world, fresh_unopened, law_no_others}
 
 module _ (t : Table) (few : Few) (source : Source) (j : Journal) (w : World) (u : ℕ) (known : u < task_count j) (first : (v : ℕ) → task_count j ≤ v → w.tasks v ≡ first_state (routine_of source source.main) 0) (apart : IsElsewhere j w u) (lone_world : LoneWorld t few w) (this_world : ThisWorld t few w) (s : State) (lone : LoneState t few s) (this : ThisState t few s) (fresh : FreshEnv s.env) where
@@ -118,6 +117,9 @@ module _ (t : Table) (few : Few) (source : Source) (j : Journal) (w : World) (u 
       free_slots : EnvBy (λ n y. Free t few o (Marked t n (y.run ∷ y.callers))) s.env
       free_slots = subst (λ (m : State). EnvBy (λ n y. Free t few o (Marked t n (y.run ∷ y.callers))) m.env) same (unmarked.tasks u)
 
+      pub before : IsUnmarked t few j w u s o
+      before = record { belongs = belongs; free = free_there }
+
       module _ (zero : (n : Exec) → Belongs few n (few.home 0) → ⊥) where
         not_first : o ≡ 0 → ⊥
         not_first e = zero s.env.exec (subst (λ (q : ℕ). Belongs few s.env.exec (few.home q)) e belongs)
@@ -132,7 +134,7 @@ module _ (t : Table) (few : Few) (source : Source) (j : Journal) (w : World) (u 
         clear_by : (g : Stage) (n : Exec) (y : Execution (List Todo) Value) → y.links.stage ≡ g → IsOther n y → HasNoHomeBy t few o g n → ClearBy t few o g n y
         clear_by Fresh n y e a b = fresh_unopened y.links.stage n y e a.fresh_one
         clear_by Started n y e a b =
-            let none : IsNoHome t few o (Things t few n (y.run ∷ y.callers)) = λ c h. ⊎_elim (λ m. a.free_one c m) (λ k. b c k) (stands_split t few (Things t few n (y.run ∷ y.callers)) (Marked t n (y.run ∷ y.callers)) (Base few n) (things_split t few n (y.run ∷ y.callers)) (Cell (Obj c)) (few.home o) h) in
+            let none : IsNoHome t few o (Things t few n (y.run ∷ y.callers)) = λ c h. ⊎_elim (λ m. a.free_one c m) (λ k. b c k) (home_split t few o n (y.run ∷ y.callers) c h) in
             λ k. (law_no_others.making t few o k.sigs (y.run ∷ y.callers) (law_no_others.none t few o n (y.run ∷ y.callers) a.own_this not_first (λ q. a.other (law_own few n s.env.exec (few.home o) q belongs)) none), none)
         clear_by Ended n y e a b = tt
 
@@ -150,15 +152,3 @@ module _ (t : Table) (few : Few) (source : Source) (j : Journal) (w : World) (u 
         pub clear : EnvBy (HasNoHome t few o) (record s.env { hand = without o s.env.hand }) → EnvBy (ClearEx t few o) (record s.env { hand = without o s.env.hand })
         clear b =
             both_env IsOther (HasNoHome t few o) (ClearEx t few o) (λ n y a b. clear_by y.links.stage n y refl a b) (record s.env { hand = without o s.env.hand }) (record { house = others.house; hand = without_hand s.env.hand others.hand }) b
-
-    module _ (zero : (n : Exec) → Belongs few n (few.home 0) → ⊥) (o : ℕ) (apart_there : LiveElsewhere t few j w u s o) (belongs : Belongs few s.env.exec (few.home o)) (free : Free t few o (Marked t s.env.exec (s.run ∷ s.callers))) where
-      nowhere : IsNowhere t few j (world_at w u s) o
-      nowhere = record { bare = apart_there; unmarked = free_there o belongs free }
-
-      pub before : NowhereBefore t few j w u s o
-      before = record {
-        nowhere = nowhere;
-        spares =
-            let there = law_no_others.spares t few j (world_at w u s) u o nowhere this_there (not_first o belongs free zero) (subst (λ (m : Exec). Belongs few m (few.home o)) (sym run_same) belongs) u (subst (λ (m : Exec). EnvBy (λ n y. n ≡ m → ⊥) (if u == u then s else w.tasks u).env) (sym run_same) (subst (λ (m : State). EnvBy (λ n y. n ≡ s.env.exec → ⊥) m.env) (sym same) own.alone)) (subst (λ (m : State). EnvBy FreshEx m.env) (sym same) fresh.slots) in
-            subst (λ (m : State). EnvBy (SparesEx t few o) m.env) same there;
-      }

@@ -1,5 +1,5 @@
 -- To-do lists in which an object is still to be let go of.
-use Rattle.std.proofs.Common.{◌≡◌, ℕ, zero, suc, ◌⊎◌, inl, inr, Bool, true, false, List, [], ◌∷◌, Option, Some, None, refl}
+use Rattle.std.proofs.Common.{◌≡◌, ℕ, zero, suc, ◌⊎◌, inl, inr, ◌||◌, Bool, true, false, List, ◌∷◌, Option, Some, None, refl, ⊎_elim}
 use Rattle.std.specs.Prelude.{nat_eq}
 use Rattle.uc_tree.specs.Source as src
 use Rattle.uc_tree.specs.Source.{Shape, Expr, Stmt, Stmts, Order, Way, CleanUp, Handlers, Clauses, Raised, Item, Routine}
@@ -10,31 +10,41 @@ use Rattle.uc_machine.specs.Quiet as quiet
 use Rattle.uc_machine.specs.Pieces as piece
 use Rattle.uc_machine.specs.Pieces.{Todo, Sort}
 use Rattle.uc_life_laws.proofs.Cells.{either}
-use Rattle.uc_putting_laws.specs.ObjectsAtHand.{lets_go}
-use Rattle.uc_making_laws.specs.LettingGo.{opens_object}
-use Rattle.uc_making_laws.specs.Builders.{lets_first, Lets}
+use Rattle.uc_making_laws.specs.Builders.{lets_built, lets_first, Lets}
+
+pub either_of : (b c : Bool) → (b || c) ≡ true → (b ≡ true) ⊎ (c ≡ true)
+either_of true c h = inl refl
+either_of false c h = inr h
+
+pub or_first : (b c : Bool) → b ≡ true → (b || c) ≡ true
+or_first true c h = refl
+or_first false c h = absurd (cc)
+
+pub or_second : (b c : Bool) → c ≡ true → (b || c) ≡ true
+or_second true c h = refl
+or_second false c h = h
 
 -- `N`: the execution is named so; `C`: one of those that wait is to let go of the object; `O`: the activation is of it
-module _ (N C O : Type 0) where
+module _ (every : Bool) (N C O : Type 0) where
   -- it waits, or runs, with this to do
   abbrev pub Waiting : List Todo → Type 0
-  Waiting todo = N → C ⊎ (O × (lets_go todo ≡ true))
+  Waiting todo = N → C ⊎ (O × (lets_built every todo ≡ true))
 
   abbrev pub Running : List Todo → Type 0
-  Running todo = N → C ⊎ (O × Lets todo)
+  Running todo = N → C ⊎ (O × Lets every todo)
 
   pub runs : (todo : List Todo) → Waiting todo → Running todo
   runs todo h = λ n. by (h n)
     where
-      by : C ⊎ (O × (lets_go todo ≡ true)) → C ⊎ (O × Lets todo)
+      by : C ⊎ (O × (lets_built every todo ≡ true)) → C ⊎ (O × Lets every todo)
       by (inl c) = inl c
       by (inr m) = inr (m.0, inl m.1)
 
   -- what comes first does not let go of it
-  pub busy : (todo : List Todo) → (N → C ⊎ (O × ((lets_go todo ≡ true) ⊎ (false ≡ true)))) → Waiting todo
+  pub busy : (todo : List Todo) → (N → C ⊎ (O × ((lets_built every todo ≡ true) ⊎ (false ≡ true)))) → Waiting todo
   busy todo h = λ n. by (h n)
     where
-      by : C ⊎ (O × ((lets_go todo ≡ true) ⊎ (false ≡ true))) → C ⊎ (O × (lets_go todo ≡ true))
+      by : C ⊎ (O × ((lets_built every todo ≡ true) ⊎ (false ≡ true))) → C ⊎ (O × (lets_built every todo ≡ true))
       by (inl c) = inl c
       by (inr (o, inl m)) = inr (o, m)
       by (inr (o, inr x)) = absurd (cc)
@@ -43,9 +53,18 @@ module _ (N C O : Type 0) where
   pub others : (A : Type 0) → (O → A) → (A → ⊥) → (todo : List Todo) → (b : List Todo) → Running b → Waiting todo
   others A f g todo b h = λ n. by (h n)
     where
-      by : C ⊎ (O × Lets b) → C ⊎ (O × (lets_go todo ≡ true))
+      by : C ⊎ (O × Lets every b) → C ⊎ (O × (lets_built every todo ≡ true))
       by (inl c) = inl c
       by (inr m) = absurd (g (f m.0))
+
+  -- so it does where of every object that is not asked; where it is of those that are tasks, this lets go of none
+  pub no_made : (A : Type 0) → (O → A) → (A × (every ≡ true) → ⊥) → (todo : List Todo) → Running (piece.MadeNow ∷ todo) → Waiting todo
+  no_made A f g todo h = λ n. by (h n)
+    where
+      by : C ⊎ (O × Lets every (piece.MadeNow ∷ todo)) → C ⊎ (O × (lets_built every todo ≡ true))
+      by (inl c) = inl c
+      by (inr (o, inl l)) = inr (o, l)
+      by (inr (o, inr e)) = absurd (g (f o, e))
 
   -- what a piece is for one who leaves it
   abbrev pub OfSort : Sort → List Todo → Type 0
@@ -77,7 +96,8 @@ module _ (N C O : Type 0) where
   exit_clean w src.Forgets todo h = h
   exit_clean w src.Leaves todo h = h
   exit_clean w src.Ends todo h = h
-  exit_clean w (src.Frees r) todo h = h
+  exit_clean w (src.Frees None) todo h = h
+  exit_clean w (src.Frees (Some r)) todo h = h
   exit_clean w (src.Restores k) todo h = h
 
   pub left_behind : (w : Way) (k : Sort) (todo : List Todo) → OfSort k todo → Waiting (quiet.left_behind w k todo)
@@ -94,10 +114,10 @@ module _ (N C O : Type 0) where
 
   -- clean-ups
 
-  now : (todo : List Todo) (b : List Todo) → lets_first b ≡ true → Waiting todo → Running b
+  now : (todo : List Todo) (b : List Todo) → lets_first every b ≡ true → Waiting todo → Running b
   now todo b e h = λ n. by (h n)
     where
-      by : C ⊎ (O × (lets_go todo ≡ true)) → C ⊎ (O × Lets b)
+      by : C ⊎ (O × (lets_built every todo ≡ true)) → C ⊎ (O × Lets every b)
       by (inl c) = inl c
       by (inr m) = inr (m.0, inr e)
 
@@ -108,7 +128,11 @@ module _ (N C O : Type 0) where
   cleans src.Forgets todo h = runs (piece.ForgetNow ∷ todo) h
   cleans src.Leaves todo h = runs (piece.LeaveNow ∷ todo) h
   cleans src.Ends todo h = now (piece.Clean src.Ends ∷ todo) (piece.GoneNow ∷ todo) refl h
-  cleans (src.Frees None) todo h = now (piece.Clean (src.Frees None) ∷ todo) (piece.MadeNow ∷ todo) refl h
+  cleans (src.Frees None) todo h = λ n. by (h n)
+    where
+      by : C ⊎ (O × ((every || lets_built every todo) ≡ true)) → C ⊎ (O × Lets every (piece.MadeNow ∷ todo))
+      by (inl c) = inl c
+      by (inr m) = inr (m.0, ⊎_elim (λ e. inr e) (λ l. inl l) (either_of every (lets_built every todo) m.1))
   cleans (src.Frees (Some r)) todo h = now (piece.Clean (src.Frees (Some r)) ∷ todo) (piece.SpawnNow r ∷ todo) refl h
   cleans (src.Restores k) todo h = runs (piece.RestoreNow k ∷ todo) h
 
@@ -137,12 +161,19 @@ module _ (N C O : Type 0) where
   pub opens : (c : CleanUp) (ss : Stmts) (todo : List Todo) → Running (piece.Rest (src.Scoped c ss) ∷ todo) → Waiting (piece.Rest ss ∷ (piece.Clean c ∷ todo))
   opens src.Ends ss todo h = λ n. by (h n)
     where
-      by : C ⊎ (O × Lets (piece.Rest (src.Scoped src.Ends ss) ∷ todo)) → C ⊎ (O × (true ≡ true))
+      by : C ⊎ (O × Lets every (piece.Rest (src.Scoped src.Ends ss) ∷ todo)) → C ⊎ (O × ((every || lets_built every todo) ≡ true))
       by (inl c) = inl c
-      by (inr m) = inr (m.0, refl)
-  opens (src.Frees r) ss todo h = λ n. by (h n)
+      by (inr (o, inl l)) = inr (o, or_second every (lets_built every todo) l)
+      by (inr (o, inr e)) = inr (o, or_first every (lets_built every todo) e)
+  opens (src.Frees None) ss todo h = λ n. by (h n)
     where
-      by : C ⊎ (O × Lets (piece.Rest (src.Scoped (src.Frees r) ss) ∷ todo)) → C ⊎ (O × (true ≡ true))
+      by : C ⊎ (O × Lets every (piece.Rest (src.Scoped (src.Frees None) ss) ∷ todo)) → C ⊎ (O × ((every || lets_built every todo) ≡ true))
+      by (inl c) = inl c
+      by (inr (o, inl l)) = inr (o, or_second every (lets_built every todo) l)
+      by (inr (o, inr e)) = inr (o, or_first every (lets_built every todo) e)
+  opens (src.Frees (Some r)) ss todo h = λ n. by (h n)
+    where
+      by : C ⊎ (O × Lets every (piece.Rest (src.Scoped (src.Frees (Some r)) ss) ∷ todo)) → C ⊎ (O × (true ≡ true))
       by (inl c) = inl c
       by (inr m) = inr (m.0, refl)
   opens (src.Destroys e) ss todo h = busy (piece.Rest ss ∷ (piece.Clean (src.Destroys e) ∷ todo)) h

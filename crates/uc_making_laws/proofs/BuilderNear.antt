@@ -1,5 +1,5 @@
 -- States in which who makes an object builds it, or is about to: steps and rides keep that.
-use Rattle.std.proofs.Common.{◌≡◌, ℕ, suc, ◌<◌, ◌≤◌, ◌⊎◌, inl, inr, ◌∙◌, Bool, true, false, List, [], ◌∷◌, length, drop, Option, Some, None, refl, sym, ap, subst, arith}
+use Rattle.std.proofs.Common.{◌≡◌, ℕ, ◌<◌, ◌⊎◌, inl, inr, ◌∙◌, Bool, true, false, List, [], ◌∷◌, length, drop, Option, Some, None, refl, sym, ap, subst, arith}
 use Rattle.std.specs.Prelude.{slice_get, slice_set, nat_lt}
 use Rattle.uc_tree.specs.declared.limits.TheConstants.{CALLS}
 use Rattle.uc_tree.specs.Source.{Routine, Source}
@@ -28,23 +28,22 @@ use Rattle.uc_name_laws.proofs.Walk.{walk}
 use Rattle.uc_life_laws.proofs.Cells.{either}
 use Rattle.uc_life_laws.proofs.NamedWorlds.{vacuous}
 use Rattle.uc_depth_laws.proofs.Depths.{set_top}
-use Rattle.uc_putting_laws.specs.ObjectsAtHand.{lets_go, IsBuilt}
-use Rattle.uc_making_laws.specs.LettingGo.{opens_object}
-use Rattle.uc_making_laws.specs.Builders.{Lets, AsksLetting, BuildsState, BuildsStep, BuildingAt}
-use Rattle.uc_making_laws.specs.BuilderRuns.{opens_by, Calls, FinishesBy, Finishes, opens_so, CalledNext, Nears, Here, NearState}
+use Rattle.uc_making_laws.specs.Builders.{Building, lets_built, opens_built, Lets, AsksLetting, BuildsState, BuildsStep, BuildingAt}
+use Rattle.uc_inner_laws.specs.Standing.{Calls}
+use Rattle.uc_making_laws.specs.BuilderRuns.{opens_by, FinishesBy, Finishes, opens_so, CalledNext, Nears, Here, NearState}
 use Rattle.uc_making_laws.proofs.BuilderKeeping as kept
 use Rattle.uc_making_laws.proofs.BuilderWalk.{law_builders}
 
-module _ (source : Source) (thing : ℕ) (name : Exec) where
+module _ (source : Source) (every : Bool) (thing : ℕ) (name : Exec) where
   abbrev NearStep : Step → Type 0
-  NearStep (Goes s) = NearState source thing name s
-  NearStep (Ticks s) = NearState source thing name s
-  NearStep (Asks r s) = (AsksLetting thing name r → ⊥) → BuildsState thing name s
+  NearStep (Goes s) = NearState source every thing name s
+  NearStep (Ticks s) = NearState source every thing name s
+  NearStep (Asks r s) = (AsksLetting every thing name r → ⊥) → BuildsState every thing name s
 
-  pub near_of : (s : State) → BuildsState thing name s → NearState source thing name s
+  pub near_of : (s : State) → BuildsState every thing name s → NearState source every thing name s
   near_of s h = record { stack = λ n. inl (h.stack n); env = h.env }
 
-  of_step : (x : Step) → BuildsStep thing name x → NearStep x
+  of_step : (x : Step) → BuildsStep every thing name x → NearStep x
   of_step (Goes s) h = near_of s h
   of_step (Ticks s) h = near_of s h
   of_step (Asks r s) h = h
@@ -53,7 +52,7 @@ module _ (source : Source) (thing : ℕ) (name : Exec) where
   abbrev IsNew : State → Type 0
   IsNew s = (x : Members) → members_at (home_at s.run.this s.env) s.env ≡ Some x → new_exec (home_at s.run.this s.env) s.env ≡ name → ⊥
 
-  building : (l : List Todo) (s : State) → IsNew s → FinishesBy l → BuildingAt thing name l s
+  building : (l : List Todo) (s : State) → IsNew s → FinishesBy every l → BuildingAt every thing name l s
   building (piece.SetUpNow r ∷ todo) s f g = f
   building (piece.Finish ∷ todo) s f g = g
   building [] s f g = tt
@@ -62,94 +61,94 @@ module _ (source : Source) (thing : ℕ) (name : Exec) where
   params_some : (k : ℕ) (x : Routine) → slice_get source.routines k ≡ Some x → params source k ≡ x.params
   params_some k x e = ap params_at e
 
-  opens_some : (k : ℕ) (x : Routine) → slice_get source.routines k ≡ Some x → opens_so source thing name k ≡ true → opens_object x.body ≡ true
-  opens_some k x e h = sym (ap opens_by e) ∙ h
+  opens_some : (k : ℕ) (x : Routine) → slice_get source.routines k ≡ Some x → opens_so source every thing name k ≡ true → opens_built every x.body ≡ true
+  opens_some k x e h = sym (ap (opens_by every) e) ∙ h
 
-  opens_none : (k : ℕ) → slice_get source.routines k ≡ None → opens_so source thing name k ≡ true → ⊥
-  opens_none k e h = let x = sym (ap opens_by e) ∙ h in absurd (cc)
+  opens_none : (k : ℕ) → slice_get source.routines k ≡ None → opens_so source every thing name k ≡ true → ⊥
+  opens_none k e h = let x = sym (ap (opens_by every) e) ∙ h in absurd (cc)
 
-  module _ (s : State) (h : NearState source thing name s) where
+  module _ (s : State) (h : NearState source every thing name s) where
     -- what comes first does not let go of the object
     abbrev Rest : List Todo → Type 0
-    Rest todo = IsBuilt s.callers thing ⊎ ((s.run.this ≡ Object thing) × (lets_go todo ≡ true))
+    Rest todo = Building every s.callers thing ⊎ ((s.run.this ≡ Object thing) × (lets_built every todo ≡ true))
 
-    busy : (todo : List Todo) → IsBuilt s.callers thing ⊎ ((s.run.this ≡ Object thing) × ((lets_go todo ≡ true) ⊎ (false ≡ true))) → Rest todo
+    busy : (todo : List Todo) → Building every s.callers thing ⊎ ((s.run.this ≡ Object thing) × ((lets_built every todo ≡ true) ⊎ (false ≡ true))) → Rest todo
     busy todo (inl c) = inl c
     busy todo (inr (e, inl l)) = inr (e, l)
     busy todo (inr (e, inr x)) = absurd (cc)
 
-    here : (todo : List Todo) → Rest todo → IsBuilt s.callers thing ⊎ ((s.run.this ≡ Object thing) × Lets todo)
+    here : (todo : List Todo) → Rest todo → Building every s.callers thing ⊎ ((s.run.this ≡ Object thing) × Lets every todo)
     here todo (inl c) = inl c
     here todo (inr m) = inr (m.0, inl m.1)
 
-    waits : (todo : List Todo) (vs : List Value) → Rest todo → IsBuilt (record s.run { control = todo; operands = vs } ∷ s.callers) thing
+    waits : (todo : List Todo) (vs : List Value) → Rest todo → Building every (record s.run { control = todo; operands = vs } ∷ s.callers) thing
     waits todo vs (inl c) = inr c
     waits todo vs (inr m) = inl m
 
     -- no such call comes next
-    plain : (l : List Todo) → s.run.control ≡ l → (Nears source thing name l s.run.operands → ⊥) → IsNew s → FinishesBy l → NearStep (quiet.act_todo source l s)
+    plain : (l : List Todo) → s.run.control ≡ l → (Nears source every thing name l s.run.operands → ⊥) → IsNew s → FinishesBy every l → NearStep (quiet.act_todo source l s)
     plain l e f new fin =
-        let st : BuildsState thing name s = record { stack = λ n. only (h.stack n); env = h.env } in
-        subst (λ l. NearStep (quiet.act_todo source l s)) e (of_step (quiet.quiet source s) (law_builders.steps thing name source s st (building s.run.control s new (subst FinishesBy (sym e) fin))))
+        let st : BuildsState every thing name s = record { stack = λ n. only (h.stack n); env = h.env } in
+        subst (λ l. NearStep (quiet.act_todo source l s)) e (of_step (quiet.quiet source s) (law_builders.steps every thing name source s st (building s.run.control s new (subst (FinishesBy every) (sym e) fin))))
       where
-        only : Here source thing name s ⊎ Nears source thing name s.run.control s.run.operands → Here source thing name s
+        only : Here source every thing name s ⊎ Nears source every thing name s.run.control s.run.operands → Here source every thing name s
         only (inl x) = x
-        only (inr x) = absurd (f (subst (λ l. Nears source thing name l s.run.operands) e x))
+        only (inr x) = absurd (f (subst (λ l. Nears source every thing name l s.run.operands) e x))
 
     -- the object is bound
 
-    called : (k : ℕ) (x : Routine) → slice_get source.routines k ≡ Some x → (todo : List Todo) (vs : List Value) (v : Value) → Calls k todo → opens_so source thing name k ≡ true → v ≡ Object thing → params source k < length vs → Nears source thing name todo (slice_set vs x.params v)
+    called : (k : ℕ) (x : Routine) → slice_get source.routines k ≡ Some x → (todo : List Todo) (vs : List Value) (v : Value) → Calls k todo → opens_so source every thing name k ≡ true → v ≡ Object thing → params source k < length vs → Nears source every thing name todo (slice_set vs x.params v)
     called k x e (piece.CallOnNow i ∷ todo) vs v c o q l =
-        subst (λ i. CalledNext source thing name i (slice_set vs x.params v)) (sym c) (o, subst (λ n. top (drop n (slice_set vs x.params v)) ≡ Object thing) (sym (params_some k x e)) (set_top x.params vs v (subst (λ n. n < length vs) (params_some k x e) l) ∙ q))
+        subst (λ i. CalledNext source every thing name i (slice_set vs x.params v)) (sym c) (o, subst (λ n. top (drop n (slice_set vs x.params v)) ≡ Object thing) (sym (params_some k x e)) (set_top x.params vs v (subst (λ n. n < length vs) (params_some k x e) l) ∙ q))
     called k x e (piece.CallUnwrittenNow i ∷ todo) vs v c o q l =
-        subst (λ i. CalledNext source thing name i (slice_set vs x.params v)) (sym c) (o, subst (λ n. top (drop n (slice_set vs x.params v)) ≡ Object thing) (sym (params_some k x e)) (set_top x.params vs v (subst (λ n. n < length vs) (params_some k x e) l) ∙ q))
+        subst (λ i. CalledNext source every thing name i (slice_set vs x.params v)) (sym c) (o, subst (λ n. top (drop n (slice_set vs x.params v)) ≡ Object thing) (sym (params_some k x e)) (set_top x.params vs v (subst (λ n. n < length vs) (params_some k x e) l) ∙ q))
     called k x e [] vs v c o q l = absurd c
     called k x e (p ∷ todo) vs v c o q l = absurd c
 
     bind : (c k : ℕ) (todo : List Todo) → s.run.control ≡ piece.BindMadeNow c k ∷ todo → (r : Option Routine) → slice_get source.routines k ≡ r → NearStep (monitors.bind_step r todo s)
-    bind c k todo z None e = λ f. record { stack = λ n. by (subst (λ l. (IsBuilt s.callers thing ⊎ ((s.run.this ≡ Object thing) × Lets l)) ⊎ Nears source thing name l s.run.operands) z (h.stack n)); env = h.env }
+    bind c k todo z None e = λ f. record { stack = λ n. by (subst (λ l. (Building every s.callers thing ⊎ ((s.run.this ≡ Object thing) × Lets every l)) ⊎ Nears source every thing name l s.run.operands) z (h.stack n)); env = h.env }
       where
-        by : (IsBuilt s.callers thing ⊎ ((s.run.this ≡ Object thing) × Lets (piece.BindMadeNow c k ∷ todo))) ⊎ Nears source thing name (piece.BindMadeNow c k ∷ todo) s.run.operands → IsBuilt s.callers thing ⊎ ((s.run.this ≡ Object thing) × Lets todo)
+        by : (Building every s.callers thing ⊎ ((s.run.this ≡ Object thing) × Lets every (piece.BindMadeNow c k ∷ todo))) ⊎ Nears source every thing name (piece.BindMadeNow c k ∷ todo) s.run.operands → Building every s.callers thing ⊎ ((s.run.this ≡ Object thing) × Lets every todo)
         by (inl x) = here todo (busy todo x)
         by (inr x) = absurd (opens_none k e x.1)
     bind c k todo z (Some x) e =
-        let w = kept.written_keeps thing name (top (drop x.params (below s.run.operands))) (top s.run.operands) s.env h.env in
-        record { stack = λ n. by (subst (λ l. (IsBuilt s.callers thing ⊎ ((s.run.this ≡ Object thing) × Lets l)) ⊎ Nears source thing name l s.run.operands) z (h.stack (sym w.exec ∙ n))); env = w.env }
+        let w = kept.written_keeps every thing name (top (drop x.params (below s.run.operands))) (top s.run.operands) s.env h.env in
+        record { stack = λ n. by (subst (λ l. (Building every s.callers thing ⊎ ((s.run.this ≡ Object thing) × Lets every l)) ⊎ Nears source every thing name l s.run.operands) z (h.stack (sym w.exec ∙ n))); env = w.env }
       where
-        by : (IsBuilt s.callers thing ⊎ ((s.run.this ≡ Object thing) × Lets (piece.BindMadeNow c k ∷ todo))) ⊎ Nears source thing name (piece.BindMadeNow c k ∷ todo) s.run.operands → (IsBuilt s.callers thing ⊎ ((s.run.this ≡ Object thing) × Lets todo)) ⊎ Nears source thing name todo (slice_set (below s.run.operands) x.params (top s.run.operands))
+        by : (Building every s.callers thing ⊎ ((s.run.this ≡ Object thing) × Lets every (piece.BindMadeNow c k ∷ todo))) ⊎ Nears source every thing name (piece.BindMadeNow c k ∷ todo) s.run.operands → (Building every s.callers thing ⊎ ((s.run.this ≡ Object thing) × Lets every todo)) ⊎ Nears source every thing name todo (slice_set (below s.run.operands) x.params (top s.run.operands))
         by (inl y) = inl (here todo (busy todo y))
         by (inr y) = inr (called k x e todo (below s.run.operands) (top s.run.operands) y.0 y.1 y.2 y.3)
 
     -- it is built
 
-    begun : (k : ℕ) (x : Routine) → slice_get source.routines k ≡ Some x → (counts : Bool) (todo : List Todo) → (name_of : s.env.exec ≡ name → (IsBuilt s.callers thing ⊎ ((s.run.this ≡ Object thing) × ((lets_go todo ≡ true) ⊎ (false ≡ true)))) ⊎ CalledNext source thing name k s.run.operands) → NearStep (quiet.begun_step x (top (drop x.params s.run.operands)) counts todo (below (drop x.params s.run.operands)) s)
-    begun k x e counts todo f = record { stack = λ n. by (f n); env = kept.like thing name h.env refl refl refl }
+    begun : (k : ℕ) (x : Routine) → slice_get source.routines k ≡ Some x → (counts : Bool) (todo : List Todo) → (name_of : s.env.exec ≡ name → (Building every s.callers thing ⊎ ((s.run.this ≡ Object thing) × ((lets_built every todo ≡ true) ⊎ (false ≡ true)))) ⊎ CalledNext source every thing name k s.run.operands) → NearStep (quiet.begun_step x (top (drop x.params s.run.operands)) counts todo (below (drop x.params s.run.operands)) s)
+    begun k x e counts todo f = record { stack = λ n. by (f n); env = kept.like every thing name h.env refl refl refl }
       where
-        own : CalledNext source thing name k s.run.operands → top (drop x.params s.run.operands) ≡ Object thing
+        own : CalledNext source every thing name k s.run.operands → top (drop x.params s.run.operands) ≡ Object thing
         own y = subst (λ n. top (drop n s.run.operands) ≡ Object thing) (params_some k x e) y.1
 
-        by : (IsBuilt s.callers thing ⊎ ((s.run.this ≡ Object thing) × ((lets_go todo ≡ true) ⊎ (false ≡ true)))) ⊎ CalledNext source thing name k s.run.operands → (IsBuilt (record s.run { control = todo; operands = below (drop x.params s.run.operands) } ∷ s.callers) thing ⊎ ((top (drop x.params s.run.operands) ≡ Object thing) × Lets (quiet.routine_todo x))) ⊎ Nears source thing name (quiet.routine_todo x) []
+        by : (Building every s.callers thing ⊎ ((s.run.this ≡ Object thing) × ((lets_built every todo ≡ true) ⊎ (false ≡ true)))) ⊎ CalledNext source every thing name k s.run.operands → (Building every (record s.run { control = todo; operands = below (drop x.params s.run.operands) } ∷ s.callers) thing ⊎ ((top (drop x.params s.run.operands) ≡ Object thing) × Lets every (quiet.routine_todo x))) ⊎ Nears source every thing name (quiet.routine_todo x) []
         by (inl y) = inl (inl (waits todo (below (drop x.params s.run.operands)) (busy todo y)))
         by (inr y) = inl (inr (own y, inr (opens_some k x e y.0)))
 
     call_on : (k : ℕ) (todo : List Todo) → s.run.control ≡ piece.CallOnNow k ∷ todo → (r : Option Routine) → slice_get source.routines k ≡ r → NearStep (quiet.call_on_step r todo s)
-    call_on k todo z None e = λ f. record { stack = λ n. by (subst (λ l. (IsBuilt s.callers thing ⊎ ((s.run.this ≡ Object thing) × Lets l)) ⊎ Nears source thing name l s.run.operands) z (h.stack n)); env = h.env }
+    call_on k todo z None e = λ f. record { stack = λ n. by (subst (λ l. (Building every s.callers thing ⊎ ((s.run.this ≡ Object thing) × Lets every l)) ⊎ Nears source every thing name l s.run.operands) z (h.stack n)); env = h.env }
       where
-        by : (IsBuilt s.callers thing ⊎ ((s.run.this ≡ Object thing) × Lets (piece.CallOnNow k ∷ todo))) ⊎ Nears source thing name (piece.CallOnNow k ∷ todo) s.run.operands → IsBuilt s.callers thing ⊎ ((s.run.this ≡ Object thing) × Lets todo)
+        by : (Building every s.callers thing ⊎ ((s.run.this ≡ Object thing) × Lets every (piece.CallOnNow k ∷ todo))) ⊎ Nears source every thing name (piece.CallOnNow k ∷ todo) s.run.operands → Building every s.callers thing ⊎ ((s.run.this ≡ Object thing) × Lets every todo)
         by (inl x) = here todo (busy todo x)
         by (inr x) = absurd (opens_none k e x.0)
     call_on k todo z (Some x) e =
-        either NearStep (nat_lt s.env.links.calls CALLS) _ (quiet.fault Depth todo s.run.operands s) (begun k x e true todo (λ n. subst (λ l. (IsBuilt s.callers thing ⊎ ((s.run.this ≡ Object thing) × Lets l)) ⊎ Nears source thing name l s.run.operands) z (h.stack n))) (λ y. absurd (y tt))
+        either NearStep (nat_lt s.env.links.calls CALLS) _ (quiet.fault Depth todo s.run.operands s) (begun k x e true todo (λ n. subst (λ l. (Building every s.callers thing ⊎ ((s.run.this ≡ Object thing) × Lets every l)) ⊎ Nears source every thing name l s.run.operands) z (h.stack n))) (λ y. absurd (y tt))
 
     call_unwritten : (k : ℕ) (todo : List Todo) → s.run.control ≡ piece.CallUnwrittenNow k ∷ todo → (r : Option Routine) → slice_get source.routines k ≡ r → NearStep (quiet.call_unwritten_step r todo s)
-    call_unwritten k todo z None e = λ f. record { stack = λ n. by (subst (λ l. (IsBuilt s.callers thing ⊎ ((s.run.this ≡ Object thing) × Lets l)) ⊎ Nears source thing name l s.run.operands) z (h.stack n)); env = h.env }
+    call_unwritten k todo z None e = λ f. record { stack = λ n. by (subst (λ l. (Building every s.callers thing ⊎ ((s.run.this ≡ Object thing) × Lets every l)) ⊎ Nears source every thing name l s.run.operands) z (h.stack n)); env = h.env }
       where
-        by : (IsBuilt s.callers thing ⊎ ((s.run.this ≡ Object thing) × Lets (piece.CallUnwrittenNow k ∷ todo))) ⊎ Nears source thing name (piece.CallUnwrittenNow k ∷ todo) s.run.operands → IsBuilt s.callers thing ⊎ ((s.run.this ≡ Object thing) × Lets todo)
+        by : (Building every s.callers thing ⊎ ((s.run.this ≡ Object thing) × Lets every (piece.CallUnwrittenNow k ∷ todo))) ⊎ Nears source every thing name (piece.CallUnwrittenNow k ∷ todo) s.run.operands → Building every s.callers thing ⊎ ((s.run.this ≡ Object thing) × Lets every todo)
         by (inl x) = here todo (busy todo x)
         by (inr x) = absurd (opens_none k e x.0)
-    call_unwritten k todo z (Some x) e = begun k x e false todo (λ n. subst (λ l. (IsBuilt s.callers thing ⊎ ((s.run.this ≡ Object thing) × Lets l)) ⊎ Nears source thing name l s.run.operands) z (h.stack n))
+    call_unwritten k todo z (Some x) e = begun k x e false todo (λ n. subst (λ l. (Building every s.callers thing ⊎ ((s.run.this ≡ Object thing) × Lets every l)) ⊎ Nears source every thing name l s.run.operands) z (h.stack n))
 
-    pub step : IsNew s → Finishes s → NearStep (quiet.quiet source s)
+    pub step : IsNew s → Finishes every s → NearStep (quiet.quiet source s)
     step new fin = by s.run.control refl
       where
         by : (l : List Todo) → s.run.control ≡ l → NearStep (quiet.act_todo source l s)
@@ -157,7 +156,7 @@ module _ (source : Source) (thing : ℕ) (name : Exec) where
         by (piece.BindMadeNow c k ∷ todo) e = bind c k todo e (slice_get source.routines k) refl
         by (piece.CallOnNow k ∷ todo) e = call_on k todo e (slice_get source.routines k) refl
         by (piece.CallUnwrittenNow k ∷ todo) e = call_unwritten k todo e (slice_get source.routines k) refl
-        by (piece.Finish ∷ todo) e = plain (piece.Finish ∷ todo) e (λ x. x) new (subst FinishesBy e fin)
+        by (piece.Finish ∷ todo) e = plain (piece.Finish ∷ todo) e (λ x. x) new (subst (FinishesBy every) e fin)
         by (p ∷ todo) e = plain (p ∷ todo) e (λ x. x) new tt
 
   -- a ride
@@ -170,14 +169,14 @@ module _ (source : Source) (thing : ℕ) (name : Exec) where
 
   -- behind a ride
   abbrev pub Behind : Request → State → Type 0
-  Behind ask.Slice s = NearState source thing name s
-  Behind r s = BuildsState thing name s
+  Behind ask.Slice s = NearState source every thing name s
+  Behind r s = BuildsState every thing name s
 
-  behind_of : (r : Request) (s : State) → BuildsState thing name s → Behind r s
+  behind_of : (r : Request) (s : State) → BuildsState every thing name s → Behind r s
   behind_of ask.Slice s h = near_of s h
   behind_of r s h = h
 
-  pub ridden : (here : Home → Bool) (serials : Home → ℕ) {s u : State} {q k : ℕ} {a : Asked} (r : Rides source s q u k a) → Named here false serials s → IsBelow serials name → RideMeets Finishes source s q u k a r → NearState source thing name s → (AsksLetting thing name a.request → ⊥) → Behind a.request u
+  pub ridden : (here : Home → Bool) (serials : Home → ℕ) {s u : State} {q k : ℕ} {a : Asked} (r : Rides source s q u k a) → Named here false serials s → IsBelow serials name → RideMeets (Finishes every) source s q u k a r → NearState source every thing name s → (AsksLetting every thing name a.request → ⊥) → Behind a.request u
   ridden here serials slices n b m h f = h
   ridden here serials (goes_on {s} e r) n b m h f =
       let y = walk source here false serials s n (λ u. vacuous u) in
@@ -187,7 +186,7 @@ module _ (source : Source) (thing : ℕ) (name : Exec) where
       ridden here y.serials r (subst (StepNamed here false y.serials) e y.named) (more_below here serials y.serials y.grows b) m.1 (subst NearStep e (step s h (new_of here serials s n b) m.0)) f
   ridden here serials (asks {s} {t} {q} {r} e) n b m h f = behind_of r t (subst NearStep e (step s h (new_of here serials s n b) m) f)
 
-  pub led : (here : Home → Bool) (serials : Home → ℕ) {s u : State} (l : Leads source s u) → Named here false serials s → IsBelow serials name → LeadsMeet Finishes source s u l → NearState source thing name s → NearState source thing name u
+  pub led : (here : Home → Bool) (serials : Home → ℕ) {s u : State} (l : Leads source s u) → Named here false serials s → IsBelow serials name → LeadsMeet (Finishes every) source s u l → NearState source every thing name s → NearState source every thing name u
   led here serials rooms.stays n b m h = h
   led here serials (rooms.goes {s} e l) n b m h =
       let y = walk source here false serials s n (λ u. vacuous u) in

@@ -1,5 +1,5 @@
 -- In each run in which all that was asked so far fits who made an object builds it, or is about to, until it is asked that the object is let go of.
-use Rattle.std.proofs.Common.{◌≡◌, ℕ, ◌<◌, ◌≤◌, ◌==◌, ◌⊎◌, inl, inr, ◌∙◌, ◌++◌, ◌||◌, Bool, true, false, List, [], ◌∷◌, length, Option, Some, None, refl, sym, ap, subst, arith, ⊎_elim}
+use Rattle.std.proofs.Common.{◌≡◌, ℕ, ◌<◌, ◌≤◌, ◌==◌, ◌⊎◌, inl, inr, ◌∙◌, ◌++◌, ◌||◌, Bool, true, false, List, [], ◌∷◌, Option, Some, None, refl, sym, ap, subst, arith}
 use Rattle.std.specs.Prelude.{if◌then◌else◌}
 use Rattle.std.proofs.lemmas.Bool.{eqb-true, eq-eqb, cases_lt}
 use Rattle.uc_tree.specs.Source.{Source}
@@ -32,12 +32,10 @@ use Rattle.uc_machine.specs.declared.exec.Stage.TheVariants.{Fresh, Started, End
 use Rattle.uc_machine.specs.Executions.{Execution}
 use Rattle.uc_machine.specs.Pieces as piece
 use Rattle.uc_machine.specs.Pieces.{Value, Object, Todo, Active, State, Env, Members}
-use Rattle.uc_machine.specs.Answering.{answered, child_main, child_of, entered, new_members, with_operand}
-use Rattle.uc_meaning.specs.Runs.{World, May, Runs, AsksIn, gives, no_room, acts, begun, more, bare, with_home, hand_of, drawn, or_else, world_after}
+use Rattle.uc_machine.specs.Answering.{answered, child_of, entered, new_members, with_operand}
+use Rattle.uc_meaning.specs.Runs.{World, Runs, AsksIn, gives, no_room, acts, begun, more, bare, with_home, hand_of, drawn, or_else, world_after}
 use Rattle.uc_state_laws.specs.Fitting.{RunFits}
-use Rattle.uc_state_laws.specs.RoomRuns.{Comes}
-use Rattle.uc_state_laws.specs.Opens.{RunMeets, LeadsMeet, RideMeets}
-use Rattle.uc_state_laws.specs.Fitting.{MayFit}
+use Rattle.uc_state_laws.specs.Opens.{RunMeets}
 use Rattle.uc_state_laws.proofs.Counts.{one_kept, told_others}
 use Rattle.uc_state_laws.proofs.DeepWorlds.{DeepWorld, deep_run, spawned_by}
 use Rattle.uc_state_laws.proofs.Others.{RunRests, run_rests, may_ask}
@@ -46,7 +44,7 @@ use Rattle.uc_name_laws.specs.NameSteps.{Spares}
 use Rattle.uc_name_laws.proofs.Homes.{no_both}
 use Rattle.uc_life_laws.specs.RunningRuns.{RunLeaves}
 use Rattle.uc_life_laws.specs.NamedRuns.{is_here}
-use Rattle.uc_life_laws.specs.LifeStates.{SlotBy, ParkedBy, HandBy, MembersBy, EnvBy}
+use Rattle.uc_life_laws.specs.LifeStates.{HandBy, EnvBy}
 use Rattle.uc_life_laws.specs.OwnNames.{HasOwnName}
 use Rattle.uc_life_laws.specs.Knowing.{main_of}
 use Rattle.uc_life_laws.proofs.Cells.{either}
@@ -60,8 +58,8 @@ use Rattle.uc_life_laws.proofs.Spawning.{Spawned, spawner}
 use Rattle.uc_life_laws.proofs.NamedWorlds.{WorldNamed, run_named, ride, start, after_by, named_act, now_more, known}
 use Rattle.uc_life_laws.proofs.OwnNamesLemmas.{law_own_names}
 use Rattle.uc_rooted_runs.proofs.Births.{none_there, named_given}
-use Rattle.uc_making_laws.specs.Builders.{BuildsBy, BuildsEx, BuildsMembers, BuildsState, AsksLetting}
-use Rattle.uc_making_laws.specs.BuilderRuns.{Calls, Finishes, Nears, AwaitsIt, Here, NearState, MakesBy, KeepsBy, IsUnderWay, LawBuilderRuns}
+use Rattle.uc_making_laws.specs.Builders.{BuildsBy, BuildsEx, BuildsMembers, BuildsState}
+use Rattle.uc_making_laws.specs.BuilderRuns.{Finishes, Nears, AwaitsIt, Here, NearState, IsUnderWay, LawBuilderRuns}
 use Rattle.uc_making_laws.proofs.BuilderWalk.{law_builders}
 use Rattle.uc_making_laws.proofs.BuilderNear.{near_of, Behind, ridden, led}
 
@@ -85,13 +83,13 @@ request_form AValue = refl
 request_form AnEvent = refl
 request_form JustGo = refl
 
-module _ (source : Source) (thing : ℕ) (name : Exec) where
+module _ (source : Source) (every : Bool) (thing : ℕ) (name : Exec) where
   abbrev Ours : Exec → Ex → Type 0
-  Ours = BuildsEx thing name
+  Ours = BuildsEx every thing name
 
   -- executions of other names
 
-  stage_other : (g : Stage) (n : Exec) (a : Active) (older : List Active) → (n ≡ name → ⊥) → BuildsBy thing name g n a older
+  stage_other : (g : Stage) (n : Exec) (a : Active) (older : List Active) → (n ≡ name → ⊥) → BuildsBy every thing name g n a older
   stage_other Fresh n a older f = λ e. absurd (f e)
   stage_other Started n a older f = λ e. absurd (f e)
   stage_other Ended n a older f = tt
@@ -101,35 +99,35 @@ module _ (source : Source) (thing : ℕ) (name : Exec) where
 
   -- at rest
 
-  home_rests : (o : ℕ) (x : Option Members) (hand : List (ℕ × Members)) → BuildsMembers thing name (home.Object o) x → HandBy Ours hand → HandBy Ours (with_home o x hand)
+  home_rests : (o : ℕ) (x : Option Members) (hand : List (ℕ × Members)) → BuildsMembers every thing name (home.Object o) x → HandBy Ours hand → HandBy Ours (with_home o x hand)
   home_rests o None hand h k = k
   home_rests o (Some m) hand h k = (h, k)
 
-  hand_rests : (os : List ℕ) (homes : ℕ → Option Members) → ((o : ℕ) → BuildsMembers thing name (home.Object o) (homes o)) → HandBy Ours (hand_of os homes)
+  hand_rests : (os : List ℕ) (homes : ℕ → Option Members) → ((o : ℕ) → BuildsMembers every thing name (home.Object o) (homes o)) → HandBy Ours (hand_of os homes)
   hand_rests [] homes h = tt
   hand_rests (o ∷ os) homes h = home_rests o (homes o) (hand_of os homes) (h o) (hand_rests os homes h)
 
-  or_rests : (o : ℕ) (x y : Option Members) → BuildsMembers thing name (home.Object o) x → BuildsMembers thing name (home.Object o) y → BuildsMembers thing name (home.Object o) (or_else x y)
+  or_rests : (o : ℕ) (x y : Option Members) → BuildsMembers every thing name (home.Object o) x → BuildsMembers every thing name (home.Object o) y → BuildsMembers every thing name (home.Object o) (or_else x y)
   or_rests o None y h k = k
   or_rests o (Some m) y h k = h
 
   -- a task that has made the object, and asked for its number
   record AwaitState (j : Journal) (u : ℕ) (s : State) : Type 0 where
-    stack : s.env.exec ≡ name → Here source thing name s ⊎ (AwaitsIt source thing name s.run.control s.run.operands × ((g : ℕ) → answer_to source.sites u j ≡ Some (answer.Object g) → g ≡ thing))
+    stack : s.env.exec ≡ name → Here source every thing name s ⊎ (AwaitsIt source every thing name s.run.control s.run.operands × ((g : ℕ) → answer_to source.sites u j ≡ Some (answer.Object g) → g ≡ thing))
     env : EnvBy Ours s.env
 
   -- by what it has asked
   abbrev RestBy : Request → Journal → ℕ → State → Type 0
   RestBy (ask.Make c) j u s = AwaitState j u s
-  RestBy ask.Slice j u s = NearState source thing name s
-  RestBy r j u s = BuildsState thing name s
+  RestBy ask.Slice j u s = NearState source every thing name s
+  RestBy r j u s = BuildsState every thing name s
 
   record RestIt (j : Journal) (u : ℕ) (s : State) : Type 0 where
     request : Request
     asks_for : form_of_request request ≡ asked_form u j
     state : RestBy request j u s
 
-  with_env : (s : State) (e : Env) → e.exec ≡ s.env.exec → EnvBy Ours e → BuildsState thing name s → BuildsState thing name (record s { env = e })
+  with_env : (s : State) (e : Env) → e.exec ≡ s.env.exec → EnvBy Ours e → BuildsState every thing name s → BuildsState every thing name (record s { env = e })
   with_env s e q k h = record { stack = λ n. h.stack (sym q ∙ n); env = k }
 
   rest_env : (r : Request) (j : Journal) (u : ℕ) (s : State) → RestBy r j u s → EnvBy Ours s.env
@@ -146,7 +144,7 @@ module _ (source : Source) (thing : ℕ) (name : Exec) where
   rest_told : (r : Request) (j k : Journal) (u : ℕ) (s : State) → ((g : ℕ) → answer_to source.sites u k ≡ Some (answer.Object g) → answer_to source.sites u j ≡ Some (answer.Object g)) → RestBy r j u s → RestBy r k u s
   rest_told (ask.Make c) j k u s f h = record { stack = λ n. by (h.stack n); env = h.env }
     where
-      by : Here source thing name s ⊎ (AwaitsIt source thing name s.run.control s.run.operands × ((g : ℕ) → answer_to source.sites u j ≡ Some (answer.Object g) → g ≡ thing)) → Here source thing name s ⊎ (AwaitsIt source thing name s.run.control s.run.operands × ((g : ℕ) → answer_to source.sites u k ≡ Some (answer.Object g) → g ≡ thing))
+      by : Here source every thing name s ⊎ (AwaitsIt source every thing name s.run.control s.run.operands × ((g : ℕ) → answer_to source.sites u j ≡ Some (answer.Object g) → g ≡ thing)) → Here source every thing name s ⊎ (AwaitsIt source every thing name s.run.control s.run.operands × ((g : ℕ) → answer_to source.sites u k ≡ Some (answer.Object g) → g ≡ thing))
       by (inl x) = inl x
       by (inr x) = inr (x.0, λ g e. x.1 g (f g e))
   rest_told ask.Slice j k u s f h = h
@@ -154,47 +152,47 @@ module _ (source : Source) (thing : ℕ) (name : Exec) where
 
   -- it goes on
 
-  near_told : (l : List Todo) (vs : List Value) (g : ℕ) → g ≡ thing → AwaitsIt source thing name l vs → Nears source thing name l (Object g ∷ vs)
+  near_told : (l : List Todo) (vs : List Value) (g : ℕ) → g ≡ thing → AwaitsIt source every thing name l vs → Nears source every thing name l (Object g ∷ vs)
   near_told (piece.BindMadeNow c k ∷ todo) vs g e h = (h.0, h.1, ap Object e, h.2)
   near_told [] vs g e h = absurd h
   near_told (p ∷ todo) vs g e h = absurd h
 
-  new_there : (h : ℕ) (todo : List Todo) → BuildsMembers thing name (home.Object h) (new_members source todo)
+  new_there : (h : ℕ) (todo : List Todo) → BuildsMembers every thing name (home.Object h) (new_members source todo)
   new_there h [] = tt
   new_there h (piece.BindMadeNow c r ∷ todo) = tt
   new_there h (p ∷ todo) = tt
 
-  entered_told : (j : Journal) (u g : ℕ) (m : Option Members) (s : State) → BuildsMembers thing name (home.Object g) m → AwaitState j u s → answer_to source.sites u j ≡ Some (answer.Object g) → NearState source thing name (with_operand (Object g) (entered m g s))
+  entered_told : (j : Journal) (u g : ℕ) (m : Option Members) (s : State) → BuildsMembers every thing name (home.Object g) m → AwaitState j u s → answer_to source.sites u j ≡ Some (answer.Object g) → NearState source every thing name (with_operand (Object g) (entered m g s))
   entered_told j u g None s k h e = record { stack = λ n. by (h.stack n); env = h.env }
     where
-      by : Here source thing name s ⊎ (AwaitsIt source thing name s.run.control s.run.operands × ((g : ℕ) → answer_to source.sites u j ≡ Some (answer.Object g) → g ≡ thing)) → Here source thing name s ⊎ Nears source thing name s.run.control (Object g ∷ s.run.operands)
+      by : Here source every thing name s ⊎ (AwaitsIt source every thing name s.run.control s.run.operands × ((g : ℕ) → answer_to source.sites u j ≡ Some (answer.Object g) → g ≡ thing)) → Here source every thing name s ⊎ Nears source every thing name s.run.control (Object g ∷ s.run.operands)
       by (inl x) = inl x
       by (inr x) = inr (near_told s.run.control s.run.operands g (x.1 g e) x.0)
   entered_told j u g (Some m) s k h e = record { stack = λ n. by (h.stack n); env = record { house = h.env.house; hand = parked.more_hand Ours s.env.hand g m k h.env.hand } }
     where
-      by : Here source thing name s ⊎ (AwaitsIt source thing name s.run.control s.run.operands × ((g : ℕ) → answer_to source.sites u j ≡ Some (answer.Object g) → g ≡ thing)) → Here source thing name s ⊎ Nears source thing name s.run.control (Object g ∷ s.run.operands)
+      by : Here source every thing name s ⊎ (AwaitsIt source every thing name s.run.control s.run.operands × ((g : ℕ) → answer_to source.sites u j ≡ Some (answer.Object g) → g ≡ thing)) → Here source every thing name s ⊎ Nears source every thing name s.run.control (Object g ∷ s.run.operands)
       by (inl x) = inl x
       by (inr x) = inr (near_told s.run.control s.run.operands g (x.1 g e) x.0)
 
-  goes_on : (r : Request) (given : Answer) (j : Journal) (u : ℕ) (s : State) → IsForm (form_of_request r) given → answer_to source.sites u j ≡ Some given → RestBy r j u s → NearState source thing name (answered source given s)
+  goes_on : (r : Request) (given : Answer) (j : Journal) (u : ℕ) (s : State) → IsForm (form_of_request r) given → answer_to source.sites u j ≡ Some given → RestBy r j u s → NearState source every thing name (answered source given s)
   goes_on (ask.Make c) (answer.Object g) j u s f e h = entered_told j u g (new_members source s.run.control) s (new_there g s.run.control) h e
   goes_on (ask.Make c) given j u s f e h = absurd f
   goes_on ask.Slice answer.Go j u s f e h = h
   goes_on ask.Slice given j u s f e h = absurd f
-  goes_on r given j u s f e h = near_of source thing name (answered source given s) (law_builders.told thing name source given s h)
+  goes_on r given j u s f e h = near_of source every thing name (answered source given s) (law_builders.told every thing name source given s h)
 
   -- behind a ride
 
-  behind_env : (r : Request) (s : State) → Behind source thing name r s → EnvBy Ours s.env
+  behind_env : (r : Request) (s : State) → Behind source every thing name r s → EnvBy Ours s.env
   behind_env ask.Slice s h = h.env
   behind_env r s h = h.env
 
-  behind_rest : (r : Request) (j : Journal) (u : ℕ) (s : State) → Behind source thing name r s → RestBy r j u s
+  behind_rest : (r : Request) (j : Journal) (u : ℕ) (s : State) → Behind source every thing name r s → RestBy r j u s
   behind_rest (ask.Make c) j u s h = record { stack = λ n. inl (h.stack n); env = h.env }
   behind_rest ask.Slice j u s h = h
   behind_rest r j u s h = h
 
-  plain_rest : (f : Form) (j : Journal) (u : ℕ) (s : State) → BuildsState thing name s → RestBy (request_of f) j u s
+  plain_rest : (f : Form) (j : Journal) (u : ℕ) (s : State) → BuildsState every thing name s → RestBy (request_of f) j u s
   plain_rest AnObject j u s h = h
   plain_rest AClause j u s h = h
   plain_rest ANumber j u s h = h
@@ -213,9 +211,9 @@ module _ (source : Source) (thing : ℕ) (name : Exec) where
   record BuildsWorld (serials : Home → ℕ) (j : Journal) (w : World) : Type 0 where
     below : IsBelow serials name
     rests : (u : ℕ) → u < task_count j → RestIt j u (w.tasks u)
-    homes : (q : ℕ) → BuildsMembers thing name (home.Object q) (w.homes q)
+    homes : (q : ℕ) → BuildsMembers every thing name (home.Object q) (w.homes q)
 
-  drawn_rest : (r : Request) (j : Journal) (w : World) (u : ℕ) → ((q : ℕ) → BuildsMembers thing name (home.Object q) (w.homes q)) → RestBy r j u (w.tasks u) → RestBy r j u (drawn j w u)
+  drawn_rest : (r : Request) (j : Journal) (w : World) (u : ℕ) → ((q : ℕ) → BuildsMembers every thing name (home.Object q) (w.homes q)) → RestBy r j u (w.tasks u) → RestBy r j u (drawn j w u)
   drawn_rest r j w u homes h =
       let e = rest_env r j u (w.tasks u) h in
       rest_with r j u (w.tasks u) _ refl (record { house = e.house; hand = hand_rests (held u j) w.homes homes }) h
@@ -226,7 +224,7 @@ module _ (source : Source) (thing : ℕ) (name : Exec) where
   module _ (input : List ℕ) (opts : Options) (range : InRange opts) where
     module _ {j : Journal} {w : World} (rests : RunRests source input opts j w) (on : is_over j ≡ false) (deep : DeepWorld j w) (serials : Home → ℕ) (x : WorldNamed serials j w) where
       -- who runs goes on so
-      begins : BuildsWorld serials j w → (p t : ℕ) (given : Answer) → running p j ≡ t ∷ [] → answer_to source.sites t j ≡ Some given → NearState source thing name (answered source given (drawn j w t))
+      begins : BuildsWorld serials j w → (p t : ℕ) (given : Answer) → running p j ≡ t ∷ [] → answer_to source.sites t j ≡ Some given → NearState source every thing name (answered source given (drawn j w t))
       begins h p t given runs told =
           let y = h.rests t (known source input opts range rests on serials x p t runs) in
           let f : IsForm (form_of_request y.request) given = subst (λ f. IsForm f given) (sym y.asks_for) (law_suiting opts source.sites input j rests.kernel on t given told) in
@@ -252,7 +250,7 @@ module _ (source : Source) (thing : ℕ) (name : Exec) where
         own_is = ap (λ (b : Bool). if b then bare s else if spawns a n then child_of source (own_object n a) s else w.tasks n) (self_test n)
 
         -- who was there before
-        module _ (h : BuildsWorld serials j w) (b : Behind source thing name asked.request s) where
+        module _ (h : BuildsWorld serials j w) (b : Behind source every thing name asked.request s) where
           own_after : RestIt (j ++ a) n (bare s)
           own_after = record {
             request = asked.request;
@@ -302,11 +300,11 @@ module _ (source : Source) (thing : ℕ) (name : Exec) where
           acted = record {
             below = below_after h.below;
             rests = rests_after;
-            homes = λ o. either (BuildsMembers thing name (home.Object o)) (takes_out a o) None (or_else (find o s.env.hand) (w.homes o)) tt (or_rests o (find o s.env.hand) (w.homes o) (found_hand Ours o s.env.hand (behind_env asked.request s b).hand) (h.homes o));
+            homes = λ o. either (BuildsMembers every thing name (home.Object o)) (takes_out a o) None (or_else (find o s.env.hand) (w.homes o)) tt (or_rests o (find o s.env.hand) (w.homes o) (found_hand Ours o s.env.hand (behind_env asked.request s b).hand) (h.homes o));
           }
 
         -- who makes the object
-        module _ (y : HasOwnName (j ++ a) after n) (named : WorldNamed later (j ++ a) after) (lt : n < task_count (j ++ a)) (c : ℕ) (e : asked.request ≡ ask.Make c) (number : object_count j ≡ thing) (mine : s.env.exec ≡ name) (awaits : AwaitsIt source thing name s.run.control s.run.operands) where
+        module _ (y : HasOwnName (j ++ a) after n) (named : WorldNamed later (j ++ a) after) (lt : n < task_count (j ++ a)) (c : ℕ) (e : asked.request ≡ ask.Make c) (number : object_count j ≡ thing) (mine : s.env.exec ≡ name) (awaits : AwaitsIt source every thing name s.run.control s.run.operands) where
           same : (after.tasks n).env.exec ≡ name
           same = ap (λ (v : State). v.env.exec) own_is ∙ mine
 
@@ -356,7 +354,7 @@ module _ (source : Source) (thing : ℕ) (name : Exec) where
       world : WorldNamed serials j w
       builds : BuildsWorld serials j w
 
-    run_builds : {j : Journal} {w : World} (r : Runs source input opts j w) → RunFits source input opts j w r → is_over j ≡ false → RunLeaves source input opts j w r → RunMeets Spares source input opts j w r → RunMeets Finishes source input opts j w r → IsUnderWay source thing name input opts r → RunBuilds r
+    run_builds : {j : Journal} {w : World} (r : Runs source input opts j w) → RunFits source input opts j w r → is_over j ≡ false → RunLeaves source input opts j w r → RunMeets Spares source input opts j w r → RunMeets (Finishes every) source input opts j w r → IsUnderWay source every thing name input opts r → RunBuilds r
     run_builds begun f on l h fin u = absurd u
     run_builds (more {j} {w} r o (gives p t v le)) f on l h fin (inl u) =
         let z = run_builds r f.0 o l.0 h.0 fin.0 u.0 in
@@ -367,7 +365,7 @@ module _ (source : Source) (thing : ℕ) (name : Exec) where
         let rests = run_rests source input opts range r f.0 o in
         let deep = deep_run source input opts range r f.0 o in
         let z = run_builds r f.0 o l.0 h.0 fin.0 u.0 in
-        let b = ridden source thing name (is_here (w.tasks t).env.own (held t j)) z.serials d.rides (start source input opts range rests o z.serials z.world p t d.runs d.given d.told) z.builds.below fin.1 (begins rests o deep z.serials z.world z.builds p t d.given d.runs d.told) u.1 in
+        let b = ridden source every thing name (is_here (w.tasks t).env.own (held t j)) z.serials d.rides (start source input opts range rests o z.serials z.world p t d.runs d.given d.told) z.builds.below fin.1 (begins rests o deep z.serials z.world z.builds p t d.given d.runs d.told) u.1 in
         record {
           serials = after_by asked.request (ride source input opts range rests o deep z.serials z.world p t k s asked d f.1 on).now;
           world = named_act source input opts range rests o deep z.serials z.world p t k s asked d f.1 on;
@@ -389,8 +387,8 @@ module _ (source : Source) (thing : ℕ) (name : Exec) where
         }
 
 pub law_builder_runs : LawBuilderRuns
-law_builder_runs source o m input opts j w r range fits on leaves spares fin u t s c k =
+law_builder_runs source every o m input opts j w r range fits on leaves spares fin u t s c k =
     let rests = run_rests source input opts range r fits on in
     let deep = deep_run source input opts range r fits on in
-    let z = run_builds source o m input opts range r fits on leaves spares fin u in
-    led source o m (is_here (w.tasks t).env.own (held t j)) z.serials c.leads (start source input opts range rests on z.serials z.world c.processor t c.runs c.given c.told) z.builds.below k (begins source o m input opts range rests on deep z.serials z.world z.builds c.processor t c.given c.runs c.told)
+    let z = run_builds source every o m input opts range r fits on leaves spares fin u in
+    led source every o m (is_here (w.tasks t).env.own (held t j)) z.serials c.leads (start source input opts range rests on z.serials z.world c.processor t c.runs c.given c.told) z.builds.below k (begins source every o m input opts range rests on deep z.serials z.world z.builds c.processor t c.given c.runs c.told)

@@ -20,7 +20,7 @@ use Rattle.uc_machine.specs.Pieces.{Value, Todo, Active, Members}
 use Rattle.uc_meaning.specs.Runs.{World, May, Runs, world_after, gives, no_room, acts, begun, more}
 use Rattle.uc_state_laws.specs.Opens.{RunMeets}
 use Rattle.uc_name_laws.proofs.Homes.{no_both}
-use Rattle.uc_typing.specs.Typing.{Ty, Cell, Obj, Table}
+use Rattle.uc_typing.specs.Typing.{Ty, Cell, Obj, Raw, Table}
 use Rattle.uc_life_laws.specs.Things.{Few, Base, Things}
 use Rattle.uc_life_laws.specs.Silent.{AllSilent}
 use Rattle.uc_life_laws.specs.Knowing.{KnowsState}
@@ -28,6 +28,7 @@ use Rattle.uc_life_laws.specs.LifeStates.{SlotBy, ParkedBy, MembersBy}
 use Rattle.uc_life_laws.specs.Lasting.{lasting, lasting_numbers}
 use Rattle.uc_life_laws.specs.Rooted.{InSlot, InParked, InMembers, Lives, OwnThings, OwnObject, Yet, StageApart, ExApart, RunApart, Rooted}
 use Rattle.uc_life_laws.proofs.Rooted.{env_in, stands_more}
+use Rattle.uc_apart_laws.proofs.Clear.{home_more}
 use Rattle.uc_life_laws.specs.Belonging.{Belongs}
 use Rattle.uc_life_laws.proofs.Own.{law_own}
 use Rattle.uc_life_laws.proofs.OwnNamesLemmas.{law_own_names}
@@ -130,7 +131,7 @@ module _ (t : Table) (few : Few) where
     none_waits on =
         let n = (x.tasks u).env.exec in
         let cs = (x.tasks u).callers in
-        law_letting.none t few o n cs (lets.tasks u).stack.1 not_zero (λ c k. left.nowhere n ((x.tasks u).run ∷ cs) (inl (u, on, refl, refl)) c (stands_more t few (Things t few n cs) (Things t few n ((x.tasks u).run ∷ cs)) (λ w b y. inr y) (Cell (Obj c)) (few.home o) k)) owed
+        law_letting.none t few o n cs (lets.tasks u).stack.1 not_zero (λ c k. left.nowhere n ((x.tasks u).run ∷ cs) (inl (u, on, refl, refl)) c (home_more t few o (Things t few n cs) (Things t few n ((x.tasks u).run ∷ cs)) (λ w b y. inr y) c k)) owed
 
     gone : has_ended u (j ++ a) ≡ false → (given : List Ty) (k : KnowsState t (lasting few j) given (x.tasks u)) → RunApart t (lasting few j) (lasting_numbers few.numbers (j ++ a)) o given (x.tasks u) k
     gone on given k = record {
@@ -153,8 +154,9 @@ module _ (t : Table) (few : Few) where
     rooted = record {
       up = λ n cs i w b k e. let z : true ≡ false = e in absurd (cc);
       beside = record {
-        outside = λ n cs i c s. left.nowhere n cs i c (stands_more t few (OwnObject few all_own n) (Things t few n cs) (λ w b k. base_things n cs w b k.0) (Cell (Obj c)) (few.home o) s);
-        unmarked = λ n cs i c s. left.nowhere n cs i c (stands_more t few (Yet t none_yet n cs) (Things t few n cs) (yet_things n cs) (Cell (Obj c)) (few.home o) s);
+        outside = λ n cs i c s. left.nowhere n cs i c (inl (stands_more t few (OwnObject few all_own n) (Things t few n cs) (λ w b k. base_things n cs w b k.0) (Cell (Obj c)) (few.home o) s));
+        unheld = λ n cs i c k. left.nowhere n cs i c (inr (base_things n cs (piece.Object o) (Raw c) k));
+        unmarked = λ n cs i c s. left.nowhere n cs i c (inl (stands_more t few (Yet t none_yet n cs) (Things t few n cs) (yet_things n cs) (Cell (Obj c)) (few.home o) s));
         tasks = λ v. env_in Other (ExApart t (lasting few j) numbers o) (x.tasks v).env (λ n y i p. stage_apart y.links.stage n y refl (λ g. inr (inl (v, i g))) p) (h.name.tasks v);
         alive = alive;
         homes = λ q. members_in Other (ExApart t (lasting few j) numbers o) (home.Object q) (x.homes q) (λ n y i p. stage_apart y.links.stage n y refl (λ g. inr (inr (q, i g))) p) (h.name.homes q);

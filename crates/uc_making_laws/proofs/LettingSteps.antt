@@ -23,13 +23,13 @@ use Rattle.uc_machine.specs.Polls as polls
 use Rattle.uc_machine.specs.Quiet as quiet
 use Rattle.uc_machine.specs.Pieces as piece
 use Rattle.uc_machine.specs.Pieces.{Value, Number, Place, Running, Object, Nothing, Todo, Sort, Active, State, Env, Members, Step, Goes, Ticks, Asks, Outcome, Gives, Faults, at, in_env, top, below, number, nought, written}
-use Rattle.uc_typing.specs.Typing.{Ty, Cell, Obj, Table}
+use Rattle.uc_typing.specs.Typing.{Ty, Table}
 use Rattle.uc_life_laws.specs.Things.{Few, Things}
 use Rattle.uc_depth_laws.specs.Owing.{marks, owed_by, owed_waiting}
 use Rattle.uc_making_laws.specs.LettingGo.{is_letting, WaitsBy, RunsBy, AllClosed, FoundClosed, IsTold, Told, LetsStack, LetsState, LetsStep, OpensStmt, OpensStmts, LeavesAt}
 use Rattle.uc_making_laws.proofs.LettingLists as lists
 use Rattle.uc_life_laws.proofs.Cells.{either}
-use Rattle.uc_life_laws.proofs.Rooted.{stands_more}
+use Rattle.uc_apart_laws.proofs.Clear.{home_more}
 use Rattle.uc_making_laws.proofs.LettingKeeping as kept
 use Rattle.uc_making_laws.proofs.LettingKeeping.{Keeps}
 
@@ -38,7 +38,7 @@ module _ (t : Table) (few : Few) (n : Exec) where
   more_object : (ds es : List Active) → ((w : Value) (a : Ty) → Things t few n ds w a → Things t few n es w a) → ((q : ℕ) → owed_waiting q ds ≤ owed_waiting q es) → (o : ℕ) → IsTold t few n ds o → IsTold t few n es o
   more_object ds es f g o (inl e) = inl e
   more_object ds es f g o (inr (inl h)) =
-      inr (inl (h.0, stands_more t few (Things t few n ds) (Things t few n es) f (Cell (Obj h.0)) (few.home o) h.1))
+      inr (inl (h.0, home_more t few o (Things t few n ds) (Things t few n es) f h.0 h.1))
   more_object ds es f g o (inr (inr k)) = let le = g o in inr (inr (omega (arith, k, le)))
 
   pub more : (v : Value) (ds es : List Active) → ((w : Value) (a : Ty) → Things t few n ds w a → Things t few n es w a) → ((q : ℕ) → owed_waiting q ds ≤ owed_waiting q es) → Told t few n ds v → Told t few n es v

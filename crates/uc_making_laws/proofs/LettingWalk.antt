@@ -20,7 +20,6 @@ use Rattle.uc_life_laws.specs.Knowing.{main_of}
 use Rattle.uc_depth_laws.specs.Owing.{owed_waiting}
 use Rattle.uc_apart_laws.specs.Clear.{IsNoHome}
 use Rattle.uc_life_laws.specs.Things.{Things}
-use Rattle.uc_typing.specs.Typing.{Cell, Obj}
 use Rattle.uc_machine.specs.Pieces.{Active}
 use Rattle.uc_making_laws.specs.NoOthers.{NoThis}
 use Rattle.uc_making_laws.specs.LettingGo.{is_letting, SilentBehind, IsTold, Told, LetsMembers, LetsEx, LetsStack, LetsState, LetsStep, LettingAt, LawLetting}
@@ -29,7 +28,7 @@ use Rattle.uc_life_laws.proofs.Cells.{either}
 use Rattle.uc_making_laws.proofs.LettingKeeping as kept
 use Rattle.uc_machine.specs.declared.exec.Exec.{Exec}
 use Rattle.uc_life_laws.proofs.Parked as parked
-use Rattle.uc_life_laws.proofs.Rooted.{stands_more}
+use Rattle.uc_apart_laws.proofs.Clear.{home_more}
 use Rattle.uc_making_laws.proofs.LettingSteps as steps
 use Rattle.uc_making_laws.proofs.LettingSteps.{C, Ends, Holding}
 
@@ -186,7 +185,7 @@ module _ (t : Table) (few : Few) where
     none : (cs : List Active) → LetsStack t few n cs → IsNoHome t few o (Things t few n cs) → owed_waiting o cs ≡ 0 → NoThis o cs
     none [] h f k = tt
     none (a ∷ older) h f k =
-        let g : IsNoHome t few o (Things t few n older) = λ c x. f c (stands_more t few (Things t few n older) (Things t few n (a ∷ older)) (λ w d y. inr y) (Cell (Obj c)) (few.home o) x) in
+        let g : IsNoHome t few o (Things t few n older) = λ c x. f c (home_more t few o (Things t few n older) (Things t few n (a ∷ older)) (λ w d y. inr y) c x) in
         (none_one a older (steps.here t few n a older h.0) f k, none older h.1 g (omega (arith, k)))
 
 pub law_letting : LawLetting

@@ -1,5 +1,5 @@
 -- Nobody else builds or destroys an object that is at home in what is one's own, and at hand of nobody.
-use Rattle.std.proofs.Common.{◌≡◌, ℕ, inl, inr, List, [], ◌∷◌, Option, Some, None, refl, sym, subst}
+use Rattle.std.proofs.Common.{◌≡◌, ℕ, inl, inr, List, [], ◌∷◌, Option, Some, None, sym, subst}
 use Rattle.uc_acts.specs.Journal.{Journal}
 use Rattle.uc_machine.specs.declared.exec.Exec.{Exec}
 use Rattle.uc_machine.specs.declared.exec.Home.{Home}
@@ -10,23 +10,18 @@ use Rattle.uc_machine.specs.Executions.{Execution, others}
 use Rattle.uc_machine.specs.Pieces as piece
 use Rattle.uc_machine.specs.Pieces.{Value, Object, Todo, Sort, sort, Active, Members}
 use Rattle.uc_meaning.specs.Runs.{World}
-use Rattle.uc_typing.specs.Typing.{Cell, Obj, Sig, Table}
+use Rattle.uc_typing.specs.Typing.{Sig, Table}
 use Rattle.uc_life_laws.specs.Things.{Few, Things}
 use Rattle.uc_life_laws.specs.LifeStates.{SlotBy, ParkedBy, HandBy, MembersBy, EnvBy}
 use Rattle.uc_life_laws.specs.Rooted.{InSlot, InParked, InHand, InMembers, Lives}
-use Rattle.uc_life_laws.proofs.Fewer.{both_env}
-use Rattle.uc_life_laws.proofs.Rooted.{env_in, stands_more}
+use Rattle.uc_apart_laws.proofs.Clear.{home_more}
 use Rattle.uc_depth_laws.specs.Owing.{Ex}
 use Rattle.uc_life_laws.specs.AtHand.{NoScopes, IsUnopened}
 use Rattle.uc_life_laws.specs.Belonging.{Belongs}
-use Rattle.uc_life_laws.proofs.Own.{law_own}
 use Rattle.uc_apart_laws.specs.Clear.{NotMaking, IsNoHome}
-use Rattle.uc_apart_laws.specs.Nowhere.{IsNowhere, SparesBy, SparesEx}
-use Rattle.uc_apart_laws.proofs.Nowhere.{law_nowhere}
 use Rattle.uc_life_laws.specs.Placed.{placed}
-use Rattle.uc_rooted_runs.specs.FreshStates.{FreshBy, FreshEx}
+use Rattle.uc_rooted_runs.specs.FreshStates.{FreshBy}
 use Rattle.uc_making_laws.specs.OwnThis.{HasHome, Has, ThisStack}
-use Rattle.uc_making_laws.specs.ThisRuns.{ThisWorld}
 use Rattle.uc_making_laws.specs.NoOthers.{NoThis, LawNoOthers}
 
 -- who lives has what holds of all activations of each
@@ -74,7 +69,7 @@ module _ (t : Table) (few : Few) (o : ℕ) where
     none : (cs : List Active) → ThisStack t few n cs → IsNoHome t few o (Things t few n cs) → NoThis o cs
     none [] h f = tt
     none (a ∷ older) h f =
-        let g : IsNoHome t few o (Things t few n older) = λ c s. f c (stands_more t few (Things t few n older) (Things t few n (a ∷ older)) (λ w d k. inr k) (Cell (Obj c)) (few.home o) s) in
+        let g : IsNoHome t few o (Things t few n older) = λ c s. f c (home_more t few o (Things t few n older) (Things t few n (a ∷ older)) (λ w d k. inr k) c s) in
         (none_one older a.this h.0 g, none older h.1 g)
 
   making : (gs : List Sig) (cs : List Active) → NoThis o cs → NotMaking t few o gs cs
@@ -105,31 +100,8 @@ fresh_unopened Fresh n y e h = (h.callers, unscoped y.run.frame y.run.this y.run
 fresh_unopened Started n y e h = absurd (cc)
 fresh_unopened Ended n y e h = absurd (cc)
 
-module _ (t : Table) (few : Few) (j : Journal) (x : World) (u o : ℕ) (nowhere : IsNowhere t few j x o) (this : ThisWorld t few x) (zero : o ≡ 0 → ⊥) (belongs : Belongs few (x.tasks u).env.exec (few.home o)) where
-  stack : (n : Exec) (cs : List Active) → Lives j x n cs → ThisStack t few n cs
-  stack n cs i =
-      in_world (ThisStack t few) j x (λ v. (this.tasks v).stack) (λ v. (this.tasks v).env) this.homes n cs i
-
-  lives : (n : Exec) (cs : List Active) → Lives j x n cs → (n ≡ (x.tasks u).env.exec → ⊥) → NoThis o cs
-  lives n cs i other =
-      none t few o n zero (λ b. other (law_own few n (x.tasks u).env.exec (few.home o) b belongs)) cs (stack n cs i) (law_nowhere.lives t few j x o nowhere n cs i)
-
-  abbrev Apart : Exec → Ex → Type 0
-  Apart n y = (n ≡ (x.tasks u).env.exec → ⊥) × FreshEx n y
-
-  spared : (g : Stage) (n : Exec) (y : Ex) → y.links.stage ≡ g → (y.links.stage ≡ Started → Lives j x n (y.run ∷ y.callers)) → Apart n y → SparesBy t few o g n y
-  spared Fresh n y e i a = fresh_unopened y.links.stage n y e a.1
-  spared Started n y e i a = λ k. making t few o k.sigs (y.run ∷ y.callers) (lives n (y.run ∷ y.callers) (i e) a.0)
-  spared Ended n y e i a = tt
-
-  spares : (v : ℕ) → EnvBy (λ n y. n ≡ (x.tasks u).env.exec → ⊥) (x.tasks v).env → EnvBy FreshEx (x.tasks v).env → EnvBy (SparesEx t few o) (x.tasks v).env
-  spares v names fresh =
-      env_in Apart (SparesEx t few o) (x.tasks v).env (λ n y i a. spared y.links.stage n y refl (λ g. inr (inl (v, i g))) a) (both_env (λ n y. n ≡ (x.tasks u).env.exec → ⊥) FreshEx Apart (λ n y a b. (a, b)) (x.tasks v).env names fresh)
-
 pub law_no_others : LawNoOthers
 law_no_others = record {
   none = λ t few o n cs h z b f. none t few o n z b cs h f;
   making = λ t few o gs cs h. making t few o gs cs h;
-  lives = λ t few j x u o h k z b n cs i f. lives t few j x u o h k z b n cs i f;
-  spares = λ t few j x u o h k z b v names fresh. spares t few j x u o h k z b v names fresh;
 }

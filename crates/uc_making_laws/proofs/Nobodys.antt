@@ -115,6 +115,7 @@ module _ (t : Table) (few : Few) (zero : (n : Exec) → Belongs few n (few.home 
       number = not_zero t few zero j a x u o h i.this i.lets left owed silent;
       waiting = waiting;
       running = running;
+      elsewhere = λ v on e. (elsewhere v on e).0;
       tasks = λ v. record {
         house = parked_none o me (home.Task (x.tasks v).env.own) (x.tasks v).env.house.parked (task_apart (x.tasks v).env.own o) (λ n cs away l. others n cs away (inr (inl (v, inl l)))) (w.tasks v).slots.house (h.name.tasks v).house;
         hand = subst (HandBy (NoneEx o)) (sym (w.bare v)) tt;

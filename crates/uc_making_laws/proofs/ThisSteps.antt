@@ -22,11 +22,11 @@ use Rattle.uc_machine.specs.Polls as polls
 use Rattle.uc_machine.specs.Quiet as quiet
 use Rattle.uc_machine.specs.Pieces as piece
 use Rattle.uc_machine.specs.Pieces.{Value, Number, Place, Running, Object, Nothing, Todo, Sort, Active, State, Env, Members, Step, Goes, Ticks, Asks, Outcome, Gives, Faults, at, in_env, top, below, number, nought, written}
-use Rattle.uc_typing.specs.Typing.{Ty, Cell, Obj, Table}
+use Rattle.uc_typing.specs.Typing.{Ty, Table}
 use Rattle.uc_life_laws.specs.Things.{Few, Things}
 use Rattle.uc_making_laws.specs.OwnThis.{HasHome, Has, ThisStack, ThisState, ThisStep}
 use Rattle.uc_life_laws.proofs.Cells.{either}
-use Rattle.uc_life_laws.proofs.Rooted.{stands_more}
+use Rattle.uc_apart_laws.proofs.Clear.{home_more}
 use Rattle.uc_making_laws.proofs.ThisKeeping as kept
 use Rattle.uc_making_laws.proofs.ThisKeeping.{Keeps}
 
@@ -36,7 +36,7 @@ module _ (t : Table) (few : Few) (n : Exec) where
   more_object ds es f o (inl e) = inl e
   more_object ds es f o (inr (inl b)) = inr (inl b)
   more_object ds es f o (inr (inr h)) =
-      inr (inr (h.0, stands_more t few (Things t few n ds) (Things t few n es) f (Cell (Obj h.0)) (few.home o) h.1))
+      inr (inr (h.0, home_more t few o (Things t few n ds) (Things t few n es) f h.0 h.1))
 
   pub more : (v : Value) (ds es : List Active) → ((w : Value) (a : Ty) → Things t few n ds w a → Things t few n es w a) → Has t few n ds v → Has t few n es v
   more (Number z) ds es f h = tt

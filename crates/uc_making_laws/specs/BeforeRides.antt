@@ -1,17 +1,19 @@
--- Just before an object goes, or its building is given up, it is nowhere in the world: so nobody else has it at hand.
-use Rattle.std.specs.Prelude.{◌≡◌, ℕ, false, List, [], ◌∷◌}
+-- Just before an object goes, or its building is given up, nobody else has it at hand, and nobody is to clean up anything around it.
+use Rattle.std.specs.Prelude.{◌≡◌, ℕ, ◌≤◌, false, List, [], ◌∷◌}
 use Rattle.uc_tree.specs.Source.{Source}
 use Rattle.uc_entry.specs.declared.entry.Options.{Options}
 use Rattle.uc_entry.specs.declared.request.Asked.{Asked}
 use Rattle.uc_acts.specs.Journal.{Journal, is_over}
+use Rattle.uc_acts.specs.Stations.{times}
 use Rattle.uc_acts.specs.KernelRuns.{InRange}
 use Rattle.uc_acts.specs.Serves.{left}
+use Rattle.uc_step_laws.specs.Hands.{keys}
 use Rattle.uc_machine.specs.declared.exec.Exec.{Exec}
 use Rattle.uc_machine.specs.declared.exec.Stage.{Stage}
 use Rattle.uc_machine.specs.declared.exec.Stage.TheVariants.{Fresh, Started, Ended}
 use Rattle.uc_machine.specs.Switches.{without}
 use Rattle.uc_machine.specs.Monitors.{this_object}
-use Rattle.uc_machine.specs.Pieces.{Todo, MadeNow, SpawnNow, GoneNow, GiveUpNow, Active, State}
+use Rattle.uc_machine.specs.Pieces.{Todo, MadeNow, SpawnNow, GoneNow, GiveUpNow, State}
 use Rattle.uc_machine.specs.Answering.{answered}
 use Rattle.uc_meaning.specs.Runs.{World, Runs, AsksIn, drawn}
 use Rattle.uc_state_laws.specs.Fitting.{RunFits}
@@ -25,8 +27,7 @@ use Rattle.uc_life_laws.specs.Knowing.{KnowsState}
 use Rattle.uc_depth_laws.specs.Owing.{Ex}
 use Rattle.uc_life_laws.specs.Belonging.{Belongs}
 use Rattle.uc_life_laws.specs.Marks.{Marked, Free, Puts}
-use Rattle.uc_life_laws.specs.Rooted.{Lives}
-use Rattle.uc_apart_laws.specs.Before.{world_at, Before}
+use Rattle.uc_apart_laws.specs.Before.{Before}
 use Rattle.uc_apart_laws.specs.Clear.{IsNoHome, IsClearAt}
 use Rattle.uc_putting_laws.specs.LoneObjects.{LoneObject}
 use Rattle.uc_rooted_runs.specs.Binds.{BindsOwn}
@@ -48,22 +49,22 @@ module _ (t : Table) (few : Few) (o : ℕ) where
 abbrev pub HaveNoHome : Table → Few → State → Type 0
 HaveNoHome t few v = EnvBy (HasNoHome t few (this_object v)) (record v.env { hand = without (this_object v) v.env.hand })
 
-module _ (t : Table) (few : Few) (j : Journal) (w : World) (u : ℕ) (v : State) where
-  -- while task u has come to a state: nothing that those which live have of others is that in which the object is at home
-  abbrev pub LiveElsewhere : ℕ → Type 0
-  LiveElsewhere o = (n : Exec) (cs : List Active) → Lives j (world_at w u v) n cs → IsNoHome t few o (Base few n)
+-- the object at hand is not the own one of the task, which has each object in hand once
+abbrev pub IsOther : State → Type 0
+IsOther v = (v.env.own ≡ this_object v → ⊥) × ((q : ℕ) → times q (keys v.env.hand) ≤ 1)
 
+module _ (t : Table) (few : Few) (v : State) where
   -- an object is at home in what is the own of who runs, where nothing is to be cleaned up
   abbrev pub IsLone : ℕ → Type 0
   IsLone o = Belongs few v.env.exec (few.home o) × Free t few o (Marked t v.env.exec (v.run ∷ v.callers))
 
-  -- so it is where an object goes, or is given up; where an object has been built, what the others have of others is not that in which it is at home; both
-  -- need be so of objects alone of which that is known; and where one is entered again to be destroyed, those of whom it is asked are clear
+  -- where an object goes, is given up, or has been built, and is not the own one of the task, what the others have of others is not that in which it is at
+  -- home, which need be so of objects alone of which that is known; and where one is entered again to be destroyed, those of whom it is asked are clear
   abbrev pub ElsewhereOnWayBy : Source → List Todo → Type 0
-  ElsewhereOnWayBy source (GoneNow ∷ todo) = IsLone (this_object v) → LiveElsewhere (this_object v)
-  ElsewhereOnWayBy source (GiveUpNow ∷ todo) = IsLone (this_object v) → LiveElsewhere (this_object v)
-  ElsewhereOnWayBy source (MadeNow ∷ todo) = IsLone (this_object v) → HaveNoHome t few v
-  ElsewhereOnWayBy source (SpawnNow r ∷ todo) = IsLone (this_object v) → HaveNoHome t few v
+  ElsewhereOnWayBy source (GoneNow ∷ todo) = IsLone (this_object v) → IsOther v → HaveNoHome t few v
+  ElsewhereOnWayBy source (GiveUpNow ∷ todo) = IsLone (this_object v) → IsOther v → HaveNoHome t few v
+  ElsewhereOnWayBy source (MadeNow ∷ todo) = IsLone (this_object v) → IsOther v → HaveNoHome t few v
+  ElsewhereOnWayBy source (SpawnNow r ∷ todo) = IsLone (this_object v) → IsOther v → HaveNoHome t few v
   ElsewhereOnWayBy source todo = (k : KnowsState t few [] v) → IsClearAt t few source v k todo
 
   abbrev pub ElsewhereOnWay : Source → Type 0
@@ -71,9 +72,10 @@ module _ (t : Table) (few : Few) (j : Journal) (w : World) (u : ℕ) (v : State)
 
 -- on the way to what a task asks next, behind a run in which all that was asked so far fits, no step forgets the running execution, calls a main or binds
 -- what stands in a frame of another one, routines are there and unwindings have reasons, nobody leaves its home for good, marks are put for what is an
--- execution's own, nothing is to be cleaned up around what has been built, object 0 is at home in nobody's own, and activations have their objects: just before an object goes, or its building is given up, it is nowhere in the world, and who does
--- not run in the task spares it, as long as what executions have of others is elsewhere; so it is before the first step that forgets the running execution, if
--- there is one
+-- execution's own, nothing is to be cleaned up around what has been built, object 0 is at home in nobody's own, and activations have their objects: just
+-- before an object is let go of, those that do not run in the task are clear of it, as long as what they have of others is elsewhere; and before one goes, or
+-- its building is given up, nobody who lives is to clean up anything around it; so it is before the first step that forgets the running execution, if there is
+-- one
 abbrev pub LawBeforeRides : Type 0
 LawBeforeRides =
     (t : Table) (few : Few) (source : Source) (input : List ℕ) (opts : Options) (j : Journal) (w : World)
@@ -90,5 +92,5 @@ LawBeforeRides =
     RideMeets (Puts t few) source (answered source d.given (drawn j w u)) (left opts j u) s n q d.rides →
     RideMeets (LoneObject t few source) source (answered source d.given (drawn j w u)) (left opts j u) s n q d.rides →
     RideMeets (FindsThis t few source) source (answered source d.given (drawn j w u)) (left opts j u) s n q d.rides →
-    RideMeets (λ v. ElsewhereOnWay t few j w u v source) source (answered source d.given (drawn j w u)) (left opts j u) s n q d.rides →
+    RideMeets (λ v. ElsewhereOnWay t few v source) source (answered source d.given (drawn j w u)) (left opts j u) s n q d.rides →
     RideWhile names.Spares (λ v. Before t few j w u v source) source (answered source d.given (drawn j w u)) (left opts j u) s n q d.rides

@@ -1,5 +1,5 @@
 -- Runs in which who makes an object builds it until it is asked that the object is let go of.
-use Rattle.std.specs.Prelude.{◌≡◌, ℕ, ◌<◌, ◌⊎◌, Bool, true, false, List, [], ◌∷◌, length, drop, Option, Some, None, slice_get}
+use Rattle.std.specs.Prelude.{◌≡◌, ℕ, ◌<◌, ◌⊎◌, Bool, true, false, List, ◌∷◌, length, drop, Option, Some, None, slice_get}
 use Rattle.uc_tree.specs.Source.{Routine, Source}
 use Rattle.uc_entry.specs.declared.entry.Entry.{Entry}
 use Rattle.uc_entry.specs.declared.entry.Options.{Options}
@@ -17,34 +17,27 @@ use Rattle.uc_state_laws.specs.Fitting.{RunFits}
 use Rattle.uc_state_laws.specs.RoomRuns.{Comes}
 use Rattle.uc_state_laws.specs.Opens.{RunMeets, LeadsMeet}
 use Rattle.uc_name_laws.specs.NameSteps.{Spares}
+use Rattle.uc_inner_laws.specs.Standing.{Calls}
 use Rattle.uc_life_laws.specs.RunningRuns.{RunLeaves}
 use Rattle.uc_life_laws.specs.LifeStates.{EnvBy}
-use Rattle.uc_putting_laws.specs.ObjectsAtHand.{lets_go, IsBuilt}
-use Rattle.uc_making_laws.specs.LettingGo.{opens_object}
-use Rattle.uc_making_laws.specs.Builders.{Lets, BuildsEx, AsksLetting}
+use Rattle.uc_making_laws.specs.Builders.{opens_built, lets_built, Lets, Building, BuildsEx, AsksLetting}
 
-abbrev pub opens_by : Option Routine → Bool
-opens_by None = false
-opens_by (Some x) = opens_object x.body
-
--- this routine is called first
-abbrev pub Calls : ℕ → List Todo → Type 0
-Calls k (piece.CallOnNow i ∷ todo) = i ≡ k
-Calls k (piece.CallUnwrittenNow i ∷ todo) = i ≡ k
-Calls k todo = ⊥
+abbrev pub opens_by : Bool → Option Routine → Bool
+opens_by every None = false
+opens_by every (Some x) = opens_built every x.body
 
 -- at the end of the main of a task nothing is left that lets go of an object
-abbrev pub FinishesBy : List Todo → Type 0
-FinishesBy (piece.Finish ∷ todo) = lets_go todo ≡ false
-FinishesBy todo = Unit {0}
+abbrev pub FinishesBy : Bool → List Todo → Type 0
+FinishesBy every (piece.Finish ∷ todo) = lets_built every todo ≡ false
+FinishesBy every todo = Unit {0}
 
-abbrev pub Finishes : State → Type 0
-Finishes s = FinishesBy s.run.control
+abbrev pub Finishes : Bool → State → Type 0
+Finishes every s = FinishesBy every s.run.control
 
-module _ (source : Source) (o : ℕ) (m : Exec) where
+module _ (source : Source) (every : Bool) (o : ℕ) (m : Exec) where
   -- the routine is in a scope of its object as a whole
   abbrev pub opens_so : ℕ → Bool
-  opens_so k = opens_by (slice_get source.routines k)
+  opens_so k = opens_by every (slice_get source.routines k)
 
   -- such a one is called next on the object, or behind what binds that
   abbrev pub CalledNext : ℕ → List Value → Type 0
@@ -63,11 +56,11 @@ module _ (source : Source) (o : ℕ) (m : Exec) where
 
   -- who builds the object, or is about to
   abbrev pub Here : State → Type 0
-  Here s = IsBuilt s.callers o ⊎ ((s.run.this ≡ Object o) × Lets s.run.control)
+  Here s = Building every s.callers o ⊎ ((s.run.this ≡ Object o) × Lets every s.run.control)
 
   pub record NearState (s : State) : Type 0 where
     pub stack : s.env.exec ≡ m → Here s ⊎ Nears s.run.control s.run.operands
-    pub env : EnvBy (BuildsEx o m) s.env
+    pub env : EnvBy (BuildsEx every o m) s.env
 
   -- in an act who runs, of this name, makes the object
   pub record Makes (j : Journal) (s : State) (class : ℕ) : Type 0 where
@@ -85,7 +78,7 @@ module _ (source : Source) (o : ℕ) (m : Exec) where
     abbrev pub KeepsBy : {j : Journal} {w : World} {a : List Entry} {x : World} → May source opts input j w a x → Type 0
     KeepsBy (gives p t s h) = Unit {0}
     KeepsBy (no_room p t s h) = Unit {0}
-    KeepsBy (acts p t n s asked d) = AsksLetting o m asked.request → ⊥
+    KeepsBy (acts p t n s asked d) = AsksLetting every o m asked.request → ⊥
 
     -- so the object was made in a run, and has not been let go of
     abbrev pub IsUnderWay : {j : Journal} {w : World} → Runs source input opts j w → Type 0
@@ -96,9 +89,9 @@ module _ (source : Source) (o : ℕ) (m : Exec) where
 -- for good, no step forgets the running execution, and mains end with nothing left
 abbrev pub LawBuilderRuns : Type 0
 LawBuilderRuns =
-    (source : Source) (o : ℕ) (m : Exec) (input : List ℕ) (opts : Options) (j : Journal) (w : World)
+    (source : Source) (every : Bool) (o : ℕ) (m : Exec) (input : List ℕ) (opts : Options) (j : Journal) (w : World)
     (r : Runs source input opts j w) → InRange opts → RunFits source input opts j w r → is_over j ≡ false →
     RunLeaves source input opts j w r → RunMeets Spares source input opts j w r →
-    RunMeets Finishes source input opts j w r → IsUnderWay source o m input opts r →
+    RunMeets (Finishes every) source input opts j w r → IsUnderWay source every o m input opts r →
     (t : ℕ) (s : State) (c : Comes source j w t s) →
-    LeadsMeet Finishes source (answered source c.given (drawn j w t)) s c.leads → NearState source o m s
+    LeadsMeet (Finishes every) source (answered source c.given (drawn j w t)) s c.leads → NearState source every o m s

@@ -20,7 +20,7 @@ use Rattle.uc_life_laws.specs.Things.{Few, Base, Things}
 use Rattle.uc_life_laws.specs.Belonging.{Belongs}
 use Rattle.uc_life_laws.specs.Marks.{Puts}
 use Rattle.uc_life_laws.specs.Lasting.{RunForgets}
-use Rattle.uc_life_laws.specs.Rooted.{IsPlace, Lives}
+use Rattle.uc_life_laws.specs.Rooted.{IsBase, Lives}
 use Rattle.uc_apart_laws.specs.Clear.{IsNoHome}
 use Rattle.uc_rooted_runs.specs.Binds.{BindsOwn}
 use Rattle.uc_rooted_runs.specs.Mains.{CallsNoMain, FindsAll}
@@ -54,14 +54,14 @@ module _ (t : Table) (few : Few) where
 abbrev pub IsOwedNothing : Journal → List Entry → World → ℕ → ℕ → Type 0
 IsOwedNothing j a x u o = owed_waiting o (x.tasks u).callers ≡ 0
 
--- then nobody has at hand what has gone, as long as all that was asked so far fits, what executions have of others are places, no step binds what stands in
+-- then nobody has at hand what has gone, as long as all that was asked so far fits, what executions have of others are places, or objects that are not whole, no step binds what stands in
 -- a frame of another one, forgets the running one or calls a main, routines are there, unwindings have reasons, nobody leaves its home for good, marks are
 -- put for what is an execution's own, object 0 is at home in nobody's own, what is called, made and spawned is had, and told of or let go of by what is called
 abbrev pub LawForgetsThis : Type 0
 LawForgetsThis =
     (t : Table) (few : Few) (source : Source) (input : List ℕ) (opts : Options) (j : Journal) (w : World)
     (r : Runs source input opts j w) → InRange opts → RunFits source input opts j w r → is_over j ≡ false →
-    ((n : Exec) (w : Value) (b : Ty) → Base few n w b → IsPlace w) →
+    ((n : Exec) (w : Value) (b : Ty) → Base few n w b → IsBase w b) →
     ((n : Exec) → Belongs few n (few.home 0) → ⊥) →
     RunMeets (BindsOwn source) source input opts j w r →
     RunMeets (CallsNoMain source) source input opts j w r →

@@ -18,13 +18,13 @@ use Rattle.uc_machine.specs.Pieces as piece
 use Rattle.uc_machine.specs.Pieces.{Value, Todo, Active, State, Members, Step, Goes, Ticks, Asks, top, below}
 use Rattle.uc_machine.specs.Quiet.{quiet, home_at, first_state, routine_todo}
 use Rattle.uc_machine.specs.Answering.{answered}
-use Rattle.uc_typing.specs.Typing.{Cell, Obj, Table}
-use Rattle.uc_life_laws.specs.Things.{Few, Things, Stands}
+use Rattle.uc_typing.specs.Typing.{Table}
+use Rattle.uc_life_laws.specs.Things.{Few, Things}
 use Rattle.uc_life_laws.specs.LifeStates.{EnvBy, MembersBy}
 use Rattle.uc_life_laws.specs.Silent.{AllSilent}
 use Rattle.uc_life_laws.specs.Knowing.{main_of}
 use Rattle.uc_depth_laws.specs.Owing.{owed_waiting}
-use Rattle.uc_apart_laws.specs.Clear.{IsNoHome}
+use Rattle.uc_apart_laws.specs.Clear.{HomeAt, IsNoHome}
 use Rattle.uc_making_laws.specs.NoOthers.{NoThis}
 
 -- a clean-up lets go of the mutex object at hand, as that is destroyed or built; and statements are in such a scope as a whole
@@ -100,11 +100,11 @@ LeavesAt (piece.Guard hs ∷ todo) = AllClosed hs
 LeavesAt todo = Unit {0}
 
 module _ (t : Table) (few : Few) where
-  -- the place where a mutex object is at home stands in what these activations have at hand, or one of them is to let go of the object; object 0 is that
-  -- of the program's main, which the main of task 0 has
+  -- the place where a mutex object is at home stands in what these activations have at hand, or they have it itself as one that is not whole, or one of them
+  -- is to let go of the object; object 0 is that of the program's main, which the main of task 0 has
   abbrev pub IsTold : Exec → List Active → ℕ → Type 0
   IsTold n older o = ((o ≡ 0) × (n ≡ main_of 0)) ⊎
-      (((c : ℕ) × Stands t few (Things t few n older) (Cell (Obj c)) (few.home o)) ⊎
+      (((c : ℕ) × HomeAt t few o (Things t few n older) c) ⊎
       (0 < owed_waiting o older))
 
   abbrev pub Told : Exec → List Active → Value → Type 0

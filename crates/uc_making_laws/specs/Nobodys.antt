@@ -1,5 +1,5 @@
 -- Runs in which no activation is of what has gone, but the one that let go of it, which only comes to its end.
-use Rattle.std.specs.Prelude.{◌≡◌, ℕ, ◌⊎◌, false, List, ◌∷◌, ◌++◌}
+use Rattle.std.specs.Prelude.{◌≡◌, ◌==◌, ℕ, ◌⊎◌, false, List, ◌∷◌, ◌++◌}
 use Rattle.uc_tree.specs.Source.{Source}
 use Rattle.uc_entry.specs.declared.entry.Entry.{Entry}
 use Rattle.uc_entry.specs.declared.entry.Options.{Options}
@@ -39,13 +39,14 @@ NoneBy o Ended y = Unit {0}
 abbrev pub NoneEx : ℕ → Exec → Execution (List Todo) Value → Type 0
 NoneEx o n y = NoneBy o y.links.stage y
 
--- behind an act by which an object goes, which is not object 0: of tasks that have not ended, no activation that waits is of it, nor the one that runs, but
--- where that only comes to its end; and no execution that does not run has one
+-- behind an act by which an object goes, which is not object 0: of tasks that have not ended, no activation that waits is of it, nor the one that runs, but in
+-- the task that acts, where that only comes to its end; and no execution that does not run has one
 pub record IsNobodys (j : Journal) (a : List Entry) (x : World) (u o : ℕ) : Type 0 where
   pub number : o ≡ 0 → ⊥
   pub waiting : (v : ℕ) → has_ended v (j ++ a) ≡ false → NoThis o (x.tasks v).callers
   pub running : (v : ℕ) → has_ended v (j ++ a) ≡ false →
       ((x.tasks v).run.this ≡ Object o → ⊥) ⊎ AllSilent (x.tasks v).run.control
+  pub elsewhere : (v : ℕ) → has_ended v (j ++ a) ≡ false → (v == u) ≡ false → (x.tasks v).run.this ≡ Object o → ⊥
   pub tasks : (v : ℕ) → EnvBy (NoneEx o) (x.tasks v).env
   pub homes : (q : ℕ) → MembersBy (NoneEx o) (home.Object q) (x.homes q)
 

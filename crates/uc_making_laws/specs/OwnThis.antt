@@ -14,19 +14,20 @@ use Rattle.uc_machine.specs.Pieces as piece
 use Rattle.uc_machine.specs.Pieces.{Value, Todo, CallOnNow, CallUnwrittenNow, SetUpNow, SpawnNow, Active, State, Members, Step, Goes, Ticks, Asks, top, below}
 use Rattle.uc_machine.specs.Quiet.{quiet, home_at, first_state}
 use Rattle.uc_machine.specs.Answering.{answered}
-use Rattle.uc_typing.specs.Typing.{Cell, Obj, Table}
-use Rattle.uc_life_laws.specs.Things.{Few, Things, Stands}
+use Rattle.uc_typing.specs.Typing.{Table}
+use Rattle.uc_life_laws.specs.Things.{Few, Things}
+use Rattle.uc_apart_laws.specs.Clear.{HomeAt}
 use Rattle.uc_life_laws.specs.LifeStates.{EnvBy, MembersBy}
 use Rattle.uc_life_laws.specs.Knowing.{main_of}
 use Rattle.uc_life_laws.specs.Belonging.{Belongs}
 
 module _ (t : Table) (few : Few) where
-  -- a mutex object is at home in what is the execution's own, or where what these activations have at hand stands; object 0 is that of the program's
-  -- main
+  -- a mutex object is at home in what is the execution's own, or where what these activations have at hand stands, or they have it itself as one that is
+  -- not whole; object 0 is that of the program's main
   abbrev pub HasHome : Exec → List Active → ℕ → Type 0
   HasHome n older o = (o ≡ 0) ⊎
       (Belongs few n (few.home o) ⊎
-      ((c : ℕ) × Stands t few (Things t few n older) (Cell (Obj c)) (few.home o)))
+      ((c : ℕ) × HomeAt t few o (Things t few n older) c))
 
   -- so it is of an object by its value, where it is a mutex object
   abbrev pub Has : Exec → List Active → Value → Type 0

@@ -1,5 +1,5 @@
 -- What holds the execution of a coroutine in the newest frame is a scope of a variable there, which lies before the cells that start anew.
-use Rattle.std.proofs.Common.{◌≡◌, ℕ, suc, ◌+◌, ◌*◌, ◌≤◌, ◌<◌, ◌⊎◌, inl, inr, Bool, true, false, List, [], ◌∷◌, length, Some, refl, sym, ap, ◌∙◌, subst, arith}
+use Rattle.std.proofs.Common.{◌≡◌, ℕ, ◌<◌, ◌⊎◌, inl, inr, Bool, true, false, List, [], ◌∷◌, length, Some, refl, sym, ap, ◌∙◌, subst, arith}
 use Rattle.uc_tree.specs.Source as src
 use Rattle.uc_tree.specs.Source.{Shape, Expr, CleanUp}
 use Rattle.uc_tree.specs.Programs.{Program}
@@ -12,13 +12,13 @@ use Rattle.uc_typing.specs.Typing.{Obj, Row, CleansAt}
 use Rattle.uc_state_laws.specs.Layout.{Sized}
 use Rattle.uc_state_laws.specs.Rooms.{Room, LiesAt, LiesIn, Destroyed, Lies, OwnAt, OwnIn, OwnPart}
 use Rattle.uc_state_laws.specs.RoomStates.{PieceIn, Reached, IsBefore, AllBefore}
-use Rattle.uc_state_laws.specs.RoomStacks.{UpTo, TodoTo, FrameBefore, StackState}
+use Rattle.uc_state_laws.specs.RoomStacks.{UpTo, TodoTo, StackState}
 use Rattle.uc_state_laws.proofs.Stacks.{next_by}
 use Rattle.uc_state_laws.proofs.StackWalk.{cleared}
 use Rattle.uc_sound.proofs.SoundLemmas.{law_sound}
 use Rattle.uc_life_laws.specs.Placed.{Placed}
-use Rattle.uc_life_laws.specs.Destroying.{Seat, Destroying, AtPlace, AtElement, EndsAt, EndsElement, EndsBelow, CleansUp}
-use Rattle.uc_life_laws.specs.Held.{Seating, HeldBy, HeldIn, Held, IsHeld, ClearsBehind}
+use Rattle.uc_life_laws.specs.Destroying.{Seat, Destroying, AtPlace, AtElement, EndsAt, EndsElement, CleansUp}
+use Rattle.uc_life_laws.specs.Held.{Seating, HeldBy, HeldIn, Held, ClearsBehind}
 use Rattle.uc_life_laws.proofs.Laying.{laid_out}
 use Rattle.uc_putting_laws.specs.CleanedSpots.{Site, Under, IsOver, Reach}
 use Rattle.uc_life_laws.specs.Ending.{Spot, OfVariable}
@@ -27,7 +27,7 @@ use Rattle.uc_putting_laws.specs.Putting.{Setting, Around, around, CodeScope, Le
 use Rattle.uc_putting_laws.proofs.Marks.{left, left_tail, waits_left}
 use Rattle.uc_parts_laws.specs.ClearedFrames.{IsLaid, LawClearedFrames}
 use Rattle.uc_parts_laws.specs.Parts.{FreeBy, IsFree}
-use Rattle.uc_parts_laws.proofs.FramesStay.{InFrame, outward, destroyed_in, none_ends, none_numbers, each_ends, each_numbers, below_own, held_below}
+use Rattle.uc_parts_laws.proofs.FramesStay.{outward, destroyed_in, none_ends, none_numbers, each_ends, each_numbers, below_own, held_below}
 use Rattle.uc_parts_laws.proofs.Extents.{at_variable, at_element}
 use Rattle.uc_parts_laws.proofs.LeadingCells.{has_cells}
 

@@ -1,7 +1,7 @@
 -- A coroutine lies within what a destructor that comes to the end of it is called for: so where that stands at a variable, the first cell of the coroutine lies
 -- before the cell at which the variable ends.
-use Rattle.std.proofs.Common.{◌≡◌, ℕ, zero, suc, ◌+◌, ◌*◌, ◌≤◌, ◌<◌, ◌⊎◌, inl, inr, Bool, true, false, List, [], ◌∷◌, Some, refl, sym, ap, ◌∙◌, subst, arith}
-use Rattle.std.specs.Prelude.{min, slice_get}
+use Rattle.std.proofs.Common.{◌≡◌, ℕ, zero, suc, ◌+◌, ◌*◌, ◌≤◌, ◌<◌, inl, inr, Bool, true, false, List, [], ◌∷◌, Some, refl, sym, ap, ◌∙◌, subst, arith}
+use Rattle.std.specs.Prelude.{min}
 use Rattle.std.proofs.Math.Nat.{min-le_left}
 use Rattle.std.proofs.lemmas.Nat.{mul-le}
 use Rattle.uc_tree.specs.Source as src
@@ -11,7 +11,7 @@ use Rattle.uc_machine.specs.declared.exec.Owner.{Owner}
 use Rattle.uc_machine.specs.declared.exec.Owner.TheVariants.{Frame}
 use Rattle.uc_machine.specs.Pieces.{Link, Slot, FieldAt, At, Value, Place, LAST_ADDRESS, address, further}
 use Rattle.uc_name_laws.proofs.Homes.{no_both}
-use Rattle.uc_typing.specs.Typing.{Ty, Num, Cell, Obj, Raw, Row, Clu, Pro, Name, Var, Own, Kept, Sig, Table, element_shape, DestroysAt, DestroysEach, CleansAt, Cleans, FineClean, FineStmts}
+use Rattle.uc_typing.specs.Typing.{Ty, Num, Cell, Obj, Raw, Row, Clu, Pro, Name, Var, Own, Kept, Sig, Table, element_shape, DestroysAt, DestroysEach, Cleans, FineClean, FineStmts}
 use Rattle.uc_typing.specs.States.{Sound}
 use Rattle.uc_life_laws.specs.Things.{IsField, Within}
 use Rattle.uc_life_laws.specs.Things as things

@@ -1,25 +1,24 @@
 -- What destroys a coroutine in a frame is called for a variable of that, or at a field of what a constructor or a destructor has at hand, which lies in an
 -- older frame.
-use Rattle.std.proofs.Common.{◌≡◌, ℕ, suc, ◌≤◌, ◌<◌, ◌⊎◌, inl, inr, ⊎_elim, Bool, true, false, List, [], ◌∷◌, length, Some, refl, sym, ap, ◌∙◌, subst, arith}
+use Rattle.std.proofs.Common.{◌≡◌, ℕ, suc, ◌<◌, ◌⊎◌, inl, inr, ⊎_elim, true, false, List, [], ◌∷◌, length, sym, ap, ◌∙◌, subst, arith}
 use Rattle.uc_tree.specs.Source as src
 use Rattle.uc_tree.specs.Source.{Source, Expr, CleanUp, Stmts}
-use Rattle.uc_tree.specs.Programs.{Program}
 use Rattle.uc_machine.specs.declared.exec.Exec.{Exec}
 use Rattle.uc_machine.specs.declared.exec.Owner.TheVariants.{Frame, Fields}
 use Rattle.uc_machine.specs.Pieces as piece
 use Rattle.uc_machine.specs.Pieces.{Link, Slot, FieldAt, At, Value, Number, Place, Running, Object, Nothing, Todo, Sort, Active, State, further}
 use Rattle.uc_name_laws.proofs.Homes.{no_both}
 use Rattle.uc_state_laws.specs.Layout.{Sized}
-use Rattle.uc_state_laws.specs.RoomStacks.{Stack, StackState}
+use Rattle.uc_state_laws.specs.RoomStacks.{Stack}
 use Rattle.uc_life_laws.specs.Placed.{Placed}
-use Rattle.uc_life_laws.specs.Destroying.{Seat, Destroying, itself, field, element, mutex, mutexes, DestroyingAt, AtPlace, AtElement, EndsAt, EndsElement, EndsBelow, CleansUp}
-use Rattle.uc_life_laws.specs.Held.{Seating, AreLines, HeldBy, HeldIn, Held, Opens, WaitsBy, Waits, IsHeld, IsWaitedFor, LetsGo}
+use Rattle.uc_life_laws.specs.Destroying.{Seat, Destroying, itself, field, element, mutex, mutexes, DestroyingAt, AtPlace, AtElement, EndsAt, EndsElement, CleansUp}
+use Rattle.uc_life_laws.specs.Held.{AreLines, HeldBy, HeldIn, Held, Opens, WaitsBy, Waits, IsHeld, IsWaitedFor}
 use Rattle.uc_life_laws.specs.Ending.{Spot}
 use Rattle.uc_putting_laws.specs.CleanedSpots.{Site, IsOver, Reach, apart}
 use Rattle.uc_putting_laws.specs.ObjectsAtHand.{BelongsBelow, in_frame, in_fields, in_object}
 use Rattle.uc_putting_laws.specs.Calling as calling
-use Rattle.uc_putting_laws.specs.Putting.{Setting, Around, around, Mark, Any, SeatAt, CodeScope, CodePart, CodeRest, LeftBy, Ok, Left, Waits as PutWaits, Runs as PutRuns, PutState}
-use Rattle.uc_putting_laws.proofs.Marks.{left, left_tail, ActiveLeft, AllLeft, waits_left}
+use Rattle.uc_putting_laws.specs.Putting.{Setting, Around, around, Mark, Any, SeatAt, CodeScope, CodeRest, LeftBy, Ok, Left, Waits as PutWaits, Runs as PutRuns}
+use Rattle.uc_putting_laws.proofs.Marks.{left_tail, AllLeft, waits_left}
 use Rattle.uc_place_laws.specs.OlderResting.{AllWait}
 use Rattle.uc_parts_laws.specs.FramesStay.{IsEnd, LawFramesStay}
 

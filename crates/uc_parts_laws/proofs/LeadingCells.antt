@@ -1,5 +1,5 @@
 -- A class of which the objects have executions has at least one cell.
-use Rattle.std.proofs.Common.{◌≡◌, ℕ, zero, suc, ◌+◌, ◌-◌, ◌<◌, ◌≤◌, ℤ, Bool, true, false, List, [], ◌∷◌, ◌++◌, Option, Some, None, length, map, refl, sym, ap, ◌∙◌, subst, arith}
+use Rattle.std.proofs.Common.{◌≡◌, ℕ, zero, suc, ◌-◌, ◌<◌, ◌≤◌, ℤ, Bool, true, false, List, [], ◌∷◌, ◌++◌, Option, Some, None, length, map, refl, sym, ap, ◌∙◌, subst, arith}
 use Rattle.std.specs.Prelude.{◌||◌, not, slice_get, nat_eq, if◌then◌else◌}
 use Rattle.std.specs.List.{list_any}
 use Rattle.uc_tree.specs.declared.kinds.Base.{Base}
@@ -21,7 +21,6 @@ use Rattle.uc_rules.specs.Breaks.{breaks_of}
 use Rattle.uc_rules.specs.ClassBreaks.{is_new_field, fields_at, home_leads_back, leads_back}
 use Rattle.uc_rules.specs.Scopes.{plain_env, class_around}
 use Rattle.uc_rules.specs.ProgramVisits.{program_visits}
-use Rattle.uc_sound.specs.SoundFormed.{IsFormed}
 use Rattle.uc_sound.specs.Unbroken.{Unbroken}
 use Rattle.uc_sound.specs.Tables.{of_kind, table_of}
 use Rattle.uc_sound.proofs.Ties.{some_same, none_some, false_true}

@@ -171,7 +171,7 @@ module _ (source : Source) (special : ℕ → Bool) (makers : Makers) (homes : �
   exits (piece.Sweep d) todo l = absurd l
   exits p todo l = tt
 
-  leaves : PartsState (G source special homes) s → (l : List Todo) → s.run.control ≡ l → IsOrderly special Q s.run.elements l → GoesAt source Seats Up l s → KeepsAt (with_homes homes makers) asked source Up l s
+  pub leaves : PartsState (G source special homes) s → (l : List Todo) → s.run.control ≡ l → IsOrderly special Q s.run.elements l → GoesAt source Seats Up l s → KeepsAt (with_homes homes makers) asked source Up l s
   leaves st [] e k g = g
   leaves st (piece.ClearNow i m ∷ todo) e k g = g
   leaves st (piece.Finish ∷ todo) e k g = g

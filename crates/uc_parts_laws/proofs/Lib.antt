@@ -35,4 +35,10 @@ pub mod StandingKeeping
 pub mod StandingSteps
 pub mod StandingWalk
 pub mod StandingRuns
+pub mod StandingApart
+pub mod GoingApart
+pub mod StandingPrograms
+pub mod BoundAside
 pub mod LoneSweeps
+pub mod KeptObjects
+pub mod Lodgers

@@ -1,10 +1,10 @@
 -- A coroutine stands in what a destructor that comes to the end of it is called for: level by level, also in mutex objects that are at home there.
-use Rattle.std.proofs.Common.{◌≡◌, ℕ, ◌<◌, Bool, true, false, List, [], ◌∷◌, Some, refl, sym, ap, ◌∙◌, subst}
+use Rattle.std.proofs.Common.{◌≡◌, ℕ, ◌<◌, Bool, true, false, List, [], Some, refl, sym, ◌∙◌, subst}
 use Rattle.uc_tree.specs.Source as src
 use Rattle.uc_tree.specs.Source.{Shape, Source, Expr, Stmts, CleanUp}
 use Rattle.uc_machine.specs.Pieces as piece
 use Rattle.uc_machine.specs.Pieces.{Link, FieldAt, At, Value, further}
-use Rattle.uc_typing.specs.Typing.{Ty, Num, Cell, Obj, Raw, Row, Clu, Pro, Name, Var, Own, Kept, Sig, Table, element_shape, DestroysAt, DestroysEach, CleansAt, Cleans, FineClean}
+use Rattle.uc_typing.specs.Typing.{Ty, Num, Cell, Obj, Row, Name, Var, Own, Kept, Sig, Table, element_shape, DestroysAt, DestroysEach, Cleans, FineClean}
 use Rattle.uc_typing.specs.States.{Sound}
 use Rattle.uc_life_laws.specs.Things.{Few, IsField, Within, Stands, lies, inside}
 use Rattle.uc_life_laws.specs.Things as things

@@ -57,7 +57,7 @@ module _ (g : Setting) (r : Reach) (P : Site → Type 0) where
   low_of e h = tt
 
 module _ (g : Setting) (n : Exec) (older : List Active) (a : Active) (many : ℕ) (x : Finds g many n older a) where
-  none_at : (a1 : Option (Shape × ℕ)) → OfArray (λ k. x.made.low ≤ k) a1 → OfArray (λ k. BuildsNoneAt g.few n older a.frame k) a1
+  none_at : (a1 : Option (Shape × ℕ × ℕ)) → OfArray (λ k. x.made.low ≤ k) a1 → OfArray (λ k. BuildsNoneAt g.few n older a.frame k) a1
   none_at None h = tt
   none_at (Some y) h = λ o b l. let below = x.this.built o b y.1 l in let n1 : ⊥ = omega (arith, below, h) in absurd n1
 

@@ -128,7 +128,7 @@ module _ (special : ℕ → Bool) (P : CleanUp → Type 0) (count : ℕ) where
   cleans src.Forgets todo n b f h = h
   cleans src.Leaves todo n b f h = h
   cleans src.Ends todo n b f h = h
-  cleans (src.Frees None) todo n b f h = h
+  cleans (src.Frees None) todo n b f h = ((n.1, b), h)
   cleans (src.Frees (Some r)) todo n b f h = ((n.0, n.1, b), h)
   cleans (src.Restores k) todo n b f h = h
 

@@ -140,6 +140,7 @@ module _ (special : ℕ → Bool) where
     recounted i k (piece.Clean c ∷ todo) f h = (h.0, h.1, recounted i k todo f h.2)
     recounted i k (piece.Part c ∷ todo) f h = h
     recounted i k (piece.SetUpNow r ∷ todo) f h = (h.0, recounted i k todo f h.1)
+    recounted i k (piece.MadeNow ∷ todo) f h = (h.0, recounted i k todo f h.1)
     recounted i k (piece.SpawnNow r ∷ todo) f h = (h.0, recounted i k todo f h.1)
     recounted i k (piece.ChildNow r ∷ todo) f h = (h.0, recounted i k todo f h.1)
     recounted i k (piece.ClearNow c n ∷ todo) f h = (h.0, recounted i k todo f h.1)
@@ -198,6 +199,7 @@ module _ (special : ℕ → Bool) where
       tail (piece.Clean c) todo h = h.2
       tail (piece.Part c) todo h = parted_ok todo h.1
       tail (piece.SetUpNow r) todo h = h.1
+      tail piece.MadeNow todo h = h.1
       tail (piece.SpawnNow r) todo h = h.1
       tail (piece.ChildNow r) todo h = h.1
       tail (piece.ClearNow c n) todo h = h.1

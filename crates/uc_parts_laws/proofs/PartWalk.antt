@@ -94,7 +94,7 @@ module _ (g : Setting) (known : PartsSource g.special g.source) where
     acts piece.LeaveNow todo e o h = steps.leave g s st.callers st.env _ (monitors.this_object s) todo h
     acts (piece.MakeNow k r) todo e o h = steps.make g s st.callers st.env k r (slice_get g.source.routines r) todo h
     acts (piece.BindMadeNow k r) todo e o h = steps.bind g s st.callers st.env (slice_get g.source.routines r) todo h
-    acts piece.MadeNow todo e o h = steps.unless g s st.callers st.env (monitors.this_object s) _ todo h (record { run = h; callers = st.callers; env = steps.likes g st.env refl refl refl })
+    acts piece.MadeNow todo e o h = steps.unless g s st.callers st.env (monitors.this_object s) _ todo h.1 (record { run = h.1; callers = st.callers; env = steps.likes g st.env refl refl refl })
     acts (piece.SpawnNow r) todo e o h = steps.unless g s st.callers st.env (monitors.this_object s) _ (piece.ChildNow r ∷ todo) (h.0.0, h.1) (record { run = (h.0.0, h.1); callers = st.callers; env = steps.likes g st.env refl refl refl })
     acts (piece.ChildNow r) todo e o h = go _ _ h.1
     acts piece.GoneNow todo e o h = record { run = h; callers = st.callers; env = steps.likes g st.env refl refl refl }

@@ -7,7 +7,6 @@ use Rattle.uc_entry.specs.Keyed.{find}
 use Rattle.uc_acts.specs.Journal.{Journal, held, own_object}
 use Rattle.uc_acts.specs.Known.{spawns, takes_out}
 use Rattle.uc_acts.specs.Acts.{act}
-use Rattle.uc_acts.specs.Serves.{left}
 use Rattle.uc_machine.specs.declared.exec.Home.TheVariants as home
 use Rattle.uc_machine.specs.Pieces.{Value, State, Members}
 use Rattle.uc_machine.specs.Answering.{child_main, child_of}

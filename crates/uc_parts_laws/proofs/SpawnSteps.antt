@@ -1,4 +1,4 @@
--- A step that asks for a task is the one behind the building of its object.
+-- A step that asks for a task, or lets others into an object, is the one behind the building of that.
 use Rattle.std.proofs.Common.{◌≡◌, ℕ, zero, suc, Bool, true, false, List, [], ◌∷◌, length, drop, Option, Some, None, refl}
 use Rattle.std.specs.Prelude.{nat_eq, nat_lt, slice_get}
 use Rattle.uc_tree.specs.declared.limits.TheConstants.{CALLS, PENDING_EVENTS}
@@ -36,8 +36,18 @@ pub record IsSpawning (s : State) (o : ℕ) (u : State) : Type 0 where
   pub callers : u.callers ≡ s.callers
   pub exec : u.env.exec ≡ s.env.exec
 
+-- others are let into the object at hand, which a piece that does nothing else tells
+pub record IsFreeing (s : State) (o : ℕ) (u : State) : Type 0 where
+  pub todo : List Todo
+  pub control : s.run.control ≡ piece.MadeNow ∷ todo
+  pub object : o ≡ piece.object_in s.run.this
+  pub run : u.run ≡ record s.run { control = todo }
+  pub callers : u.callers ≡ s.callers
+  pub exec : u.env.exec ≡ s.env.exec
+
 abbrev pub SpawnAsk : State → Request → State → Type 0
 SpawnAsk s (ask.Spawn o) u = IsSpawning s o u
+SpawnAsk s (ask.Made o) u = IsFreeing s o u
 SpawnAsk s r u = Unit {0}
 
 abbrev pub SpawnStep : State → Step → Type 0
@@ -348,7 +358,7 @@ module _ (source : Source) (s : State) where
   acts piece.LeaveNow todo z = leave _ (monitors.this_object s) todo
   acts (piece.MakeNow k r) todo z = make k r (slice_get source.routines r) todo
   acts (piece.BindMadeNow k r) todo z = bind (slice_get source.routines r) todo
-  acts piece.MadeNow todo z = unless (monitors.this_object s) _ todo tt
+  acts piece.MadeNow todo z = unless (monitors.this_object s) _ todo (record { todo = todo; control = z; object = refl; run = refl; callers = refl; exec = refl })
   acts (piece.SpawnNow r) todo z = unless (monitors.this_object s) _ (piece.ChildNow r ∷ todo) (record { main = r; todo = todo; control = z; object = refl; run = refl; callers = refl; exec = refl })
   acts piece.GoneNow todo z = tt
   acts piece.GiveUpNow todo z = tt

@@ -6,10 +6,11 @@ use Rattle.uc_tree.specs.Source.{Shape}
 use Rattle.uc_machine.specs.declared.exec.Exec.{Exec}
 use Rattle.uc_machine.specs.Executions.{at_depth, set_depth, frame_changed, list_in, others, value_changed, values_cleared}
 use Rattle.uc_machine.specs.Pieces as piece
-use Rattle.uc_machine.specs.Pieces.{Value, Number, Place, Running, Object, Nothing, Todo, Sort, Active, stored, nought}
+use Rattle.uc_machine.specs.Pieces.{Value, Number, Place, Running, Object, Nothing, Todo, Active, stored, nought}
 use Rattle.uc_life_laws.specs.LifeStates.{frame_at}
 use Rattle.uc_life_laws.proofs.Cells.{either, tested}
-use Rattle.uc_parts_laws.specs.Standing.{Going, IsLasting, IsStill, AllStill, MarkStill, Standing, StandingStack}
+use Rattle.uc_putting_laws.specs.Filling.{is_filling}
+use Rattle.uc_parts_laws.specs.Standing.{Going, IsLasting, IsStill, array_of, NotIn, Aside, AllAside, Unless, AllStill, Standing, StandingFirst, StandingStack, StandingFrom}
 
 -- cells
 
@@ -22,6 +23,14 @@ cell_stored P v f (x ∷ vs) (suc j) zero h = h
 cell_stored P v f (x ∷ vs) (suc j) (suc k) h = cell_stored P v f vs j k h
 
 -- of one that a number has
+-- another one
+cell_other : (P : Value → Type 0) (g : Value → Value) (vs : List Value) (j k : ℕ) → (j ≡ k → ⊥) → P (slice_index_or vs j nought) → P (slice_index_or (value_changed k g nought vs) j nought)
+cell_other P g [] j k f h = h
+cell_other P g (x ∷ vs) zero zero f h = absurd (f refl)
+cell_other P g (x ∷ vs) zero (suc k) f h = h
+cell_other P g (x ∷ vs) (suc j) zero f h = h
+cell_other P g (x ∷ vs) (suc j) (suc k) f h = cell_other P g vs j k (λ e. f (ap suc e)) h
+
 cell_replaced : (P : Value → Type 0) → P nought → (vs : List Value) (n j : ℕ) → P (slice_index_or vs j nought) → P (slice_index_or (replicate (length (take n vs)) nought ++ drop n vs) j nought)
 cell_replaced P f [] zero j h = h
 cell_replaced P f [] (suc n) j h = h
@@ -78,6 +87,15 @@ pub others_length : {X : Type 0} (xs : List X) (n : ℕ) → length xs ≡ suc (
 others_length [] n h = absurd (cc)
 others_length (x ∷ xs) n h = omega (arith, h)
 
+-- what is asked but in one case
+pub unless_map : (b : Bool) (A B : Type 0) → (A → B) → Unless b A → Unless b B
+unless_map true A B f h = tt
+unless_map false A B f h = f h
+
+pub unless_any : (b : Bool) (A : Type 0) → A → Unless b A
+unless_any true A h = tt
+unless_any false A h = h
+
 module _ (told : Going) where
   still_stored : (place v x : Value) → IsLasting told v → IsStill told place x → IsStill told place (stored v x)
   still_stored place v (Number n) l h = λ o e q. l o e
@@ -99,26 +117,19 @@ module _ (told : Going) where
     KeepsStill vs ws = (place : Value) (j : ℕ) → IsStill told place (slice_index_or vs j nought) → IsStill told place (slice_index_or ws j nought)
 
     module _ (vs ws : List Value) (keeps : KeepsStill vs ws) where
-      all_kept : (count : ℕ) (a : Option (Shape × ℕ)) → AllStill told n vs f count a → AllStill told n ws f count a
+      all_kept : (count : ℕ) (a : Option (Shape × ℕ × ℕ)) → AllStill told n vs f count a → AllStill told n ws f count a
       all_kept count None h = tt
-      all_kept count (Some a) h = λ j l. keeps _ _ (h j l)
-
-      mark_kept : (count : ℕ) (k : Sort) (R Q : Type 0) → (R → Q) → MarkStill told n vs f count k R → MarkStill told n ws f count k Q
-      mark_kept count (piece.IsFill m b d) R Q g h = (all_kept count _ h.0, g h.1)
-      mark_kept count (piece.IsSweep e) R Q g h = (all_kept count _ h.0, g h.1)
-      mark_kept count piece.Simple R Q g h = g h
-      mark_kept count (piece.IsLoop o e s b) R Q g h = g h
-      mark_kept count piece.IsWhole R Q g h = g h
-      mark_kept count (piece.IsClean c) R Q g h = g h
-      mark_kept count (piece.IsPart c) R Q g h = g h
-      mark_kept count (piece.IsGuard hs) R Q g h = g h
-      mark_kept count piece.IsFinish R Q g h = g h
-      mark_kept count piece.IsFinishCoroutine R Q g h = g h
+      all_kept count (Some a) h = λ j l m. keeps _ _ (h j l m)
 
       pub standing_kept : (count : ℕ) (todo : List Todo) → Standing told n vs f count todo → Standing told n ws f count todo
       standing_kept count [] h = tt
-      standing_kept count (piece.CountNow m ∷ todo) h = standing_kept m todo h
-      standing_kept count (p ∷ todo) h = mark_kept count (piece.sort p) _ _ (λ x. standing_kept count todo x) h
+      standing_kept count (piece.CountNow m ∷ todo) h = absurd h
+      standing_kept count (piece.Sweep e ∷ todo) h = (unless_map (is_filling todo) _ _ (all_kept count (array_of e)) h.0, standing_kept count todo h.1)
+      standing_kept count (p ∷ todo) h = standing_kept count todo h
+
+      pub first_kept : (count : ℕ) (todo : List Todo) → StandingFirst told n vs f count todo → StandingFirst told n ws f count todo
+      first_kept count (piece.CountNow m ∷ todo) h = standing_kept m todo h
+      first_kept count todo h = standing_kept count todo h
 
   -- activations
 
@@ -127,6 +138,43 @@ module _ (told : Going) where
     stack_changed d g fs k [] h = tt
     stack_changed d g fs k (a ∷ older) h =
         (h.0, set_at (λ vs. Standing told n vs a.frame a.elements a.control) fs d a.frame _ (λ e. standing_kept n a.frame (frame_at d fs) (g (frame_at d fs)) (k a.frame (frame_at d fs)) a.elements a.control (subst (λ f. Standing told n (frame_at f fs) a.frame a.elements a.control) e h.1)) h.1, stack_changed d g fs k older h.2)
+
+    from_changed : (d : ℕ) (g : List Value → List Value) (fs : List (List Value)) → ((f : ℕ) (vs : List Value) → KeepsStill n f vs (g vs)) → (a : Active) (cs : List Active) → StandingFrom told n fs a cs → StandingFrom told n (frame_changed d g fs) a cs
+    from_changed d g fs k a cs h =
+        (h.0, set_at (λ vs. StandingFirst told n vs a.frame a.elements a.control) fs d a.frame _ (λ e. first_kept n a.frame (frame_at d fs) (g (frame_at d fs)) (k a.frame (frame_at d fs)) a.elements a.control (subst (λ f. StandingFirst told n (frame_at f fs) a.frame a.elements a.control) e h.1)) h.1, stack_changed d g fs k cs h.2)
+
+    pub from_stored : (d k : ℕ) (v : Value) (fs : List (List Value)) (a : Active) (cs : List Active) → IsLasting told v → StandingFrom told n fs a cs → StandingFrom told n (frame_changed d (value_changed k (stored v) nought) fs) a cs
+    from_stored d k v fs a cs l h =
+        from_changed d (value_changed k (stored v) nought) fs (λ f vs place j x. cell_stored (IsStill told place) v (λ y z. still_stored place v y l z) vs j k x) a cs h
+
+    pub from_cleared : (d k m : ℕ) (fs : List (List Value)) (a : Active) (cs : List Active) → StandingFrom told n fs a cs → StandingFrom told n (frame_changed d (values_cleared k m nought) fs) a cs
+    from_cleared d k m fs a cs h =
+        from_changed d (values_cleared k m nought) fs (λ f vs place j x. cell_cleared (IsStill told place) (still_nought place) vs k m j x) a cs h
+
+    -- a cell aside is written
+    module _ (d x : ℕ) (g : Value → Value) where
+      all_aside : (f : ℕ) (vs : List Value) (count : ℕ) (a : Option (Shape × ℕ × ℕ)) → NotIn x a → AllStill told n vs f count a → AllStill told n (value_changed x g nought vs) f count a
+      all_aside f vs count None b h = tt
+      all_aside f vs count (Some a) b h = λ j l m. cell_other (IsStill told _) g vs _ x (b j m) (h j l m)
+
+      list_aside : (f : ℕ) (vs : List Value) (count : ℕ) (todo : List Todo) → Aside x todo → Standing told n vs f count todo → Standing told n (value_changed x g nought vs) f count todo
+      list_aside f vs count [] b h = tt
+      list_aside f vs count (piece.CountNow m ∷ todo) b h = absurd h
+      list_aside f vs count (piece.Sweep e ∷ todo) b h = (unless_map (is_filling todo) _ _ (all_aside f vs count (array_of e) b.0) h.0, list_aside f vs count todo b.1 h.1)
+      list_aside f vs count (p ∷ todo) b h = list_aside f vs count todo b h
+
+      first_aside : (f : ℕ) (vs : List Value) (count : ℕ) (todo : List Todo) → Aside x todo → StandingFirst told n vs f count todo → StandingFirst told n (value_changed x g nought vs) f count todo
+      first_aside f vs count (piece.CountNow m ∷ todo) b h = list_aside f vs m todo b h
+      first_aside f vs count todo b h = list_aside f vs count todo b h
+
+      stack_aside : (fs : List (List Value)) (cs : List Active) → AllAside d x cs → StandingStack told n fs cs → StandingStack told n (frame_changed d (value_changed x g nought) fs) cs
+      stack_aside fs [] b h = tt
+      stack_aside fs (a ∷ older) b h =
+          (h.0, set_at (λ vs. Standing told n vs a.frame a.elements a.control) fs d a.frame _ (λ e. list_aside a.frame (frame_at d fs) a.elements a.control (b.0 e) (subst (λ f. Standing told n (frame_at f fs) a.frame a.elements a.control) e h.1)) h.1, stack_aside fs older b.1 h.2)
+
+      pub from_aside : (fs : List (List Value)) (a : Active) (cs : List Active) → AllAside d x (a ∷ cs) → StandingFrom told n fs a cs → StandingFrom told n (frame_changed d (value_changed x g nought) fs) a cs
+      from_aside fs a cs b h =
+          (h.0, set_at (λ vs. StandingFirst told n vs a.frame a.elements a.control) fs d a.frame _ (λ e. first_aside a.frame (frame_at d fs) a.elements a.control (b.0 e) (subst (λ f. StandingFirst told n (frame_at f fs) a.frame a.elements a.control) e h.1)) h.1, stack_aside fs cs b.1 h.2)
 
     pub stack_stored : (d k : ℕ) (v : Value) (fs : List (List Value)) (cs : List Active) → IsLasting told v → StandingStack told n fs cs → StandingStack told n (frame_changed d (value_changed k (stored v) nought) fs) cs
     stack_stored d k v fs cs l h =

@@ -1,5 +1,5 @@
 -- Elements that stand are not gone, where members, executions and who runs change.
-use Rattle.std.proofs.Common.{◌≡◌, ℕ, length, ap, ◌∙◌, true, false, List, ◌∷◌, Option, Some, None, refl, sym, subst}
+use Rattle.std.proofs.Common.{◌≡◌, ℕ, length, ap, ◌∙◌, true, false, List, Option, Some, None, refl, sym, subst}
 use Rattle.uc_entry.specs.declared.fault.RunFault.TheVariants.{ResumeInUse, SwitchInUnwind}
 use Rattle.uc_entry.specs.Keyed.{find}
 use Rattle.uc_machine.specs.declared.exec.Exec.{Exec}
@@ -17,8 +17,8 @@ use Rattle.uc_life_laws.specs.LifeStates.{SlotBy, ParkedBy, EnvBy}
 use Rattle.uc_life_laws.proofs.Cells.{either}
 use Rattle.uc_life_laws.proofs.Parked as parked
 use Rattle.uc_life_laws.proofs.Parked.{Ex, at_home}
-use Rattle.uc_parts_laws.specs.Standing.{Going, IsLasting, StandingStack, StandingEx, StandingState}
-use Rattle.uc_parts_laws.proofs.StandingCells.{set_length, stack_stored}
+use Rattle.uc_parts_laws.specs.Standing.{Going, IsLasting, StandingFrom, StandingEx, StandingState}
+use Rattle.uc_parts_laws.proofs.StandingCells.{set_length, from_stored}
 
 module _ (told : Going) where
   pub like : {e f : Env} → EnvBy (StandingEx told) e → f.hand ≡ e.hand → f.house ≡ e.house → f.own ≡ e.own → EnvBy (StandingEx told) f
@@ -28,20 +28,20 @@ module _ (told : Going) where
   pub record Keeps (e f : Env) : Type 0 where
     pub exec : f.exec ≡ e.exec
     pub frames : length f.frames ≡ length e.frames
-    pub stack : (cs : List Active) → StandingStack told e.exec e.frames cs → StandingStack told e.exec f.frames cs
+    pub stack : (a : Active) (cs : List Active) → StandingFrom told e.exec e.frames a cs → StandingFrom told e.exec f.frames a cs
     pub env : EnvBy (StandingEx told) f
 
   pub keeps_both : {e f g : Env} → Keeps e f → Keeps f g → Keeps e g
   keeps_both {e} {f} {g} h k = record {
     exec = k.exec ∙ h.exec;
     frames = k.frames ∙ h.frames;
-    stack = λ cs x. subst (λ n. StandingStack told n g.frames cs) h.exec (k.stack cs (subst (λ n. StandingStack told n f.frames cs) (sym h.exec) (h.stack cs x)));
+    stack = λ a cs x. subst (λ n. StandingFrom told n g.frames a cs) h.exec (k.stack a cs (subst (λ n. StandingFrom told n f.frames a cs) (sym h.exec) (h.stack a cs x)));
     env = k.env;
   }
 
   -- with the same frames
   keeps_frames : {e f : Env} → f.exec ≡ e.exec → f.frames ≡ e.frames → EnvBy (StandingEx told) f → Keeps e f
-  keeps_frames {e} {f} x q h = record { exec = x; frames = ap length q; stack = λ cs y. subst (λ fs. StandingStack told e.exec fs cs) (sym q) y; env = h }
+  keeps_frames {e} {f} x q h = record { exec = x; frames = ap length q; stack = λ a cs y. subst (λ fs. StandingFrom told e.exec fs a cs) (sym q) y; env = h }
 
   pub keeps_like : {e f : Env} → EnvBy (StandingEx told) e → f.exec ≡ e.exec → f.frames ≡ e.frames → f.hand ≡ e.hand → f.house ≡ e.house → f.own ≡ e.own → Keeps e f
   keeps_like s x q h g o = keeps_frames x q (like s h g o)
@@ -52,12 +52,12 @@ module _ (told : Going) where
   -- writes
 
   abbrev KeepsFrames : (List (List Value) → List (List Value)) → Type 0
-  KeepsFrames f = (n : Exec) (fs : List (List Value)) → (length (f fs) ≡ length fs) × ((cs : List Active) → StandingStack told n fs cs → StandingStack told n (f fs) cs)
+  KeepsFrames f = (n : Exec) (fs : List (List Value)) → (length (f fs) ≡ length fs) × ((a : Active) (cs : List Active) → StandingFrom told n fs a cs → StandingFrom told n (f fs) a cs)
 
   frames_kept : (h : Home) (n : ℕ) (f : List (List Value) → List (List Value)) (o : Option Ex) (m : Members) → KeepsFrames f → SlotBy (StandingEx told) (at_home h n) o → ParkedBy (StandingEx told) h m.parked → ParkedBy (StandingEx told) h (frames_by n f o m).parked
   frames_kept h n f None m same r s = s
   frames_kept h n f (Some x) m same r s =
-      parked.update_parked (StandingEx told) h n (Some (record x { frames = f x.frames })) m.parked (record { frames = (same (at_home h n) x.frames).0 ∙ r.frames; stack = (same (at_home h n) x.frames).1 (x.run ∷ x.callers) r.stack }) s
+      parked.update_parked (StandingEx told) h n (Some (record x { frames = f x.frames })) m.parked (record { frames = (same (at_home h n) x.frames).0 ∙ r.frames; stack = (same (at_home h n) x.frames).1 x.run x.callers r.stack }) s
 
   with_frames_keeps : (n : Exec) (f : List (List Value) → List (List Value)) (e : Env) → KeepsFrames f → EnvBy (StandingEx told) e → Keeps e (with_frames n f e)
   with_frames_keeps n f e same s =
@@ -65,8 +65,12 @@ module _ (told : Going) where
 
   owned_keeps : (o : Owner) (k : ℕ) (v : Value) (e : Env) → IsLasting told v → EnvBy (StandingEx told) e → Keeps e (with_owned o (value_changed k (stored v) nought) e)
   owned_keeps (Frame n d) k v e l s =
-      with_frames_keeps n (frame_changed d (value_changed k (stored v) nought)) e (λ n fs. (set_length fs d (value_changed k (stored v) nought (list_in (at_depth fs d))), λ cs h. stack_stored told n d k v fs cs l h)) s
+      with_frames_keeps n (frame_changed d (value_changed k (stored v) nought)) e (λ n fs. (set_length fs d (value_changed k (stored v) nought (list_in (at_depth fs d))), λ a cs h. from_stored told n d k v fs a cs l h)) s
   owned_keeps (Fields o) k v e l s = keeps_change (home.Object o) _ e (λ m h. h) s
+
+  -- fields are no cells of frames
+  pub fields_keeps : (o k : ℕ) (v : Value) (e : Env) → EnvBy (StandingEx told) e → Keeps e (with_owned (Fields o) (value_changed k (stored v) nought) e)
+  fields_keeps o k v e s = keeps_change (home.Object o) _ e (λ m h. h) s
 
   pub written_keeps : (v w : Value) (e : Env) → IsLasting told w → EnvBy (StandingEx told) e → Keeps e (written v w e)
   written_keeps (Number n) w e l s = keeps_like s refl refl refl refl refl
@@ -176,7 +180,7 @@ module _ (told : Going) where
   pub with_env : {e : Env} (s : State) → StandingState told s → Keeps s.env e → StandingState told (record s { env = e })
   with_env {e} s h k = record {
     frames = k.frames ∙ h.frames;
-    stack = subst (λ n. StandingStack told n e.frames (s.run ∷ s.callers)) (sym k.exec) (k.stack (s.run ∷ s.callers) h.stack);
+    stack = subst (λ n. StandingFrom told n e.frames s.run s.callers) (sym k.exec) (k.stack s.run s.callers h.stack);
     env = k.env;
   }
 

@@ -31,8 +31,10 @@ use Rattle.uc_life_laws.specs.LifeStates.{SlotBy, ParkedBy, HandBy}
 use Rattle.uc_life_laws.specs.Lasting.{RunMeetsAt}
 use Rattle.uc_life_laws.proofs.Cells.{either}
 use Rattle.uc_life_laws.proofs.Parked.{found_hand}
-use Rattle.uc_parts_laws.specs.Standing.{Going, AllStill, MarkStill, Standing, StandingStack, StandingEx, StandingMembers, StandingState, StandingStep, FindsStanding}
+use Rattle.uc_putting_laws.specs.Filling.{is_filling}
+use Rattle.uc_parts_laws.specs.Standing.{Going, array_of, AllStill, Standing, StandingFirst, StandingStack, StandingFrom, StandingEx, StandingMembers, StandingState, StandingStep, FindsStanding}
 use Rattle.uc_parts_laws.specs.StandingRuns.{told_by, StandingWorld, GoesApart, RunGoesApart, LawStandingRuns}
+use Rattle.uc_parts_laws.proofs.StandingCells.{unless_map}
 use Rattle.uc_parts_laws.proofs.StandingWalk.{law_standing}
 
 -- what is told of more objects: none is gone that was not
@@ -44,34 +46,30 @@ module _ (homes : ℕ → Value) (j i : Journal) (f : (o : ℕ) → is_gone o j 
   abbrev New : Going
   New = told_by homes i
 
-  all_told : (n : Exec) (vs : List Value) (d count : ℕ) (a : Option (Shape × ℕ)) → AllStill Old n vs d count a → AllStill New n vs d count a
+  all_told : (n : Exec) (vs : List Value) (d count : ℕ) (a : Option (Shape × ℕ × ℕ)) → AllStill Old n vs d count a → AllStill New n vs d count a
   all_told n vs d count None h = tt
-  all_told n vs d count (Some a) h = λ k l o e q. f o (h k l o e q)
-
-  mark_told : (n : Exec) (vs : List Value) (d count : ℕ) (k : Sort) (R Q : Type 0) → (R → Q) → MarkStill Old n vs d count k R → MarkStill New n vs d count k Q
-  mark_told n vs d count (piece.IsFill m b x) R Q g h = (all_told n vs d count _ h.0, g h.1)
-  mark_told n vs d count (piece.IsSweep e) R Q g h = (all_told n vs d count _ h.0, g h.1)
-  mark_told n vs d count piece.Simple R Q g h = g h
-  mark_told n vs d count (piece.IsLoop o e s b) R Q g h = g h
-  mark_told n vs d count piece.IsWhole R Q g h = g h
-  mark_told n vs d count (piece.IsClean c) R Q g h = g h
-  mark_told n vs d count (piece.IsPart c) R Q g h = g h
-  mark_told n vs d count (piece.IsGuard hs) R Q g h = g h
-  mark_told n vs d count piece.IsFinish R Q g h = g h
-  mark_told n vs d count piece.IsFinishCoroutine R Q g h = g h
+  all_told n vs d count (Some a) h = λ k l m o e q. f o (h k l m o e q)
 
   standing_told : (n : Exec) (vs : List Value) (d count : ℕ) (todo : List Todo) → Standing Old n vs d count todo → Standing New n vs d count todo
   standing_told n vs d count [] h = tt
-  standing_told n vs d count (piece.CountNow m ∷ todo) h = standing_told n vs d m todo h
-  standing_told n vs d count (p ∷ todo) h = mark_told n vs d count (piece.sort p) _ _ (λ x. standing_told n vs d count todo x) h
+  standing_told n vs d count (piece.CountNow m ∷ todo) h = absurd h
+  standing_told n vs d count (piece.Sweep e ∷ todo) h = (unless_map (is_filling todo) _ _ (all_told n vs d count (array_of e)) h.0, standing_told n vs d count todo h.1)
+  standing_told n vs d count (p ∷ todo) h = standing_told n vs d count todo h
+
+  first_told : (n : Exec) (vs : List Value) (d count : ℕ) (todo : List Todo) → StandingFirst Old n vs d count todo → StandingFirst New n vs d count todo
+  first_told n vs d count (piece.CountNow m ∷ todo) h = standing_told n vs d m todo h
+  first_told n vs d count todo h = standing_told n vs d count todo h
 
   stack_told : (n : Exec) (fs : List (List Value)) (cs : List Active) → StandingStack Old n fs cs → StandingStack New n fs cs
   stack_told n fs [] h = tt
   stack_told n fs (a ∷ older) h = (h.0, standing_told n _ a.frame a.elements a.control h.1, stack_told n fs older h.2)
 
+  from_told : (n : Exec) (fs : List (List Value)) (a : Active) (cs : List Active) → StandingFrom Old n fs a cs → StandingFrom New n fs a cs
+  from_told n fs a cs h = (h.0, first_told n _ a.frame a.elements a.control h.1, stack_told n fs cs h.2)
+
   slot_told : (n : Exec) (x : Option (Execution (List Todo) Value)) → SlotBy (StandingEx Old) n x → SlotBy (StandingEx New) n x
   slot_told n None h = tt
-  slot_told n (Some x) h = record { frames = h.frames; stack = stack_told n x.frames (x.run ∷ x.callers) h.stack }
+  slot_told n (Some x) h = record { frames = h.frames; stack = from_told n x.frames x.run x.callers h.stack }
 
   parked_told : (h : Home) (ps : List (ℕ × Option (Execution (List Todo) Value))) → ParkedBy (StandingEx Old) h ps → ParkedBy (StandingEx New) h ps
   parked_told h [] k = tt
@@ -88,7 +86,7 @@ module _ (homes : ℕ → Value) (j i : Journal) (f : (o : ℕ) → is_gone o j 
   state_told : (s : State) → StandingState Old s → StandingState New s
   state_told s h = record {
     frames = h.frames;
-    stack = stack_told s.env.exec s.env.frames (s.run ∷ s.callers) h.stack;
+    stack = from_told s.env.exec s.env.frames s.run s.callers h.stack;
     env = record { house = parked_told (home.Task s.env.own) s.env.house.parked h.env.house; hand = hand_told s.env.hand h.env.hand };
   }
 

@@ -1,8 +1,7 @@
 -- A quiet step of a task in which elements that stand are not gone leads to one.
-use Rattle.std.proofs.Common.{◌≡◌, ℕ, zero, suc, ◌+◌, ◌≤◌, ◌<◌, ◌++◌, Bool, true, false, List, [], ◌∷◌, length, drop, Option, Some, None, refl, arith, ap, ◌∙◌, subst, sym}
-use Rattle.std.specs.Prelude.{nat_eq, nat_lt, min, if◌then◌else◌}
-use Rattle.std.proofs.Math.Nat.{min-le_left}
-use Rattle.std.proofs.lemmas.Bool.{eq-eqb, ltb-true, ltb-false}
+use Rattle.std.proofs.Common.{◌≡◌, ℕ, zero, suc, ◌≤◌, ◌⊎◌, inl, inr, ◌++◌, Bool, true, false, List, [], ◌∷◌, length, drop, Option, Some, None, refl, arith, ap, ◌∙◌, subst, sym}
+use Rattle.std.specs.Prelude.{nat_eq, nat_lt, if◌then◌else◌}
+use Rattle.std.proofs.lemmas.Bool.{eq-eqb}
 use Rattle.uc_tree.specs.declared.limits.TheConstants.{CALLS, PENDING_EVENTS}
 use Rattle.uc_tree.specs.Source as src
 use Rattle.uc_tree.specs.Source.{Shape, Expr, ObjectExpr, Stmt, EventStmt, TaskStmt, Routine, Purpose, Order, Way, CleanUp, Handlers, Clauses, Raised, Item}
@@ -15,7 +14,8 @@ use Rattle.uc_machine.specs.declared.exec.Pending.{Pending}
 use Rattle.uc_machine.specs.declared.exec.UnwindReason.{UnwindReason}
 use Rattle.uc_machine.specs.declared.exec.UnwindReason.TheVariants as reason
 use Rattle.uc_machine.specs.declared.exec.Visited.{Visited}
-use Rattle.uc_machine.specs.Executions.{others, home_eq, exec_eq, frame_changed, values_cleared, change, frames_changed}
+use Rattle.uc_machine.specs.declared.exec.Owner.TheVariants.{Frame, Fields}
+use Rattle.uc_machine.specs.Executions.{others, home_eq, exec_eq, frame_changed, value_changed, values_cleared, change, frames_changed}
 use Rattle.uc_machine.specs.Switches as sw
 use Rattle.uc_machine.specs.Switches.{Moved, To, Stops}
 use Rattle.uc_machine.specs.Insides as inside
@@ -25,12 +25,13 @@ use Rattle.uc_machine.specs.Monitors as monitors
 use Rattle.uc_machine.specs.Polls as polls
 use Rattle.uc_machine.specs.Quiet as quiet
 use Rattle.uc_machine.specs.Pieces as piece
-use Rattle.uc_machine.specs.Pieces.{Value, Number, Object, Nothing, Todo, Sort, Active, State, Env, Step, Outcome, Gives, Faults, at, in_env, top, below, number, nought, written}
+use Rattle.uc_machine.specs.Pieces.{Value, Number, Place, Running, Object, Nothing, Todo, Sort, Active, State, Env, Step, Outcome, Gives, Faults, at, in_env, top, below, number, nought, address, stored, written}
 use Rattle.uc_life_laws.specs.LifeStates.{frame_at}
 use Rattle.uc_life_laws.proofs.Cells.{either}
-use Rattle.uc_parts_laws.specs.Parts.{FreeBy, IsFree}
-use Rattle.uc_parts_laws.specs.Standing.{Going, IsLasting, array_of, ElementStill, OneStill, AllStill, MarkStill, Standing, StandingStack, StandingEx, StandingState, StandingStep, CleansStill, FindsStandingAt}
-use Rattle.uc_parts_laws.proofs.StandingCells.{set_length, stack_cleared, stack_newer, stack_older, others_length}
+use Rattle.uc_parts_laws.specs.Parts.{IsFree}
+use Rattle.uc_putting_laws.specs.Filling.{is_filling}
+use Rattle.uc_parts_laws.specs.Standing.{Going, IsLasting, IsAside, array_of, Unless, AllStill, Standing, StandingFirst, StandingStack, StandingFrom, StandingEx, StandingState, StandingStep, CleansStill, FindsStandingAt}
+use Rattle.uc_parts_laws.proofs.StandingCells.{unless_map, unless_any, set_length, from_cleared, from_aside, stack_newer, stack_older, others_length}
 use Rattle.uc_parts_laws.proofs.StandingKeeping as kept
 use Rattle.uc_parts_laws.proofs.StandingKeeping.{Keeps}
 
@@ -70,10 +71,17 @@ module _ (going : Going) where
     abbrev There : List Todo → Type 0
     There todo = Standing going m vs f count todo
 
+    abbrev First : List Todo → Type 0
+    First todo = StandingFirst going m vs f count todo
+
+    pub first : (todo : List Todo) → There todo → First todo
+    first (piece.CountNow n ∷ todo) h = absurd h
+    first todo h = h
+
     -- where fewer stand
-    all_fewer : (c : ℕ) (a : Option (Shape × ℕ)) → c ≤ count → AllStill going m vs f count a → AllStill going m vs f c a
+    all_fewer : (c : ℕ) (a : Option (Shape × ℕ × ℕ)) → c ≤ count → AllStill going m vs f count a → AllStill going m vs f c a
     all_fewer c None l h = tt
-    all_fewer c (Some a) l h = λ j k. h j (omega (arith, k, l))
+    all_fewer c (Some a) l h = λ j k m. h j (omega (arith, k, l)) m
 
     behind : (p : Purpose) (line : ℕ) → There (quiet.behind_body p line)
     behind src.TaskMain line = tt
@@ -115,20 +123,20 @@ module _ (going : Going) where
     loop_left src.ToEnd order c e b todo h = h
 
     -- a piece of a sort is left; what holds of it holds of what is outwards of it
-    pub left_behind : (w : Way) (k : Sort) (todo : List Todo) → MarkStill going m vs f count k (There todo) → There (quiet.left_behind w k todo)
+    pub left_behind : (w : Way) (k : Sort) (todo : List Todo) → There todo → There (quiet.left_behind w k todo)
     left_behind w piece.Simple todo h = h
     left_behind w (piece.IsLoop order c e b) todo h = loop_left w order c e b todo h
     left_behind w piece.IsWhole todo h = h
     left_behind w (piece.IsClean x) todo h = h
-    left_behind w (piece.IsFill n b d) todo h = h.1
-    left_behind w (piece.IsSweep e) todo h = h.1
+    left_behind w (piece.IsFill n b d) todo h = h
+    left_behind w (piece.IsSweep e) todo h = h
     left_behind w (piece.IsPart x) todo h = h
     left_behind w (piece.IsGuard hs) todo h = h
     left_behind w piece.IsFinish todo h = h
     left_behind w piece.IsFinishCoroutine todo h = h
 
     pub filled : (b : Bool) (n : ℕ) (e d : Expr) (todo : List Todo) → There (piece.FillNow n e d ∷ todo) → There (quiet.fill_todo b n e d todo)
-    filled false n e d todo h = h.1
+    filled false n e d todo h = h
     filled true n e d todo h = h
 
     pub raised : (r : Raised) (todo : List Todo) → There todo → There (raising.raised_todo r todo)
@@ -142,26 +150,16 @@ module _ (going : Going) where
     Cleans c todo = Unit {0}
 
     -- where no array is being built or destroyed it is so whatever is counted
-    pub free : (c : ℕ) (todo : List Todo) → IsFree todo → Standing going m vs f c todo
-    free c [] k = tt
-    free c (piece.CountNow n ∷ todo) k = free n todo k
-    free c (p ∷ todo) k = free_by (piece.sort p) (Standing going m vs f c todo) (IsFree todo) (λ x. free c todo x) k
-      where
-        free_by : (q : Sort) (R F : Type 0) → (F → R) → FreeBy q F → MarkStill going m vs f c q R
-        free_by (piece.IsFill n b d) R F g k = absurd k
-        free_by (piece.IsSweep e) R F g k = absurd k
-        free_by piece.Simple R F g k = g k
-        free_by (piece.IsLoop o e s b) R F g k = g k
-        free_by piece.IsWhole R F g k = g k
-        free_by (piece.IsClean x) R F g k = g k
-        free_by (piece.IsPart x) R F g k = g k
-        free_by (piece.IsGuard hs) R F g k = g k
-        free_by piece.IsFinish R F g k = g k
-        free_by piece.IsFinishCoroutine R F g k = g k
+    pub free : (c : ℕ) (todo : List Todo) → IsFree todo → There todo → Standing going m vs f c todo
+    free c [] k h = tt
+    free c (piece.CountNow n ∷ todo) k h = absurd h
+    free c (piece.FillNow n b d ∷ todo) k h = absurd k
+    free c (piece.Sweep e ∷ todo) k h = absurd k
+    free c (p ∷ todo) k h = free c todo k h
 
-    pub cleans : (c : CleanUp) (todo : List Todo) → Cleans c todo → There todo → There (piece.clean_todo c todo)
+    pub cleans : (c : CleanUp) (todo : List Todo) → Cleans c todo → There todo → First (piece.clean_todo c todo)
     cleans (src.Destroys e) todo n h = h
-    cleans (src.DestroysAll k e) todo n h = (n.0, free k todo n.1)
+    cleans (src.DestroysAll k e) todo n h = (unless_any (is_filling todo) _ n.0, free k todo n.1 h)
     cleans src.Unwinds todo n h = h
     cleans src.Forgets todo n h = h
     cleans src.Leaves todo n h = h
@@ -170,7 +168,7 @@ module _ (going : Going) where
     cleans (src.Frees (Some r)) todo n h = h
     cleans (src.Restores k) todo n h = h
 
-    pub left_cleans : (c : CleanUp) (todo : List Todo) → Cleans c todo → There todo → There (raising.left_todo c todo)
+    pub left_cleans : (c : CleanUp) (todo : List Todo) → Cleans c todo → There todo → First (raising.left_todo c todo)
     left_cleans (src.Frees r) todo n h = h
     left_cleans c todo n h = cleans c todo n h
 
@@ -193,47 +191,16 @@ module _ (going : Going) where
     item_piece (src.Show g e) todo h = h
     item_piece (src.ShowText k) todo h = h
 
-    pub polled : (w : Option UnwindReason) (todo : List Todo) → There todo → There (monitors.leave_todo w todo)
+    pub polled : (w : Option UnwindReason) (todo : List Todo) → There todo → First (monitors.leave_todo w todo)
     polled None todo h = h
-    polled (Some why) todo h = h
+    polled (Some why) todo h = first todo h
 
   module _ (m : Exec) (vs : List Value) (f : ℕ) where
-    none_stands : (a : Option (Shape × ℕ)) → AllStill going m vs f 0 a
-    none_stands None = tt
-    none_stands (Some a) = λ j l. let n : ⊥ = omega (arith, l) in absurd n
-
-    mark_fewer : (c count : ℕ) (k : Sort) (R Q : Type 0) → c ≤ count → (R → Q) → MarkStill going m vs f count k R → MarkStill going m vs f c k Q
-    mark_fewer c count (piece.IsFill n b d) R Q l g h = (all_fewer m vs f count c _ l h.0, g h.1)
-    mark_fewer c count (piece.IsSweep e) R Q l g h = (all_fewer m vs f count c _ l h.0, g h.1)
-    mark_fewer c count piece.Simple R Q l g h = g h
-    mark_fewer c count (piece.IsLoop o e s b) R Q l g h = g h
-    mark_fewer c count piece.IsWhole R Q l g h = g h
-    mark_fewer c count (piece.IsClean x) R Q l g h = g h
-    mark_fewer c count (piece.IsPart x) R Q l g h = g h
-    mark_fewer c count (piece.IsGuard hs) R Q l g h = g h
-    mark_fewer c count piece.IsFinish R Q l g h = g h
-    mark_fewer c count piece.IsFinishCoroutine R Q l g h = g h
-
     pub fewer : (c count : ℕ) (todo : List Todo) → c ≤ count → Standing going m vs f count todo → Standing going m vs f c todo
     fewer c count [] l h = tt
-    fewer c count (piece.CountNow n ∷ todo) l h = h
-    fewer c count (p ∷ todo) l h = mark_fewer c count (piece.sort p) _ _ l (λ x. fewer c count todo l x) h
-
-  -- one more stands, as far as they are counted
-  this_more : (m : Exec) (vs : List Value) (f count most : ℕ) (k : Shape) (i : ℕ) → ElementStill going m vs f k i count → ((j : ℕ) → j < count → ElementStill going m vs f k i j) → (j : ℕ) → j < min (count + 1) most → ElementStill going m vs f k i j
-  this_more m vs f count most k i x h j l = by (nat_lt j count) refl
-    where
-      by : (b : Bool) → nat_lt j count ≡ b → ElementStill going m vs f k i j
-      by true e = h j (ltb-true j count e)
-      by false e =
-          let g = ltb-false j count e in
-          let w : min (count + 1) most ≤ count + 1 = min-le_left (count + 1) most in
-          let same : j ≡ count = omega (arith, g, l, w) in
-          subst (λ z. ElementStill going m vs f k i z) (sym same) x
-
-  pub one_more : (m : Exec) (vs : List Value) (f count most : ℕ) (a : Option (Shape × ℕ)) → OneStill going m vs f count a → AllStill going m vs f count a → AllStill going m vs f (min (count + 1) most) a
-  one_more m vs f count most None x h = tt
-  one_more m vs f count most (Some a) x h = λ j l. this_more m vs f count most a.0 a.1 x h j l
+    fewer c count (piece.CountNow n ∷ todo) l h = absurd h
+    fewer c count (piece.Sweep e ∷ todo) l h = (unless_map (is_filling todo) _ _ (all_fewer m vs f count c (array_of e) l) h.0, fewer c count todo l h.1)
+    fewer c count (p ∷ todo) l h = fewer c count todo l h
 
   module _ (s : State) (st : StandingState going s) where
     abbrev pub Holding : List Todo → Type 0
@@ -241,7 +208,11 @@ module _ (going : Going) where
 
     -- with something else to do, and other operands
     pub go : (todo : List Todo) (vs : List Value) → Holding todo → StandingState going (at todo vs s)
-    go todo vs h = record { frames = st.frames; stack = (st.stack.0, h, st.stack.2); env = st.env }
+    go todo vs h = record { frames = st.frames; stack = (st.stack.0, first s.env.exec _ s.run.frame s.run.elements todo h, st.stack.2); env = st.env }
+
+    -- where elements may be counted first
+    pub go_first : (todo : List Todo) (vs : List Value) → StandingFirst going s.env.exec (frame_at s.run.frame s.env.frames) s.run.frame s.run.elements todo → StandingState going (at todo vs s)
+    go_first todo vs h = record { frames = st.frames; stack = (st.stack.0, h, st.stack.2); env = st.env }
 
     -- and with another rest of the task
     pub go_in : (todo : List Todo) (vs : List Value) (e : Env) → Keeps going s.env e → Holding todo → StandingState going (at todo vs (in_env e s))
@@ -263,7 +234,7 @@ module _ (going : Going) where
     returned given [] l h = st
     returned given (a ∷ cs) l h =
         let k = less a cs l h in
-        record { frames = others_length s.env.frames (length cs) l; stack = (k.0, k.1, k.2); env = kept.like going st.env refl refl refl }
+        record { frames = others_length s.env.frames (length cs) l; stack = (k.0, first s.env.exec _ a.frame a.elements a.control k.1, k.2); env = kept.like going st.env refl refl refl }
 
     past : (v : Visited) (given : Value) (cs : List Active) → length s.env.frames ≡ suc (length cs) → StandingStack going s.env.exec s.env.frames cs → StandingStep going (raising.return_past v given cs s)
     past v given [] l h = st
@@ -343,7 +314,7 @@ module _ (going : Going) where
     task_step a todo h = go _ _ h
 
     pub stmt : (a : Stmt) (todo : List Todo) → Holding todo → StandingStep going (quiet.stmt_step a todo s)
-    stmt (src.Fill line n b d) todo h = go _ _ (none_stands s.env.exec _ s.run.frame (array_of d), fewer s.env.exec _ s.run.frame 0 s.run.elements todo (omega arith) h)
+    stmt (src.Fill line n b d) todo h = go_first _ _ (fewer s.env.exec _ s.run.frame 0 s.run.elements todo (omega arith) h)
     stmt (src.Loop line order c e b) todo h = go _ _ (looped s.env.exec _ s.run.frame s.run.elements order c e b _ h)
     stmt (src.Return line None) todo h = go _ _ h
     stmt (src.Return line (Some e)) todo h = go _ _ h
@@ -354,12 +325,33 @@ module _ (going : Going) where
     -- cells start anew
     pub clears : (k m : ℕ) (todo : List Todo) → Holding todo → StandingStep going (quiet.turns todo (in_env (piece.cleared k m s) s))
     clears k m todo h =
-        let there : StandingStack going s.env.exec s.env.frames (record s.run { control = todo } ∷ s.callers) = (st.stack.0, h, st.stack.2) in
+        let there : StandingFrom going s.env.exec s.env.frames (record s.run { control = todo }) s.callers = (st.stack.0, first s.env.exec _ s.run.frame s.run.elements todo h, st.stack.2) in
         subst (λ (b : Bool). StandingState going (at todo s.run.operands (in_env (if b then record s.env { frames = frame_changed s.run.frame (values_cleared k m nought) s.env.frames } else change s.env.exec.home (frames_changed s.env.exec.serial (frame_changed s.run.frame (values_cleared k m nought))) s.env) s))) (sym (exec_same s.env.exec)) (record {
           frames = set_length s.env.frames s.run.frame (values_cleared k m nought (frame_at s.run.frame s.env.frames)) ∙ st.frames;
-          stack = stack_cleared going s.env.exec s.run.frame k m s.env.frames (record s.run { control = todo } ∷ s.callers) there;
+          stack = from_cleared going s.env.exec s.run.frame k m s.env.frames (record s.run { control = todo }) s.callers there;
           env = kept.like going st.env refl refl refl;
         })
+
+    -- what is bound is not gone, or a cell aside is written
+    pub binds : (v w : Value) (todo : List Todo) (vs : List Value) → IsLasting going w ⊎ IsAside (at todo vs s) v → Holding todo → StandingState going (at todo vs (in_env (written v w s.env) s))
+    binds v w todo vs (inl l) h = go_in todo vs _ (kept.written_keeps going v w s.env l st.env) h
+    binds (Place (Frame n d) p) w todo vs (inr b) h = subst (λ m. StandingState going (at todo vs (in_env (written (Place (Frame m d) p) w s.env) s))) (sym b.0) own
+      where
+        there : StandingFrom going s.env.exec s.env.frames (record s.run { control = todo; operands = vs }) s.callers
+        there = (st.stack.0, first s.env.exec _ s.run.frame s.run.elements todo h, st.stack.2)
+
+        own : StandingState going (at todo vs (in_env (written (Place (Frame s.env.exec d) p) w s.env) s))
+        own =
+            subst (λ (b : Bool). StandingState going (at todo vs (in_env (if b then record s.env { frames = frame_changed d (value_changed (address p) (stored w) nought) s.env.frames } else change s.env.exec.home (frames_changed s.env.exec.serial (frame_changed d (value_changed (address p) (stored w) nought))) s.env) s))) (sym (exec_same s.env.exec)) (record {
+              frames = set_length s.env.frames d (value_changed (address p) (stored w) nought (frame_at d s.env.frames)) ∙ st.frames;
+              stack = from_aside going s.env.exec d (address p) (stored w) s.env.frames (record s.run { control = todo; operands = vs }) s.callers b.1 there;
+              env = kept.like going st.env refl refl refl;
+            })
+    binds (Place (Fields o) p) w todo vs (inr b) h = go_in todo vs _ (kept.fields_keeps going o (address p) w s.env st.env) h
+    binds (Number n) w todo vs (inr b) h = go_in todo vs _ (same refl refl refl refl refl) h
+    binds (Running n) w todo vs (inr b) h = go_in todo vs _ (same refl refl refl refl refl) h
+    binds (Object o) w todo vs (inr b) h = go_in todo vs _ (kept.fields_keeps going o 0 w s.env st.env) h
+    binds Nothing w todo vs (inr b) h = go_in todo vs _ (same refl refl refl refl refl) h
 
     -- calls
 
@@ -484,7 +476,7 @@ module _ (going : Going) where
     told : (b : Active) → b.frame ≡ s.run.frame → b.elements ≡ s.run.elements → Holding b.control → StandingState going (record s { run = b })
     told b e q h = record {
       frames = st.frames;
-      stack = (subst (λ f. f ≤ length s.callers) (sym e) st.stack.0, subst (λ v. Standing going s.env.exec (frame_at b.frame s.env.frames) b.frame v b.control) (sym q) (subst (λ f. Standing going s.env.exec (frame_at f s.env.frames) f s.run.elements b.control) (sym e) h), st.stack.2);
+      stack = (subst (λ f. f ≤ length s.callers) (sym e) st.stack.0, subst (λ v. StandingFirst going s.env.exec (frame_at b.frame s.env.frames) b.frame v b.control) (sym q) (subst (λ f. StandingFirst going s.env.exec (frame_at f s.env.frames) f s.run.elements b.control) (sym e) (first s.env.exec _ s.run.frame s.run.elements b.control h)), st.stack.2);
       env = st.env;
     }
 
@@ -525,7 +517,7 @@ module _ (going : Going) where
 
     scope : (c : CleanUp) (b : Bool) (todo : List Todo) → ToFind c (piece.Unwind ∷ todo) → Holding todo → StandingStep going (raising.scope_left c b todo s)
     scope src.Leaves true todo n h = told _ refl refl h
-    scope c b todo n h = go (raising.left_todo c (piece.Unwind ∷ todo)) [] (left_cleans s.env.exec _ s.run.frame s.run.elements c (piece.Unwind ∷ todo) n h)
+    scope c b todo n h = go_first (raising.left_todo c (piece.Unwind ∷ todo)) [] (left_cleans s.env.exec _ s.run.frame s.run.elements c (piece.Unwind ∷ todo) n h)
 
     main_left : (w : Option UnwindReason) (todo : List Todo) → Holding todo → StandingStep going (raising.main_left w todo s)
     main_left (Some (reason.ReturnTo n)) todo h = told _ refl refl h
@@ -540,16 +532,21 @@ module _ (going : Going) where
     found_behind (src.DestroysAll k e) todo n = n
     found_behind x todo n = tt
 
+    -- the sweeping goes on as it is unwound
+    still_unwound : (todo : List Todo) (A : Type 0) → Unless (is_filling todo) A → Unless (is_filling (piece.Unwind ∷ todo)) A
+    still_unwound (piece.Unwind ∷ todo) A h = h
+    still_unwound todo A h = unless_any (is_filling (piece.Unwind ∷ todo)) A h
+
     unwind_past : (p : Todo) (todo : List Todo) → FindsStandingAt going (piece.Unwind ∷ (p ∷ todo)) s → Holding (p ∷ todo) → StandingStep going (raising.unwind_past (piece.sort p) todo s)
     unwind_past piece.InWhole todo n h = whole _ todo h
     unwind_past (piece.Clean x) todo n h = scope x _ todo (found_behind x todo n) h
-    unwind_past (piece.FillNow m b d) todo n h = go _ _ h
-    unwind_past (piece.Sweep e) todo n h = go _ _ h
-    unwind_past (piece.Part x) todo n h = go _ _ (cleans s.env.exec _ s.run.frame s.run.elements x (piece.Unwind ∷ todo) (found_behind x todo n) h)
+    unwind_past (piece.FillNow m b d) todo n h = go _ _ (subst (λ x. Unless x (AllStill going s.env.exec (frame_at s.run.frame s.env.frames) s.run.frame s.run.elements (array_of d))) (sym n) tt, h)
+    unwind_past (piece.Sweep e) todo n h = go _ _ (still_unwound todo _ h.0, h.1)
+    unwind_past (piece.Part x) todo n h = go_first _ _ (cleans s.env.exec _ s.run.frame s.run.elements x (piece.Unwind ∷ todo) (found_behind x todo n) h)
     unwind_past (piece.Guard hs) todo n h = guarded hs s.run.raised todo h
     unwind_past piece.Finish todo n h = main_left s.run.raised todo h
     unwind_past piece.FinishCoroutine todo n h = coroutine_left s.run.raised todo h
-    unwind_past (piece.CountNow m) todo n h = absurd n
+    unwind_past (piece.CountNow m) todo n h = absurd h
     unwind_past p todo n h = go _ _ h
 
     pub unwinds : (todo : List Todo) → FindsStandingAt going (piece.Unwind ∷ todo) s → Holding todo → StandingStep going (raising.unwind_step todo s)
@@ -558,7 +555,8 @@ module _ (going : Going) where
 
     pub exits : (w : Way) (todo : List Todo) → FindsStandingAt going (piece.Exit w ∷ todo) s → Holding todo → StandingStep going (quiet.exit_step w todo s)
     exits w [] n h = end_step w
-    exits w (piece.CountNow m ∷ ps) n h = absurd n
+    exits w (piece.CountNow m ∷ ps) n h = absurd h
+    exits w (piece.Sweep e ∷ ps) n h = go _ _ (left_behind s.env.exec _ s.run.frame s.run.elements w (piece.sort (piece.Sweep e)) ps h.1)
     exits w (p ∷ ps) n h = go _ _ (left_behind s.env.exec _ s.run.frame s.run.elements w (piece.sort p) ps h)
 
     -- printing

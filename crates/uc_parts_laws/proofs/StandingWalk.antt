@@ -16,13 +16,17 @@ use Rattle.uc_machine.specs.Pieces.{Value, Todo, State, Members, at, top, number
 use Rattle.uc_machine.specs.Answering.{answered, entered, new_members, with_operand}
 use Rattle.uc_life_laws.specs.LifeStates.{frame_at}
 use Rattle.uc_life_laws.proofs.Cells.{either}
-use Rattle.uc_parts_laws.specs.Standing.{Going, array_of, Standing, StandingMembers, StandingEx, StandingState, StandingStep, CleansStill, FindsStandingAt, FindsStanding, LawStanding}
+use Rattle.uc_parts_laws.specs.Standing.{Going, Standing, StandingFirst, StandingMembers, StandingEx, StandingState, StandingStep, CleansStill, FindsStandingAt, FindsStanding, LawStanding}
 use Rattle.uc_parts_laws.proofs.StandingKeeping as kept
 use Rattle.uc_life_laws.proofs.Parked as parked
 use Rattle.uc_parts_laws.proofs.StandingSteps as steps
 use Rattle.uc_parts_laws.proofs.StandingSteps.{Holding}
 
 module _ (going : Going) where
+  -- what is told of the list of the running activation
+  abbrev First : State → List Todo → Type 0
+  First s todo = StandingFirst going s.env.exec (frame_at s.run.frame s.env.frames) s.run.frame s.run.elements todo
+
   module _ (source : Source) (s : State) (st : StandingState going s) where
     go : (todo : List Todo) (vs : List Value) → Holding going s st todo → StandingState going (at todo vs s)
     go = steps.go going s st
@@ -36,18 +40,15 @@ module _ (going : Going) where
 
     -- another element stands
     counted : (todo : List Todo) → FindsStandingAt going (piece.MoreNow ∷ todo) s → Holding going s st todo → Standing going s.env.exec (frame_at s.run.frame s.env.frames) s.run.frame (min (s.run.elements + 1) quiet.MOST_ELEMENTS) todo
-    counted (piece.FillNow m b d ∷ todo) n h = (
-      steps.one_more going s.env.exec (frame_at s.run.frame s.env.frames) s.run.frame s.run.elements quiet.MOST_ELEMENTS (array_of d) n.0 h.0,
-      steps.free going s.env.exec (frame_at s.run.frame s.env.frames) s.run.frame s.run.elements (min (s.run.elements + 1) quiet.MOST_ELEMENTS) todo n.1,
-    )
-    counted todo n h = steps.free going s.env.exec (frame_at s.run.frame s.env.frames) s.run.frame s.run.elements (min (s.run.elements + 1) quiet.MOST_ELEMENTS) todo n
+    counted (piece.FillNow m b d ∷ todo) n h = steps.free going s.env.exec (frame_at s.run.frame s.env.frames) s.run.frame s.run.elements (min (s.run.elements + 1) quiet.MOST_ELEMENTS) todo n h
+    counted todo n h = steps.free going s.env.exec (frame_at s.run.frame s.env.frames) s.run.frame s.run.elements (min (s.run.elements + 1) quiet.MOST_ELEMENTS) todo n h
 
     clean_found : (x : CleanUp) (todo : List Todo) → CleansStill going x todo s → steps.Cleans going s.env.exec (frame_at s.run.frame s.env.frames) s.run.frame s.run.elements x todo
     clean_found (src.DestroysAll k e) todo n = n
     clean_found x todo n = tt
 
     -- one piece, with what is to do behind it
-    acts : (p : Todo) (todo : List Todo) → s.run.control ≡ p ∷ todo → FindsStandingAt going (p ∷ todo) s → Holding going s st (p ∷ todo) → StandingStep going (quiet.act source p todo s)
+    acts : (p : Todo) (todo : List Todo) → s.run.control ≡ p ∷ todo → FindsStandingAt going (p ∷ todo) s → First s (p ∷ todo) → StandingStep going (quiet.act source p todo s)
     acts (piece.Eval a) todo e n h = steps.eval going s st a todo h
     acts (piece.ElementNow m k) todo e n h = steps.element going s st k _ todo _ _ h
     acts piece.NegateNow todo e n h = steps.outcome going s st _ todo _ h
@@ -55,14 +56,14 @@ module _ (going : Going) where
     acts piece.StoreNow todo e n h = steps.go_in going s st _ _ _ (kept.written_keeps going _ _ s.env (λ o e. absurd (cc)) st.env) h
     acts piece.KeepNow todo e n h = steps.go_in going s st _ _ _ (kept.written_keeps going _ _ s.env (λ o e. absurd (cc)) st.env) h
     acts (piece.SetNow k) todo e n h = steps.go_in going s st _ _ _ (kept.written_keeps going (piece.variable_at k s) (piece.Number (number (top s.run.operands))) s.env (λ o e. absurd (cc)) st.env) h
-    acts piece.BindNow todo e n h = steps.go_in going s st _ _ _ (kept.written_keeps going _ _ s.env n st.env) h
+    acts piece.BindNow todo e n h = steps.binds going s st _ _ todo _ n h
     acts (piece.Arguments src.NoExprs) todo e n h = go _ _ h
     acts (piece.Arguments (src.MoreExprs a es)) todo e n h = go _ _ h
     acts (piece.CallNow r) todo e n h = steps.call going s st (slice_get source.routines r) todo h
     acts (piece.CallOnNow r) todo e n h = steps.call_on going s st (slice_get source.routines r) todo h
     acts (piece.CallUnwrittenNow r) todo e n h = steps.call_unwritten going s st (slice_get source.routines r) todo h
-    acts (piece.CountNow m) todo e n h = record { frames = st.frames; stack = (st.stack.0, h, st.stack.2); env = st.env }
-    acts piece.MoreNow todo e n h = record { frames = st.frames; stack = (st.stack.0, counted todo n h, st.stack.2); env = st.env }
+    acts (piece.CountNow m) todo e n h = record { frames = st.frames; stack = (st.stack.0, steps.first going s.env.exec _ s.run.frame m todo h, st.stack.2); env = st.env }
+    acts piece.MoreNow todo e n h = record { frames = st.frames; stack = (st.stack.0, steps.first going s.env.exec _ s.run.frame (min (s.run.elements + 1) quiet.MOST_ELEMENTS) todo (counted todo n h), st.stack.2); env = st.env }
     acts (piece.FillNow m b d) todo e n h = go _ _ (steps.filled going s.env.exec _ s.run.frame s.run.elements (nat_lt s.run.elements m) m b d todo h)
     acts (piece.Again order c step b) todo e n h = go _ _ (either (Holding going s st) (piece.is_zero (number (top s.run.operands))) todo (piece.TurnNow order c step b ∷ todo) h h)
     acts (piece.PrintNow form) todo e n h = steps.prints going s st s.env.gathered _ todo _ h
@@ -84,7 +85,7 @@ module _ (going : Going) where
     acts (piece.Rest ss) todo e n h = rests ss todo h
     acts (piece.Exit w) todo e n h = steps.exits going s st w todo n h
     acts (piece.InLoop order c step b) todo e n h = go _ _ (steps.stepped going s.env.exec _ s.run.frame s.run.elements step _ (steps.tested going s.env.exec _ s.run.frame s.run.elements order c step b todo h))
-    acts (piece.Clean x) todo e n h = go _ _ (steps.cleans going s.env.exec _ s.run.frame s.run.elements x todo (clean_found x todo n) h)
+    acts (piece.Clean x) todo e n h = steps.go_first going s st _ _ (steps.cleans going s.env.exec _ s.run.frame s.run.elements x todo (clean_found x todo n) h)
     acts (piece.Sweep a) todo e n h = steps.swept going s st s.run.elements a todo refl h
     acts piece.Unwind todo e n h = steps.unwinds going s st todo n h
     acts piece.ThrowNow todo e n h = steps.throws going s st (raising.event_in s.run.operands) todo h
@@ -129,7 +130,7 @@ module _ (going : Going) where
       where
         by : (l : List Todo) → s.run.control ≡ l → StandingStep going (quiet.act_todo source l s)
         by [] e = steps.returned going s st _ s.callers st.frames st.stack.2
-        by (p ∷ todo) e = acts p todo e (subst (λ l. FindsStandingAt going l s) e f) (subst (Holding going s st) e st.stack.1)
+        by (p ∷ todo) e = acts p todo e (subst (λ l. FindsStandingAt going l s) e f) (subst (First s) e st.stack.1)
 
   begins : (source : Source) (r o : ℕ) → StandingState going (first_state (routine_of source r) o)
   begins source r o = record {

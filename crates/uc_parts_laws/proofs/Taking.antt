@@ -1,5 +1,5 @@
 -- Where a constructor is called, each part that it is to build is taken over by what stands behind the call.
-use Rattle.std.proofs.Common.{◌≡◌, ℕ, inl, inr, Bool, true, false, List, [], ◌∷◌, length, drop, Some, None, refl, sym, subst}
+use Rattle.std.proofs.Common.{◌≡◌, ℕ, inl, inr, Bool, true, false, List, [], ◌∷◌, length, drop, Some, refl, sym, subst}
 use Rattle.std.specs.Prelude.{slice_get}
 use Rattle.uc_tree.specs.Source as src
 use Rattle.uc_tree.specs.Source.{Expr, CleanUp, Stmts, Routine, Source}
@@ -52,8 +52,7 @@ module _ (source : Source) (w : Seat) (n : Exec) (f : ℕ) (this : Value) (d : �
 pub all_more : (special : ℕ → Bool) (P Q : CleanUp → Type 0) → ((c : CleanUp) → P c → Q c) → (ss : Stmts) → AllParts special P ss → AllParts special Q ss
 all_more special P Q f src.Nil h = tt
 all_more special P Q f (src.Then a rest) h = all_more special P Q f rest h
-all_more special P Q f (src.Scoped (src.Frees None) rest) h = (tt, all_more special P Q f rest h.1)
-all_more special P Q f (src.Scoped (src.Frees (Some r)) rest) h = (f src.Ends h.0, all_more special P Q f rest h.1)
+all_more special P Q f (src.Scoped (src.Frees r) rest) h = (f src.Ends h.0, all_more special P Q f rest h.1)
 all_more special P Q f (src.Scoped c rest) h = all_more special P Q f rest h
 all_more special P Q f (src.Built c rest) h = (f c h.0, all_more special P Q f rest h.1)
 

@@ -161,8 +161,8 @@ module _ (p : Program) where
     started_in true rest h = (tt, h)
 
     freed : (k : Kind) (i : ℕ) (rest : Stmts) → b ≡ is_mutex k → (is_mutex k ≡ true → IsScoped src.Ends D) → Undone rest → Undone (meaning.freed p k i rest)
-    freed kind.Monitor i rest e f h = (tt, h)
-    freed kind.Cormonitor i rest e f h = (tt, h)
+    freed kind.Monitor i rest e f h = (subst (λ x. IsEnded x D) (sym e) (f refl), h)
+    freed kind.Cormonitor i rest e f h = (subst (λ x. IsEnded x D) (sym e) (f refl), h)
     freed kind.Task i rest e f h = (subst (λ x. IsEnded x D) (sym e) (f refl), h)
     freed kind.Class i rest e f h = h
     freed kind.Coroutine i rest e f h = h

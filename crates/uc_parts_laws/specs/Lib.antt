@@ -14,4 +14,8 @@ pub mod UndoingLaws
 pub mod Returning
 pub mod Standing
 pub mod StandingRuns
+pub mod GoingApart
+pub mod StandingPrograms
+pub mod BoundAside
 pub mod LoneSweeps
+pub mod KeptObjects

@@ -10,7 +10,7 @@ use Rattle.uc_putting_laws.specs.Putting.{Setting, PutState}
 use Rattle.uc_parts_laws.specs.Standing.{array_of}
 
 -- of the array, by its variable
-abbrev pub OfArray : (ℕ → Type 0) → Option (Shape × ℕ) → Type 0
+abbrev pub OfArray : (ℕ → Type 0) → Option (Shape × ℕ × ℕ) → Type 0
 OfArray P None = Unit {0}
 OfArray P (Some a) = P a.1
 

@@ -172,17 +172,12 @@ abbrev pub SetsUp : List Todo → Type 0
 SetsUp (piece.Rest ss ∷ todo) = OpensForgets ss
 SetsUp todo = ⊥
 
--- `P c`: what holds of a part of the object at hand, and by `Ends` of the task that this is
+-- `P c`: what holds of a part of the object at hand, and by `Ends` of the mutex object that this is
 module _ (special : ℕ → Bool) (P : CleanUp → Type 0) where
-  -- a task begins behind the building of its object
-  abbrev pub FreedPart : Option ℕ → Type 0
-  FreedPart None = Unit {0}
-  FreedPart (Some r) = P Ends
-
   -- a clean-up at a mark
   abbrev pub CleansMark : CleanUp → Type 0
   CleansMark (DestroysAll m e) = Counts m e
-  CleansMark (Frees r) = Begins special r × FreedPart r
+  CleansMark (Frees r) = Begins special r × P Ends
   CleansMark c = Unit {0}
 
   -- a return of a mutex member leaves what is behind the scope of its object, and nothing is behind the end of the building of one
@@ -195,7 +190,7 @@ module _ (special : ℕ → Bool) (P : CleanUp → Type 0) where
   abbrev pub AllParts : Stmts → Type 0
   AllParts Nil = Unit {0}
   AllParts (Then a rest) = AllParts rest
-  AllParts (Scoped (Frees r) rest) = FreedPart r × AllParts rest
+  AllParts (Scoped (Frees r) rest) = P Ends × AllParts rest
   AllParts (Scoped c rest) = AllParts rest
   AllParts (Built c rest) = P c × AllParts rest
 
@@ -203,12 +198,12 @@ module _ (special : ℕ → Bool) (P : CleanUp → Type 0) where
   abbrev pub Parted : List Todo → Type 0
   Parted [] = Unit {0}
   Parted (piece.Part c ∷ todo) = (P c × CleansPart c) × Parted todo
-  Parted (piece.Clean (Frees r) ∷ []) = Begins special r × FreedPart r
+  Parted (piece.Clean (Frees r) ∷ []) = Begins special r × P Ends
   Parted todo = ⊥
 
   -- statements that build parts
   abbrev pub Heads : Stmts → List Todo → Type 0
-  Heads (Scoped (Frees r) rest) todo = (todo ≡ []) × (Begins special r × FreedPart r) × HeadStmts special rest × AllParts rest
+  Heads (Scoped (Frees r) rest) todo = (todo ≡ []) × (Begins special r × P Ends) × HeadStmts special rest × AllParts rest
   Heads ss todo = HeadStmts special ss × AllParts ss × Parted todo
 
   abbrev pub HeadDo : Stmt → List Todo → Type 0
@@ -236,6 +231,7 @@ module _ (special : ℕ → Bool) (P : CleanUp → Type 0) where
     IsOrderly (piece.Clean c ∷ todo) = (CleansMark c × BehindMark c todo) × IsFree todo × IsOrderly todo
     IsOrderly (piece.Part c ∷ todo) = (P c × CleansPart c) × Parted todo
     IsOrderly (piece.SetUpNow r ∷ todo) = (SetsUp todo × (special r ≡ false)) × IsOrderly todo
+    IsOrderly (piece.MadeNow ∷ todo) = (P Ends × (todo ≡ [])) × IsOrderly todo
     IsOrderly (piece.SpawnNow r ∷ todo) = ((special r ≡ false) × P Ends × (todo ≡ [])) × IsOrderly todo
     IsOrderly (piece.ChildNow r ∷ todo) = (special r ≡ false) × IsOrderly todo
     IsOrderly (piece.ClearNow k n ∷ todo) = IsFree todo × IsOrderly todo

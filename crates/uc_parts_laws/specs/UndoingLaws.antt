@@ -1,29 +1,19 @@
 -- What builds parts is called where these are taken over: in the source of every program that breaks no rule, and in every task of such a source.
-use Rattle.std.specs.Prelude.{◌≡◌, ℕ, false, List, []}
+use Rattle.std.specs.Prelude.{◌≡◌, ℕ, []}
 use Rattle.uc_tree.specs.Programs.{Program}
 use Rattle.uc_tree.specs.Source.{routine_of}
-use Rattle.uc_entry.specs.declared.entry.Options.{Options}
 use Rattle.uc_entry.specs.declared.request.Answer.{Answer}
-use Rattle.uc_entry.specs.declared.request.Asked.{Asked}
-use Rattle.uc_acts.specs.Journal.{Journal, is_over}
-use Rattle.uc_acts.specs.KernelRuns.{InRange}
-use Rattle.uc_acts.specs.Serves.{left}
-use Rattle.uc_machine.specs.Pieces.{Value, State}
+use Rattle.uc_machine.specs.Pieces.{State}
 use Rattle.uc_machine.specs.Quiet.{first_state, quiet}
 use Rattle.uc_machine.specs.Answering.{answered}
-use Rattle.uc_meaning.specs.Runs.{World, Runs, AsksIn, drawn}
 use Rattle.uc_resolve.specs.Resolve.{source_of}
 use Rattle.uc_rules.specs.Breaks.{breaks_of}
 use Rattle.uc_sound.specs.SoundFormed.{IsFormed}
 use Rattle.uc_answer_laws.specs.Suiting.{Form, IsForm}
 use Rattle.uc_state_laws.specs.Counted.{CountedSource}
-use Rattle.uc_state_laws.specs.Fitting.{RunFits}
-use Rattle.uc_state_laws.specs.Opens.{RideMeets, RunMeets}
-use Rattle.uc_life_laws.specs.Homes.{home_of}
 use Rattle.uc_place_laws.specs.OlderResting.{AllWait, NamedEnv}
 use Rattle.uc_putting_laws.specs.PuttingLaws.{special_of}
 use Rattle.uc_parts_laws.specs.PartStates.{Setting, CallsTaken}
-use Rattle.uc_parts_laws.specs.PartsRuns.{parts_of}
 use Rattle.uc_parts_laws.specs.Undoing.{UndoingSource}
 use Rattle.uc_parts_laws.specs.UndoingStates.{FindsFor, Runs as Running, Waits, UndoingState, UndoingStep, BindsHome}
 

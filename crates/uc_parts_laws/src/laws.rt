@@ -1,7 +1,10 @@
 // The laws: each is a function whose contract is the law.
 
+ghost use Rattle.uc_parts_laws.specs.BoundAside.{LawBoundAside};
 ghost use Rattle.uc_parts_laws.specs.ClearedFrames.{LawClearedFrames};
 ghost use Rattle.uc_parts_laws.specs.FramesStay.{LawFramesStay};
+ghost use Rattle.uc_parts_laws.specs.GoingApart.{LawGoesApart};
+ghost use Rattle.uc_parts_laws.specs.KeptObjects.{LawKeptObjects, LawLodgers};
 ghost use Rattle.uc_parts_laws.specs.Leaving.{LawLeaving};
 ghost use Rattle.uc_parts_laws.specs.Lodging.{LawLodging};
 ghost use Rattle.uc_parts_laws.specs.LoneSweeps.{LawLoneSweeps};
@@ -11,6 +14,7 @@ ghost use Rattle.uc_parts_laws.specs.PartsRuns.{LawKeptParts, LawPartsRuns};
 ghost use Rattle.uc_parts_laws.specs.UndoingLaws.{LawTaking, LawUndoing};
 ghost use Rattle.uc_parts_laws.specs.Returning.{LawReturns, LawReturnsRuns};
 ghost use Rattle.uc_parts_laws.specs.Standing.{LawStanding};
+ghost use Rattle.uc_parts_laws.specs.StandingPrograms.{LawStandingPrograms};
 ghost use Rattle.uc_parts_laws.specs.StandingRuns.{LawStandingRuns};
 
 /// In the source of every program that breaks no rule parts of objects are built by constructors alone, outside all
@@ -102,8 +106,38 @@ pub fn law_standing_runs()
     ensures { LawStandingRuns }
 {}
 
+/// In each run of a program that breaks no rule what goes is none.
+pub fn law_goes_apart()
+    ensures { LawGoesApart }
+{}
+
+/// So in each run of such a program, as long as what is in scope and what is bound is not gone, no element that stands is
+/// gone.
+pub fn law_standing_programs()
+    ensures { LawStandingPrograms }
+{}
+
+/// What is bound, but to a new mutex object, is bound aside of all elements of arrays that are being destroyed, where own
+/// cells hold what is at home there.
+pub fn law_bound_aside()
+    ensures { LawBoundAside }
+{}
+
 /// Where an activation destroys the elements of an array of mutex objects that is a variable, older activations build and
 /// destroy nothing that is at home in that array.
 pub fn law_lone_sweeps()
     ensures { LawLoneSweeps }
+{}
+
+/// In runs what the maker of a mutex object was to clean up outwards of it as it let others in, or spawned it, stays the
+/// outermost of what it is to clean up, as long as each step that takes the object's mark away leads to where it is
+/// held soon, and the object does not go.
+pub fn law_kept_objects()
+    ensures { LawKeptObjects }
+{}
+
+/// So each step does where parts of objects are taken over, if what is loaded to be destroyed where the object is at
+/// home is that object; and its maker holds it soon as it lets others in.
+pub fn law_lodgers()
+    ensures { LawLodgers }
 {}

@@ -16,31 +16,39 @@ use Rattle.uc_place_laws.specs.Calling.{Calling, NoneCalled, EndsBefore}
 use Rattle.uc_place_laws.specs.OlderResting.{AllWait}
 use Rattle.uc_place_laws.proofs.OpeningMarks.{opens_more as plains_more}
 use Rattle.uc_place_laws.specs.Siting.{Everywhere, PlainSingle, SitedAt, BuildsAt, Singly, SitedExpr, SitedStmt}
-use Rattle.uc_place_laws.specs.Asides.{IsNearer, PendsBefore, OwnerAside, LiesAside, IsNear, Mark, Any, Aside, Loose, Meets, Holds, rest, rests, anys, FirstAside, FirstLoose, IsTold, Free, Calm, after, Ok, Left, OkNow, Runs, Waits}
+use Rattle.uc_place_laws.specs.Asides.{IsNearer, PendsBefore, OwnerAside, LiesAside, AwaitsBefore, IsNear, first, further_in, Sits, SitsAt, Mark, Any, Aside, Loose, Meets, Holds, rest, rests, anys, FirstAside, FirstLoose, IsTold, Free, Calm, after, Ok, Left, OkNow, Runs, Waits}
 
 -- operands
 
-module _ (Z : ℕ → ℕ → Type 0) (n : Exec) (older : List Active) where
-  pub holds_below : (ms : List Mark) (vs : List Value) → Holds Z n older ms vs → Holds Z n older (rest ms) (below vs)
+module _ (Z : ℕ → ℕ → Type 0) (n : Exec) (f : ℕ) (this : Value) (older : List Active) where
+  pub holds_below : (ms : List Mark) (vs : List Value) → Holds Z n f this older ms vs → Holds Z n f this older (rest ms) (below vs)
   holds_below [] vs h = tt
   holds_below (m ∷ ms) vs h = h.1
 
-  pub holds_spread : (ms : List Mark) (vs : List Value) → Holds Z n older ms vs → Holds Z n older ms (top vs ∷ below vs)
+  pub holds_spread : (ms : List Mark) (vs : List Value) → Holds Z n f this older ms vs → Holds Z n f this older ms (top vs ∷ below vs)
   holds_spread [] vs h = tt
   holds_spread (m ∷ ms) vs h = h
 
   -- the number of a new object is what is known of it
-  pub holds_told : (m : Mark) (k : ℕ) → IsTold m → Meets Z n older m (Object k)
+  pub holds_told : (m : Mark) (k : ℕ) → IsTold m → Meets Z n f this older m (Object k)
   holds_told Any k h = tt
   holds_told Aside k h = absurd h
   holds_told Loose k h = tt
 
-  pub holds_loose : (ms : List Mark) (vs : List Value) → Holds Z n older ms vs → FirstLoose ms → IsLoose (top vs)
+  pub holds_loose : (ms : List Mark) (vs : List Value) → Holds Z n f this older ms vs → FirstLoose ms → IsLoose (top vs)
   holds_loose [] vs h k = absurd k
   holds_loose (Any ∷ ms) vs h k = absurd k
   holds_loose (Aside ∷ ms) vs h k = absurd k
   holds_loose (Loose ∷ ms) vs h k = h.0
 
+  pub holds_aside : (ms : List Mark) (vs : List Value) → Holds Z n f this older ms vs → FirstAside ms → LiesAside Z n older (top vs) × SitsAt Z n f this older (top vs)
+  holds_aside [] vs h k = absurd k
+  holds_aside (Any ∷ ms) vs h k = absurd k
+  holds_aside (Aside ∷ ms) vs h k = h.0
+  holds_aside (Loose ∷ ms) vs h k = absurd k
+
+-- what is no place lies aside
+module _ (Z : ℕ → ℕ → Type 0) (n : Exec) (older : List Active) where
   pub loose_aside : (v : Value) → IsLoose v → LiesAside Z n older v
   loose_aside (Number z) h = tt
   loose_aside (Place o p) h = absurd h
@@ -48,30 +56,24 @@ module _ (Z : ℕ → ℕ → Type 0) (n : Exec) (older : List Active) where
   loose_aside (Object o) h = tt
   loose_aside Nothing h = tt
 
-  pub holds_aside : (ms : List Mark) (vs : List Value) → Holds Z n older ms vs → FirstAside ms → LiesAside Z n older (top vs)
-  holds_aside [] vs h k = absurd k
-  holds_aside (Any ∷ ms) vs h k = absurd k
-  holds_aside (Aside ∷ ms) vs h k = h.0
-  holds_aside (Loose ∷ ms) vs h k = absurd k
-
 drop_below : (n : ℕ) (vs : List Value) → drop (suc n) vs ≡ below (drop n vs)
 drop_below zero [] = refl
 drop_below zero (v ∷ vs) = refl
 drop_below (suc n) [] = refl
 drop_below (suc n) (v ∷ vs) = drop_below n vs
 
-module _ (Z : ℕ → ℕ → Type 0) (n : Exec) (older : List Active) where
-  pub holds_drop : (k : ℕ) (ms : List Mark) (vs : List Value) → Holds Z n older ms vs → Holds Z n older (rests k ms) (drop k vs)
+module _ (Z : ℕ → ℕ → Type 0) (n : Exec) (f : ℕ) (this : Value) (older : List Active) where
+  pub holds_drop : (k : ℕ) (ms : List Mark) (vs : List Value) → Holds Z n f this older ms vs → Holds Z n f this older (rests k ms) (drop k vs)
   holds_drop zero ms [] h = h
   holds_drop zero ms (v ∷ vs) h = h
   holds_drop (suc k) ms vs h =
-      subst (Holds Z n older (rest (rests k ms))) (sym (drop_below k vs)) (holds_below Z n older (rests k ms) (drop k vs) (holds_drop k ms vs h))
+      subst (Holds Z n f this older (rest (rests k ms))) (sym (drop_below k vs)) (holds_below Z n f this older (rests k ms) (drop k vs) (holds_drop k ms vs h))
 
   -- so many operands of which nothing is known
-  pub holds_anys : (k : ℕ) (ms : List Mark) (vs : List Value) → Holds Z n older ms (drop k vs) → Holds Z n older (anys k ms) vs
+  pub holds_anys : (k : ℕ) (ms : List Mark) (vs : List Value) → Holds Z n f this older ms (drop k vs) → Holds Z n f this older (anys k ms) vs
   holds_anys zero ms [] h = h
   holds_anys zero ms (v ∷ vs) h = h
-  holds_anys (suc k) ms vs h = holds_anys k (Any ∷ ms) vs (tt, subst (Holds Z n older ms) (drop_below k vs) h)
+  holds_anys (suc k) ms vs h = holds_anys k (Any ∷ ms) vs (tt, subst (Holds Z n f this older ms) (drop_below k vs) h)
 
 -- an object that is written to an operand is there; where there is none nothing is found
 pub set_loose : (k : ℕ) (v : Value) (vs : List Value) → IsLoose v → IsLoose (top (drop k (slice_set vs k v)))
@@ -99,7 +101,7 @@ address_last : (p : List Link) → address p ≤ LAST_ADDRESS
 address_last [] = omega arith
 address_last (l ∷ p) = min-le_right (address p + link_cells l) LAST_ADDRESS
 
-address_more : (l : Link) (p : List Link) → address p ≤ address (l ∷ p)
+pub address_more : (l : Link) (p : List Link) → address p ≤ address (l ∷ p)
 address_more l p = le-min (omega arith) (address_last p)
 
 -- what is said of what is still to be bound may be said otherwise
@@ -229,6 +231,21 @@ module _ (Z : ℕ → ℕ → Type 0) (n : Exec) where
   further_aside older l (Running e) h = tt
   further_aside older l (Object o) h = tt
   further_aside older l Nothing h = tt
+
+  -- and one further than what constructors may have at hand is what they may be called for
+  awaits_more : (a b : ℕ) → a ≤ b → (d : ℕ) (cs : List Active) → AwaitsBefore Z a d cs → AwaitsBefore Z b d cs
+  awaits_more a b le d [] h = tt
+  awaits_more a b le d (c ∷ cs) h =
+      ((λ e. awaited_more (EndsBefore Z a) (EndsBefore Z b) (λ m j z. let q = z.2 in (z.0, z.1, omega (arith, q, le))) c.control (h.0 e)), awaits_more a b le d cs h.1)
+
+  pub further_sits : (f : ℕ) (this : Value) (older : List Active) (k : src.Shape) (i : ℕ) (v : Value) → SitsAt Z n f this older v → SitsAt Z n f this older (further (piece.At k i) v)
+  further_sits f this older k i v (inl h) =
+      inl (piece.At k i ∷ h.0, ap (further (piece.At k i)) h.1, h.2, awaits_more (address h.0) (address (piece.At k i ∷ h.0)) (address_more (piece.At k i) h.0) f older h.3)
+  further_sits f this older k i v (inr h) = inr (further_in h.0 (piece.At k i), h.1)
+
+  -- a field of the object at hand of a constructor is too
+  pub field_sits : (f : ℕ) (this : Value) (older : List Active) (l : Link) → Sits Z n older this → SitsAt Z n f this older (further l this)
+  field_sits f this older l h = inr (first l, h)
 
   -- so does what lies aside of what waits with nothing to bind
   owner_waits : (older : List Active) (c : Active) (o : Owner) (cell : ℕ) → Free c.control → EachNext (λ p. ⊥) c.control → NoneCalled c.control → OwnerAside Z n older o cell → OwnerAside Z n (c ∷ older) o cell

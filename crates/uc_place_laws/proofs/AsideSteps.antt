@@ -32,11 +32,11 @@ use Rattle.uc_place_laws.specs.OpeningLaws.{NoneAwaited}
 use Rattle.uc_place_laws.specs.Calling.{NoneCalled, NoneBehind}
 use Rattle.uc_place_laws.specs.OlderResting.{AllWait, NamedEnv}
 use Rattle.uc_place_laws.specs.Siting.{Nowhere, Everywhere, OpensAt, OpensAlone, PlainExpr, PlainNew, SitedAt, BuildsAt, Singly, PlainSingle, SitedExpr, SitedRaised}
-use Rattle.uc_place_laws.specs.Asides.{LiesAside, IsNear, Mark, Any, Aside, Loose, Holds, FirstAside, FirstLoose, rest, rests, anys, Free, Calm, NextAlone, CodeMaybe, CodeItems, CodeClean, CodeEnds, CodeStmt, CodeStmts, CodeHandlers, CodeClauses, CodeLoop, CodeRoutine, CallFits, FillsBy, LeftBy, Ok, Left, Finds, Runs, Waits, AsideState, AsideStep}
+use Rattle.uc_place_laws.specs.Asides.{LiesAside, IsNear, Sits, Mark, Any, Aside, Loose, Holds, FirstAside, FirstLoose, rest, rests, anys, Free, Calm, NextAlone, CodeMaybe, CodeItems, CodeClean, CodeEnds, CodeStmt, CodeStmts, CodeHandlers, CodeClauses, CodeLoop, CodeRoutine, CallFits, FillsBy, LeftBy, Ok, Left, Finds, Runs, Waits, AsideState, AsideStep}
 use Rattle.uc_place_laws.proofs.AsideKeeping as kept
 use Rattle.uc_place_laws.proofs.AsideKeeping.{either}
 use Rattle.uc_place_laws.proofs.AsideMarks as marks
-use Rattle.uc_place_laws.proofs.AsideMarks.{holds_below, holds_aside, holds_loose, loose_aside, set_loose, holds_drop, holds_anys, rests_anys, drop_set, further_aside, waits_aside, calm_free, calm_none, singly_more, sited_more, Rooted, NearNew, near_sited, stmt_more, AllLeft, waits_left}
+use Rattle.uc_place_laws.proofs.AsideMarks.{holds_below, holds_aside, holds_loose, loose_aside, set_loose, holds_drop, holds_anys, rests_anys, drop_set, further_aside, further_sits, field_sits, waits_aside, calm_free, calm_none, singly_more, sited_more, Rooted, NearNew, near_sited, stmt_more, AllLeft, waits_left}
 
 no_both : {A : Type 0} (b : Bool) → b ≡ true → b ≡ false → A
 no_both b h k = absurd (cc)
@@ -301,7 +301,7 @@ module _ (Z : ℕ → ℕ → Type 0) (makes : ℕ → Bool) (source : Source) w
         let under : List Mark = rests (suc (params source r)) (anys n (Aside ∷ ms)) in
         ((first_on n r ms e, f, u), (inr (inl (subst FirstLoose (sym (rests_anys (params source r) (Loose ∷ under))) tt)), called_on (params source r) r Loose under todo refl (subst (λ ns. Fits (Any ∷ ns) todo) (sym (below_on n r Aside ms e)) h)))
 
-  module _ (s : State) (callers : W s.env.exec s.callers) (env : E s.env) (made : Bool) (this : made ≡ true → LiesAside Z s.env.exec s.callers s.run.this) where
+  module _ (s : State) (callers : W s.env.exec s.callers) (env : E s.env) (made : Bool) (this : made ≡ true → LiesAside Z s.env.exec s.callers s.run.this × Sits Z s.env.exec s.callers s.run.this) where
     abbrev pub N : ℕ → Type 0
     N k = IsNear Z s.run.frame s.callers k
 
@@ -312,7 +312,7 @@ module _ (Z : ℕ → ℕ → Type 0) (makes : ℕ → Bool) (source : Source) w
     L todo = Left makes source (IsNear Z s.run.frame s.callers) made todo
 
     abbrev pub H : List Mark → List Value → Type 0
-    H ms vs = Holds Z s.env.exec s.callers ms vs
+    H ms vs = Holds Z s.env.exec s.run.frame s.run.this s.callers ms vs
 
     gone : (ms : List Mark) (todo : List Todo) → O ms todo → L todo
     gone ms todo h = left (IsNear Z s.run.frame s.callers) made ms todo h
@@ -362,9 +362,10 @@ module _ (Z : ℕ → ℕ → Type 0) (makes : ℕ → Bool) (source : Source) w
     -- an element is known to lie aside or not
     pub element : (ms : List Mark) (k : Shape) (i : Option ℕ) (todo : List Todo) (v : Value) (vs : List Value) → H ms (v ∷ vs) → O (Any ∷ rest ms) todo ⊎ (FirstAside ms × O (Aside ∷ rest ms) todo) → AsideStep Z makes source (piece.element_step k i todo v vs s)
     element ms k None todo v vs l h = stop Index todo vs
-    element ms k (Some i) todo v vs l (inl h) = go (Any ∷ rest ms) todo _ (tt, holds_below Z s.env.exec s.callers ms (v ∷ vs) l) h
+    element ms k (Some i) todo v vs l (inl h) = go (Any ∷ rest ms) todo _ (tt, holds_below Z s.env.exec s.run.frame s.run.this s.callers ms (v ∷ vs) l) h
     element ms k (Some i) todo v vs l (inr h) =
-        go (Aside ∷ rest ms) todo _ (further_aside Z s.env.exec s.callers (piece.At k i) v (holds_aside Z s.env.exec s.callers ms (v ∷ vs) l h.0), holds_below Z s.env.exec s.callers ms (v ∷ vs) l) h.1
+        let near = holds_aside Z s.env.exec s.run.frame s.run.this s.callers ms (v ∷ vs) l h.0 in
+        go (Aside ∷ rest ms) todo _ ((further_aside Z s.env.exec s.callers (piece.At k i) v near.0, further_sits Z s.env.exec s.run.frame s.run.this s.callers k i v near.1), holds_below Z s.env.exec s.run.frame s.run.this s.callers ms (v ∷ vs) l) h.1
 
     pub condition : (ms : List Mark) (k : ℕ) (i : Option ℕ) (todo : List Todo) → H ms (below s.run.operands) → O (Any ∷ ms) todo → AsideStep Z makes source (monitors.condition_step k i todo s)
     condition ms k None todo l h = stop Index todo _
@@ -493,7 +494,7 @@ module _ (Z : ℕ → ℕ → Type 0) (makes : ℕ → Bool) (source : Source) w
     handles ms None e todo k n h = throws e todo (gone (rests 3 ms) todo h)
     handles ms (Some f) e todo k n h = record {
       run = record { made = false; this = λ q. absurd (cc); marks = []; holds = tt; ok = handled (IsNear Z f.frame ((record s.run { control = piece.DropNow ∷ todo; operands = below (below (below s.run.operands)) }) ∷ s.callers)) false f.handler [] n tt tt };
-      callers = (finds 1 (rests 3 ms) (piece.DropNow ∷ todo) _ (holds_below Z s.env.exec s.callers (rests 2 ms) _ (holds_below Z s.env.exec s.callers (rests 1 ms) _ (holds_below Z s.env.exec s.callers ms _ k))) (tt, h), callers);
+      callers = (finds 1 (rests 3 ms) (piece.DropNow ∷ todo) _ (holds_below Z s.env.exec s.run.frame s.run.this s.callers (rests 2 ms) _ (holds_below Z s.env.exec s.run.frame s.run.this s.callers (rests 1 ms) _ (holds_below Z s.env.exec s.run.frame s.run.this s.callers ms _ k))) (tt, h), callers);
       env = likes env refl refl refl;
     }
 
@@ -573,10 +574,10 @@ module _ (Z : ℕ → ℕ → Type 0) (makes : ℕ → Bool) (source : Source) w
     -- with what is known of the operands
     module _ (ms : List Mark) (holds : H ms s.run.operands) where
       pub one : H (rest ms) (below s.run.operands)
-      one = holds_below Z s.env.exec s.callers ms s.run.operands holds
+      one = holds_below Z s.env.exec s.run.frame s.run.this s.callers ms s.run.operands holds
 
       pub two : H (rest (rest ms)) (below (below s.run.operands))
-      two = holds_below Z s.env.exec s.callers (rest ms) (below s.run.operands) one
+      two = holds_below Z s.env.exec s.run.frame s.run.this s.callers (rest ms) (below s.run.operands) one
 
       -- expressions
 
@@ -644,8 +645,8 @@ module _ (Z : ℕ → ℕ → Type 0) (makes : ℕ → Bool) (source : Source) w
       builds a todo n b f d u h = absurd b
 
       place : (e : Expr) (todo : List Todo) → CountedExpr source e → SitedAt makes (IsNear Z s.run.frame s.callers) made e → O (Aside ∷ ms) todo → AsideStep Z makes source (quiet.eval_step e todo s)
-      place (src.Variable k) todo n p h = go (Aside ∷ ms) _ _ ((exec_same s.env.exec, p), holds) h
-      place (src.OfObject (src.OwnField k i)) todo n p h = go (Aside ∷ ms) _ _ (further_aside Z s.env.exec s.callers (piece.FieldAt k i) s.run.this (this p), holds) h
+      place (src.Variable k) todo n p h = go (Aside ∷ ms) _ _ (((exec_same s.env.exec, p.0), inl (Slot k ∷ [], refl, tt, p.1)), holds) h
+      place (src.OfObject (src.OwnField k i)) todo n p h = go (Aside ∷ ms) _ _ ((further_aside Z s.env.exec s.callers (piece.FieldAt k i) s.run.this (this p).0, field_sits Z s.env.exec s.run.frame s.run.this s.callers (piece.FieldAt k i) (this p).1), holds) h
       place (src.Element m k a i) todo n p h = go ms _ _ holds (n.0, inr (inr (inr (inl (p.0, (n.1, inl (p.1, inr (tt, h))))))))
       place e todo n p h = absurd p
 
@@ -663,7 +664,7 @@ module _ (Z : ℕ → ℕ → Type 0) (makes : ℕ → Bool) (source : Source) w
 
       -- calls
 
-      begun : (b : Bool) (r : Routine) (object : Value) (counts : Bool) (ns : List Mark) (todo : List Todo) (vs : List Value) → CodeStmts makes source b r.body → (b ≡ true → LiesAside Z s.env.exec ((record s.run { control = todo; operands = vs }) ∷ s.callers) object) → H ns vs → O (Any ∷ ns) todo → AsideStep Z makes source (quiet.begun_step r object counts todo vs s)
+      begun : (b : Bool) (r : Routine) (object : Value) (counts : Bool) (ns : List Mark) (todo : List Todo) (vs : List Value) → CodeStmts makes source b r.body → (b ≡ true → LiesAside Z s.env.exec ((record s.run { control = todo; operands = vs }) ∷ s.callers) object × Sits Z s.env.exec ((record s.run { control = todo; operands = vs }) ∷ s.callers) object) → H ns vs → O (Any ∷ ns) todo → AsideStep Z makes source (quiet.begun_step r object counts todo vs s)
       begun b r object counts ns todo vs n l k h = record {
         run = record { made = b; this = l; marks = []; holds = tt; ok = routine (IsNear Z (length s.env.frames) ((record s.run { control = todo; operands = vs }) ∷ s.callers)) b r n };
         callers = (finds 1 ns todo vs k h, callers);
@@ -671,22 +672,24 @@ module _ (Z : ℕ → ℕ → Type 0) (makes : ℕ → Bool) (source : Source) w
       }
 
       dropped : (n : ℕ) → H (rests n ms) (drop n s.run.operands)
-      dropped n = holds_drop Z s.env.exec s.callers n ms s.run.operands holds
+      dropped n = holds_drop Z s.env.exec s.run.frame s.run.this s.callers n ms s.run.operands holds
 
       dropped_one : (n : ℕ) → H (rests (suc n) ms) (below (drop n s.run.operands))
-      dropped_one n = holds_below Z s.env.exec s.callers (rests n ms) (drop n s.run.operands) (dropped n)
+      dropped_one n = holds_below Z s.env.exec s.run.frame s.run.this s.callers (rests n ms) (drop n s.run.operands) (dropped n)
 
       -- what is called at an object finds that aside, if it may bind fields there
-      at_object : (b : Bool) (n : ℕ) (todo : List Todo) → (b ≡ false) ⊎ (FirstLoose (rests n ms) ⊎ (FirstAside (rests n ms) × Free todo × EachNext (λ p. ⊥) todo × NoneCalled todo)) → b ≡ true → LiesAside Z s.env.exec ((record s.run { control = todo; operands = below (drop n s.run.operands) }) ∷ s.callers) (top (drop n s.run.operands))
+      at_object : (b : Bool) (n : ℕ) (todo : List Todo) → (b ≡ false) ⊎ (FirstLoose (rests n ms) ⊎ (FirstAside (rests n ms) × Free todo × EachNext (λ p. ⊥) todo × NoneCalled todo)) → b ≡ true → LiesAside Z s.env.exec ((record s.run { control = todo; operands = below (drop n s.run.operands) }) ∷ s.callers) (top (drop n s.run.operands)) × Sits Z s.env.exec ((record s.run { control = todo; operands = below (drop n s.run.operands) }) ∷ s.callers) (top (drop n s.run.operands))
       at_object b n todo (inl e) q = no_both b q e
       at_object b n todo (inr (inl f)) q =
-          loose_aside Z s.env.exec ((record s.run { control = todo; operands = below (drop n s.run.operands) }) ∷ s.callers) (top (drop n s.run.operands)) (holds_loose Z s.env.exec s.callers (rests n ms) (drop n s.run.operands) (dropped n) f)
+          let loose = holds_loose Z s.env.exec s.run.frame s.run.this s.callers (rests n ms) (drop n s.run.operands) (dropped n) f in
+          (loose_aside Z s.env.exec ((record s.run { control = todo; operands = below (drop n s.run.operands) }) ∷ s.callers) (top (drop n s.run.operands)) loose, inl loose)
       at_object b n todo (inr (inr f)) q =
-          waits_aside Z s.env.exec s.callers (record s.run { control = todo; operands = below (drop n s.run.operands) }) (top (drop n s.run.operands)) f.1 f.2 f.3 (holds_aside Z s.env.exec s.callers (rests n ms) (drop n s.run.operands) (dropped n) f.0)
+          let near = holds_aside Z s.env.exec s.run.frame s.run.this s.callers (rests n ms) (drop n s.run.operands) (dropped n) f.0 in
+          (waits_aside Z s.env.exec s.callers (record s.run { control = todo; operands = below (drop n s.run.operands) }) (top (drop n s.run.operands)) f.1 f.2 f.3 near.0, inr near.1)
 
       pub call : (b : Bool) (r : Option Routine) (todo : List Todo) → CodeRoutine makes source b r → O (Any ∷ rests (params_at r) ms) todo → AsideStep Z makes source (quiet.call_step r todo s)
       call b None todo n h = ends _ _
-      call b (Some r) todo n h = either (AsideStep Z makes source) (nat_lt s.env.links.calls CALLS) _ _ (begun b r _ true (rests r.params ms) todo _ n (λ q. tt) (dropped r.params) h) (stop Depth todo _)
+      call b (Some r) todo n h = either (AsideStep Z makes source) (nat_lt s.env.links.calls CALLS) _ _ (begun b r _ true (rests r.params ms) todo _ n (λ q. (tt, inl tt)) (dropped r.params) h) (stop Depth todo _)
 
       pub call_on : (b : Bool) (r : Option Routine) (todo : List Todo) → CodeRoutine makes source b r → (b ≡ false) ⊎ (FirstLoose (rests (params_at r) ms) ⊎ (FirstAside (rests (params_at r) ms) × Free todo × EachNext (λ p. ⊥) todo × NoneCalled todo)) → O (Any ∷ rests (suc (params_at r)) ms) todo → AsideStep Z makes source (quiet.call_on_step r todo s)
       call_on b None todo n f h = ends _ _
@@ -738,9 +741,9 @@ module _ (Z : ℕ → ℕ → Type 0) (makes : ℕ → Bool) (source : Source) w
           let n = r.params in
           let vs = below s.run.operands in
           let v = top s.run.operands in
-          let under : H (rests (suc n) (rest ms)) (below (drop n (slice_set vs n v))) = subst (H (rests (suc n) (rest ms))) (sym (marks.drop_one n (slice_set vs n v) ∙ drop_set n v vs)) (holds_drop Z s.env.exec s.callers (suc n) (rest ms) vs one) in
-          let object : IsLoose (top (drop n (slice_set vs n v))) = set_loose n v vs (holds_loose Z s.env.exec s.callers ms s.run.operands holds i) in
-          go_in (anys n (Loose ∷ rests (suc n) (rest ms))) todo _ _ (holds_anys Z s.env.exec s.callers n (Loose ∷ rests (suc n) (rest ms)) (slice_set vs n v) (object, under)) h (write _ _)
+          let under : H (rests (suc n) (rest ms)) (below (drop n (slice_set vs n v))) = subst (H (rests (suc n) (rest ms))) (sym (marks.drop_one n (slice_set vs n v) ∙ drop_set n v vs)) (holds_drop Z s.env.exec s.run.frame s.run.this s.callers (suc n) (rest ms) vs one) in
+          let object : IsLoose (top (drop n (slice_set vs n v))) = set_loose n v vs (holds_loose Z s.env.exec s.run.frame s.run.this s.callers ms s.run.operands holds i) in
+          go_in (anys n (Loose ∷ rests (suc n) (rest ms))) todo _ _ (holds_anys Z s.env.exec s.run.frame s.run.this s.callers n (Loose ∷ rests (suc n) (rest ms)) (slice_set vs n v) (object, under)) h (write _ _)
 
       pub accept : (mask o site : ℕ) (todo : List Todo) (vs : List Value) → O [] todo → AsideStep Z makes source (monitors.accept_by mask o site todo vs s)
       accept zero o site todo vs h = anew _ _ h

@@ -23,7 +23,7 @@ use Rattle.uc_state_laws.specs.RoomStacks.{From, SomeTo, TodoTo, StackState}
 use Rattle.uc_state_laws.specs.Counted.{CountedExpr}
 use Rattle.uc_place_laws.specs.OlderResting.{AllWait, NamedParked, NamedHand, NamedEnv}
 use Rattle.uc_place_laws.specs.Siting.{Nowhere, PlainExpr}
-use Rattle.uc_place_laws.specs.Asides.{LiesAside, IsNear, Mark, Any, Holds, rest, NextAlone, CodeStmt, CodeRoutine, Ok, OkNow, Finds, FindsObject, FindsFor, Runs, Waits, AsideMembers, AsideState, AsideStep}
+use Rattle.uc_place_laws.specs.Asides.{LiesAside, IsNear, Sits, Mark, Any, Holds, rest, NextAlone, CodeStmt, CodeRoutine, Ok, OkNow, Finds, FindsObject, FindsFor, Runs, Waits, AsideMembers, AsideState, AsideStep}
 use Rattle.uc_place_laws.proofs.AsideKeeping as kept
 use Rattle.uc_place_laws.proofs.AsideKeeping.{either}
 use Rattle.uc_place_laws.proofs.AsideMarks as marks
@@ -32,9 +32,9 @@ use Rattle.uc_place_laws.proofs.Nearness.{from_low, near_all, rest_from, hidden_
 use Rattle.uc_place_laws.proofs.AsideSteps as steps
 
 module _ (Z : ℕ → ℕ → Type 0) (makes : ℕ → Bool) (source : Source) (known : (n : ℕ) → CodeRoutine makes source (makes n) (slice_get source.routines n)) where
-  module _ (s : State) (st : StackState Z s) (callers : AllWait (Runs Z makes source) (Waits Z makes source) s.env.exec s.callers) (env : NamedEnv (Runs Z makes source) (Waits Z makes source) s.env) (made : Bool) (this : made ≡ true → LiesAside Z s.env.exec s.callers s.run.this) (ms : List Mark) (holds : Holds Z s.env.exec s.callers ms s.run.operands) where
+  module _ (s : State) (st : StackState Z s) (callers : AllWait (Runs Z makes source) (Waits Z makes source) s.env.exec s.callers) (env : NamedEnv (Runs Z makes source) (Waits Z makes source) s.env) (made : Bool) (this : made ≡ true → LiesAside Z s.env.exec s.callers s.run.this × Sits Z s.env.exec s.callers s.run.this) (ms : List Mark) (holds : Holds Z s.env.exec s.run.frame s.run.this s.callers ms s.run.operands) where
     abbrev H : List Mark → List Value → Type 0
-    H ns vs = Holds Z s.env.exec s.callers ns vs
+    H ns vs = Holds Z s.env.exec s.run.frame s.run.this s.callers ns vs
 
     abbrev O : List Mark → List Todo → Type 0
     O ns todo = Ok makes source (IsNear Z s.run.frame s.callers) made ns todo
@@ -46,10 +46,10 @@ module _ (Z : ℕ → ℕ → Type 0) (makes : ℕ → Bool) (source : Source) (
     anew = steps.anew Z makes source s callers env made this
 
     one : H (rest ms) (below s.run.operands)
-    one = holds_below Z s.env.exec s.callers ms s.run.operands holds
+    one = holds_below Z s.env.exec s.run.frame s.run.this s.callers ms s.run.operands holds
 
     two : H (rest (rest ms)) (below (below s.run.operands))
-    two = holds_below Z s.env.exec s.callers (rest ms) (below s.run.operands) one
+    two = holds_below Z s.env.exec s.run.frame s.run.this s.callers (rest ms) (below s.run.operands) one
 
     -- what is built behind all rooms of older activations of the frame lies aside
     near : (k : ℕ) → ((x : ℕ) → SomeTo Z (From x) s.run.control → x ≤ k) → IsNear Z s.run.frame s.callers k
@@ -82,7 +82,7 @@ module _ (Z : ℕ → ℕ → Type 0) (makes : ℕ → Bool) (source : Source) (
     acts : (p : Todo) (todo : List Todo) → s.run.control ≡ p ∷ todo → OkNow makes source (IsNear Z s.run.frame s.callers) made ms (p ∷ todo) → AsideStep Z makes source (quiet.act source p todo s)
     acts (piece.Eval a) todo c h = steps.evals Z makes source s callers env made this ms holds a todo (new_near a todo c) h
     acts piece.LoadNow todo c h = go (Any ∷ rest ms) _ _ (tt, one) h.1
-    acts (piece.ElementNow m k) todo c h = steps.element Z makes source s callers env made this (rest ms) k _ todo _ _ (holds_spread Z s.env.exec s.callers (rest ms) (below s.run.operands) one) h
+    acts (piece.ElementNow m k) todo c h = steps.element Z makes source s callers env made this (rest ms) k _ todo _ _ (holds_spread Z s.env.exec s.run.frame s.run.this s.callers (rest ms) (below s.run.operands) one) h
     acts (piece.FieldNow k i) todo c h = go (Any ∷ rest ms) _ _ (tt, one) h.1
     acts piece.NegateNow todo c h = steps.outcome Z makes source s callers env made this (rest ms) _ todo _ one h.1
     acts piece.NotNow todo c h = go (Any ∷ rest ms) _ _ (tt, one) h.1
@@ -193,8 +193,8 @@ module _ (Z : ℕ → ℕ → Type 0) (makes : ℕ → Bool) (source : Source) (
 
 module _ (Z : ℕ → ℕ → Type 0) (makes : ℕ → Bool) (source : Source) (known : (n : ℕ) → CodeRoutine makes source (makes n) (slice_get source.routines n)) where
   begins : (b : Bool) (o : ℕ) (r : Option Routine) → CodeRoutine makes source b r → AsideState Z makes source (first_state (routine_or_none r) o)
-  begins b o None h = record { run = record { made = false; this = λ q. tt; marks = []; holds = tt; ok = (((tt, tt), tt), (tt, tt)) }; callers = tt; env = record { house = (tt, tt); hand = tt } }
-  begins b o (Some r) h = record { run = record { made = b; this = λ q. tt; marks = []; holds = tt; ok = steps.routine Z makes source (IsNear Z 0 []) b r h }; callers = tt; env = record { house = (tt, tt); hand = tt } }
+  begins b o None h = record { run = record { made = false; this = λ q. (tt, tt); marks = []; holds = tt; ok = (((tt, tt), tt), (tt, tt)) }; callers = tt; env = record { house = (tt, tt); hand = tt } }
+  begins b o (Some r) h = record { run = record { made = b; this = λ q. (tt, tt); marks = []; holds = tt; ok = steps.routine Z makes source (IsNear Z 0 []) b r h }; callers = tt; env = record { house = (tt, tt); hand = tt } }
 
   -- a task begins so
   pub first_aside : (r o : ℕ) → AsideState Z makes source (first_state (routine_of source r) o)
@@ -213,11 +213,11 @@ module _ (Z : ℕ → ℕ → Type 0) (makes : ℕ → Bool) (source : Source) w
   new_aside h (p ∷ todo) = tt
 
   -- with an operand more, or several, it goes on
-  found : (s : State) (many : ℕ) (ms : List Mark) (vs : List Value) → (f : Finds Z makes source many s.env.exec s.callers s.run) → Holds Z s.env.exec s.callers ms vs → Ok makes source (IsNear Z s.run.frame s.callers) f.made ms s.run.control → Runs Z makes source s.env.exec s.callers (record s.run { operands = vs })
+  found : (s : State) (many : ℕ) (ms : List Mark) (vs : List Value) → (f : Finds Z makes source many s.env.exec s.callers s.run) → Holds Z s.env.exec s.run.frame s.run.this s.callers ms vs → Ok makes source (IsNear Z s.run.frame s.callers) f.made ms s.run.control → Runs Z makes source s.env.exec s.callers (record s.run { operands = vs })
   found s many ms vs f h k = record { made = f.made; this = f.this; marks = ms; holds = h; ok = marks.now makes source (IsNear Z s.run.frame s.callers) f.made ms s.run.control k }
 
   told_object : (s : State) (o : ℕ) → FindsObject Z makes source s.env.exec s.callers s.run → Runs Z makes source s.env.exec s.callers (record s.run { operands = piece.Object o ∷ s.run.operands })
-  told_object s o f = record { made = f.made; this = f.this; marks = f.first ∷ f.marks; holds = (holds_told Z s.env.exec s.callers f.first o f.told, f.holds); ok = marks.now makes source (IsNear Z s.run.frame s.callers) f.made (f.first ∷ f.marks) s.run.control f.ok }
+  told_object s o f = record { made = f.made; this = f.this; marks = f.first ∷ f.marks; holds = (holds_told Z s.env.exec s.run.frame s.run.this s.callers f.first o f.told, f.holds); ok = marks.now makes source (IsNear Z s.run.frame s.callers) f.made (f.first ∷ f.marks) s.run.control f.ok }
 
   entered_aside : (m : Option Members) (o : ℕ) (s : State) → AsideMembers Z makes source (home.Object o) m → FindsObject Z makes source s.env.exec s.callers s.run → AllWait (Runs Z makes source) (Waits Z makes source) s.env.exec s.callers → NamedEnv (Runs Z makes source) (Waits Z makes source) s.env → AsideState Z makes source (with_operand (piece.Object o) (entered m o s))
   entered_aside None o s k f c e = record { run = told_object s o f; callers = c; env = e }

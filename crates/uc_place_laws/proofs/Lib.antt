@@ -27,4 +27,7 @@ pub mod OpeningWorlds
 pub mod OpeningRuns
 pub mod Sparing
 pub mod SparingRuns
+pub mod Seating
+pub mod SeatingRuns
+pub mod Reaching
 pub mod Addresses

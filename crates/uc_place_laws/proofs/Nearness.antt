@@ -243,9 +243,19 @@ module _ (Z : ℕ → ℕ → Type 0) where
 
   module _ (makes : ℕ → Bool) (source : Source) where
     pub near_all : (k frame : ℕ) (control : List Todo) (v : Option Visited) (older : List Active) (n : Exec) (cs : List Active) → ((x : ℕ) → SomeTo Z (From x) control → x ≤ k) → OverAll Z control frame v older cs → AllWait (Runs Z makes source) (Waits Z makes source) n cs → IsNear Z frame cs k
-    near_all k frame control v older n [] f h w = tt
-    near_all k frame control v older n (c ∷ cs) f h w = (here, near_all k frame control v older n cs f h.1 w.1)
+    near_all k frame control v older n [] f h w = (tt, tt)
+    near_all k frame control v older n (c ∷ cs) f h w =
+        let more : IsNear Z frame cs k = near_all k frame control v older n cs f h.1 w.1 in
+        ((here, more.0), (waits, more.1))
       where
+        waits : c.frame ≡ frame → Awaited (EndsBefore Z (address (Slot k ∷ []))) c.control
+        waits e =
+            let x : ℕ = h.0.0 in
+            let room : Room = h.0.1.0 in
+            let up : room.high ≤ x = h.0.1.1 in
+            let le : x ≤ k = f x (h.0.2 (sym e)) in
+            called_near k room c.control (omega (arith, up, le)) h.0.1.2
+
         here : c.frame ≡ frame → Pends (IsBefore (address (Slot k ∷ []))) c.control × EachNext (IsNearer (address (Slot k ∷ []))) c.control × Calling (EndsBefore Z (address (Slot k ∷ []))) c.control
         here e =
             let x : ℕ = h.0.0 in

@@ -3,17 +3,19 @@ use Rattle.std.proofs.Common.{◌≡◌, ℕ, ◌⊎◌, inl, inr, List, [], ◌
 use Rattle.std.specs.Prelude.{slice_get}
 use Rattle.uc_tree.specs.Programs.{Program}
 use Rattle.uc_tree.specs.Source as src
-use Rattle.uc_tree.specs.Source.{Expr, Stmt, Source, Routine}
+use Rattle.uc_tree.specs.Source.{Shape, Expr, Stmt, Source, Routine}
 use Rattle.uc_machine.specs.Quiet as quiet
 use Rattle.uc_machine.specs.Pieces as piece
-use Rattle.uc_machine.specs.Pieces.{Value, Todo, State, top}
+use Rattle.uc_machine.specs.Pieces.{FieldAt, Value, Todo, Active, State, top, below, further}
 use Rattle.uc_state_laws.specs.Counted.{params, CountedRoutine, CountedSource}
-use Rattle.uc_place_laws.specs.Opened.{ArePaired, Spans, Builds, Before, Declares, OpenedRoutine, OpenedSource}
-use Rattle.uc_place_laws.specs.Called.{variable, Mark, Any, At, Holds, rest, rests, Every, CalledAt, CalledBy, Placed, after, CodeRoutine, Ok, AtRest, AtBuild, AtDrop, Stands, OnWay}
-use Rattle.uc_place_laws.specs.CalledStates.{RunsNow}
-use Rattle.uc_place_laws.specs.OpeningLaws.{Awaited, NoneAwaited, CallsAt, AwaitedRest, TailAt, LawSteps, LawCalled}
-use Rattle.uc_place_laws.proofs.OpeningMarks.{holds_drop, opens_more, opens_any}
-use Rattle.uc_place_laws.proofs.OpeningWalk.{walk, first_called, led, joined, followed, answered_called}
+use Rattle.uc_place_laws.specs.Opened.{Spot, Var, Own, ArePaired, Spans, Builds, Before, Declares, OpenedRoutine, OpenedSource}
+use Rattle.uc_place_laws.specs.Called.{variable, Mark, Any, At, Holds, rest, rests, AnyOne, CalledAt, CalledBy, Placed, after, CodeRoutine, Ok, AtRest, AtBuild, AtDrop, Stands, OnWay}
+use Rattle.uc_place_laws.specs.CalledStates.{AllSeated, Runs, Waits, RunsNow}
+use Rattle.uc_place_laws.specs.OlderResting.{AllWait}
+use Rattle.uc_machine.specs.declared.exec.Exec.{Exec}
+use Rattle.uc_place_laws.specs.OpeningLaws.{Awaited, NoneAwaited, CallsAt, AwaitedPart, NoPart, PartsAt, AwaitedRest, TailAt, LawSteps, LawCalled}
+use Rattle.uc_place_laws.proofs.OpeningMarks.{holds_drop, opens_any, part_any, next_more, next_opens, next_part}
+use Rattle.uc_place_laws.proofs.OpeningWalk.{walk, first_called, led, joined, parted, followed, answered_called}
 
 code_by : (g : Program) (x : Source) (r : Option Routine) → CountedRoutine x r → OpenedRoutine g r → CodeRoutine g x r
 code_by g x None n o = tt
@@ -26,16 +28,16 @@ pub law_steps : LawSteps
 law_steps = record {
   begins = λ g source known opened r o. first_called g source (code g source known opened) r o;
   steps = λ g source known opened s h. led g source s (quiet.quiet source s) (walk g source (code g source known opened) s h);
-  told = λ g source form given s k f c e. answered_called g source form given s k f c e;
+  told = λ g source form given s k f z c e. answered_called g source form given s k f z c e;
 }
 
 module _ (g : Program) (source : Source) where
   none_awaited : (ms : List Mark) (todo : List Todo) → Ok g source ms todo → NoneAwaited todo
-  none_awaited ms (piece.DropNow ∷ (piece.Within line ∷ (piece.Rest ss ∷ todo))) h = h.1.1.0.0
+  none_awaited ms (piece.DropNow ∷ (piece.Within line ∷ (piece.Rest ss ∷ todo))) h = next_opens (λ d x. ⊥) ss h.1.1.0.0
   none_awaited ms todo h = tt
 
   none_behind : (ms : List Mark) (todo : List Todo) → Ok g source ms todo → NoneAwaited (piece.DropNow ∷ todo)
-  none_behind ms (piece.Within line ∷ (piece.Rest ss ∷ todo)) h = h.1.0.0
+  none_behind ms (piece.Within line ∷ (piece.Rest ss ∷ todo)) h = next_opens (λ d x. ⊥) ss h.1.0.0
   none_behind ms todo h = tt
 
   any_awaited : (P : ℕ → ℕ → Type 0) (todo : List Todo) → NoneAwaited todo → Awaited P todo
@@ -49,46 +51,48 @@ module _ (g : Program) (source : Source) where
   any_rest P todo h = tt
 
   none_rest : (ms : List Mark) (todo : List Todo) → Ok g source ms todo → AwaitedRest (λ d k. ⊥) todo
-  none_rest ms (piece.Rest ss ∷ todo) h = h.0.0
+  none_rest ms (piece.Rest ss ∷ todo) h = next_opens (λ d x. ⊥) ss h.0.0
   none_rest ms todo h = tt
 
-  rest_by : (P : ℕ → ℕ → Type 0) (todo : List Todo) → AtRest g source P todo → AwaitedRest P todo
-  rest_by P (piece.Rest ss ∷ todo) h = h.0.0
+  rest_by : (P : ℕ → Spot → Type 0) (todo : List Todo) → AtRest g source P todo → AwaitedRest (λ d k. P d (Var k)) todo
+  rest_by P (piece.Rest ss ∷ todo) h = next_opens P ss h.0.0
   rest_by P todo h = absurd h
 
   build_by : (P Q : ℕ → ℕ → Type 0) (todo : List Todo) → AtBuild g source Q todo → AwaitedRest P todo
-  build_by P Q (piece.Rest ss ∷ todo) h = opens_any P ss h.0.0
+  build_by P Q (piece.Rest ss ∷ todo) h = opens_any P ss (next_opens (λ d x. ⊥) ss h.0.0)
   build_by P Q todo h = absurd h
 
-  drop_by : (P : ℕ → ℕ → Type 0) (todo : List Todo) → AtDrop g source P todo → Awaited P todo
-  drop_by P (piece.DropNow ∷ (piece.Within line ∷ (piece.Rest ss ∷ todo))) h = h.0.0
+  drop_by : (P : ℕ → Spot → Type 0) (todo : List Todo) → AtDrop g source P todo → Awaited (λ d k. P d (Var k)) todo
+  drop_by P (piece.DropNow ∷ (piece.Within line ∷ (piece.Rest ss ∷ todo))) h = next_opens P ss h.0.0
   drop_by P todo h = tt
 
-  done_tail : (a : Stmt) (todo : List Todo) → Ok g source [] todo ⊎ (AtRest g source (Before g a) todo ⊎ AtBuild g source (Declares g a) todo) → AwaitedRest (Before g a) todo
-  done_tail a todo (inl h) = any_rest (Before g a) todo (none_rest [] todo h)
+  done_tail : (a : Stmt) (todo : List Todo) → Ok g source [] todo ⊎ (AtRest g source (Before g a) todo ⊎ AtBuild g source (Declares g a) todo) → AwaitedRest (λ d k. Before g a d (Var k)) todo
+  done_tail a todo (inl h) = any_rest (λ d k. Before g a d (Var k)) todo (none_rest [] todo h)
   done_tail a todo (inr (inl h)) = rest_by (Before g a) todo h
-  done_tail a todo (inr (inr h)) = build_by (Before g a) (Declares g a) todo h
+  done_tail a todo (inr (inr h)) = build_by (λ d k. Before g a d (Var k)) (Declares g a) todo h
 
-  placed_tail : (ms : List Mark) (e : Expr) (todo : List Todo) → Placed e (λ k. Ok g source (At k ∷ ms) todo) → Awaited (Builds g e) todo
-  placed_tail ms (src.Variable k) todo h = any_awaited (Builds g (src.Variable k)) todo (none_awaited (At k ∷ ms) todo h)
+  placed_tail : (ms : List Mark) (e : Expr) (todo : List Todo) → Placed e (λ x. Ok g source (At x ∷ ms) todo) → Awaited (λ d k. Builds g e d (Var k)) todo
+  placed_tail ms (src.Variable k) todo h = any_awaited (λ d m. Builds g (src.Variable k) d (Var m)) todo (none_awaited (At (Var k) ∷ ms) todo h)
+  placed_tail ms (src.OfObject (src.OwnField k i)) todo h = any_awaited (λ d m. Builds g (src.OfObject (src.OwnField k i)) d (Var m)) todo (none_awaited (At (Own k i) ∷ ms) todo h)
   placed_tail ms e todo h = absurd h
 
-  eval_tail : (ms : List Mark) (e : Expr) (todo : List Todo) → Ok g source (Any ∷ ms) todo ⊎ (AtDrop g source (Builds g e) todo ⊎ Placed e (λ k. Ok g source (At k ∷ ms) todo)) → Awaited (Builds g e) todo
-  eval_tail ms e todo (inl h) = any_awaited (Builds g e) todo (none_awaited (Any ∷ ms) todo h)
+  eval_tail : (ms : List Mark) (e : Expr) (todo : List Todo) → Ok g source (Any ∷ ms) todo ⊎ (AtDrop g source (Builds g e) todo ⊎ Placed e (λ x. Ok g source (At x ∷ ms) todo)) → Awaited (λ d k. Builds g e d (Var k)) todo
+  eval_tail ms e todo (inl h) = any_awaited (λ d k. Builds g e d (Var k)) todo (none_awaited (Any ∷ ms) todo h)
   eval_tail ms e todo (inr (inl h)) = drop_by (Builds g e) todo h
   eval_tail ms e todo (inr (inr h)) = placed_tail ms e todo h
 
   -- nor once the line of a statement is left
 
-  drop_behind : (P : ℕ → ℕ → Type 0) (todo : List Todo) → AtDrop g source P todo → NoneAwaited (piece.DropNow ∷ todo)
+  drop_behind : (P : ℕ → Spot → Type 0) (todo : List Todo) → AtDrop g source P todo → NoneAwaited (piece.DropNow ∷ todo)
   drop_behind P (piece.DropNow ∷ (piece.Within line ∷ todo)) h = tt
   drop_behind P todo h = absurd h
 
-  placed_behind : (ms : List Mark) (e : Expr) (todo : List Todo) → Placed e (λ k. Ok g source (At k ∷ ms) todo) → NoneAwaited (piece.DropNow ∷ todo)
-  placed_behind ms (src.Variable k) todo h = none_behind (At k ∷ ms) todo h
+  placed_behind : (ms : List Mark) (e : Expr) (todo : List Todo) → Placed e (λ x. Ok g source (At x ∷ ms) todo) → NoneAwaited (piece.DropNow ∷ todo)
+  placed_behind ms (src.Variable k) todo h = none_behind (At (Var k) ∷ ms) todo h
+  placed_behind ms (src.OfObject (src.OwnField k i)) todo h = none_behind (At (Own k i) ∷ ms) todo h
   placed_behind ms e todo h = absurd h
 
-  eval_behind : (ms : List Mark) (e : Expr) (todo : List Todo) → Ok g source (Any ∷ ms) todo ⊎ (AtDrop g source (Builds g e) todo ⊎ Placed e (λ k. Ok g source (At k ∷ ms) todo)) → NoneAwaited (piece.DropNow ∷ todo)
+  eval_behind : (ms : List Mark) (e : Expr) (todo : List Todo) → Ok g source (Any ∷ ms) todo ⊎ (AtDrop g source (Builds g e) todo ⊎ Placed e (λ x. Ok g source (At x ∷ ms) todo)) → NoneAwaited (piece.DropNow ∷ todo)
   eval_behind ms e todo (inl h) = none_behind (Any ∷ ms) todo h
   eval_behind ms e todo (inr (inl h)) = drop_behind (Builds g e) todo h
   eval_behind ms e todo (inr (inr h)) = placed_behind ms e todo h
@@ -112,13 +116,13 @@ module _ (g : Program) (source : Source) where
   stands_tail l h = absurd h
 
   way_behind : (P : ℕ → ℕ → Type 0) (line : ℕ) (todo : List Todo) → AtBuild g source P todo → NoneAwaited (piece.DropNow ∷ (piece.Within line ∷ todo))
-  way_behind P line (piece.Rest ss ∷ todo) h = h.0.0
+  way_behind P line (piece.Rest ss ∷ todo) h = next_opens (λ d x. ⊥) ss h.0.0
   way_behind P line todo h = absurd h
 
   way_tail : (l : List Todo) → OnWay g source l → TailAt g l
   way_tail (piece.Variables (x ∷ []) ∷ (piece.Within line ∷ todo)) h = (tt, tt, way_behind (λ d k. (x.cell ≡ k) × Spans g d x.cells) line todo h.1)
   way_tail (piece.ClearNow k m ∷ (piece.Variables [] ∷ (piece.Within line ∷ todo))) h = (tt, tt, tt)
-  way_tail (piece.Variables [] ∷ (piece.Within line ∷ todo)) h = (tt, tt, way_behind Every line todo h)
+  way_tail (piece.Variables [] ∷ (piece.Within line ∷ todo)) h = (tt, tt, way_behind AnyOne line todo h)
   way_tail (piece.Within line ∷ todo) h = tt
   way_tail (piece.Rest ss ∷ todo) h = (none_awaited [] todo h.1, none_rest [] todo h.1, none_behind [] todo h.1)
   way_tail l h = absurd h
@@ -133,31 +137,65 @@ module _ (g : Program) (source : Source) where
     abbrev pub AtVariable : ℕ → Value → ℕ → ℕ → Type 0
     AtVariable r v d k = ArePaired g r d × (v ≡ variable s.env.exec s.run.frame k)
 
-    awaited : (r m : ℕ) (v : Value) → v ≡ variable s.env.exec s.run.frame m → (todo : List Todo) → AtDrop g source (CalledAt g r m) todo → Awaited (AtVariable r v) todo
-    awaited r m v e (piece.DropNow ∷ (piece.Within line ∷ (piece.Rest ss ∷ todo))) h =
-        opens_more (CalledAt g r m) (AtVariable r v) (λ d k x. (x.1, subst (λ i. v ≡ variable s.env.exec s.run.frame i) x.0 e)) ss h.0.0
-    awaited r m v e todo h = tt
+    abbrev pub AtOwn : ℕ → Value → ℕ → Shape → ℕ → Type 0
+    AtOwn r v d k i = ArePaired g r d × (v ≡ further (FieldAt k i) s.run.this)
 
-    none_at : (todo : List Todo) → AtDrop g source (λ d k. ⊥) todo → NoneAwaited todo
-    none_at (piece.DropNow ∷ (piece.Within line ∷ (piece.Rest ss ∷ todo))) h = h.0.0
-    none_at todo h = tt
+    abbrev AtSpot : ℕ → Value → ℕ → Spot → Type 0
+    AtSpot r v d (Var k) = AtVariable r v d k
+    AtSpot r v d (Own k i) = AtOwn r v d k i
 
-    awaited_at : (r : ℕ) (ms : List Mark) (vs : List Value) → Holds s.env.exec s.run.frame ms vs → (todo : List Todo) → AtDrop g source (CalledBy g r ms) todo → Awaited (AtVariable r (top vs)) todo
-    awaited_at r (At m ∷ ms) vs k todo h = awaited r m (top vs) k.0 todo h
-    awaited_at r (Any ∷ ms) vs k todo h = any_awaited (AtVariable r (top vs)) todo (none_at todo h)
-    awaited_at r [] vs k todo h = any_awaited (AtVariable r (top vs)) todo (none_at todo h)
+    moved_to : (r : ℕ) (v : Value) (x y : Spot) (ms : List Mark) (vs : List Value) → Holds s.env.exec s.run.frame s.run.this (At x ∷ ms) (v ∷ vs) → (d : ℕ) → CalledAt g r x d y → AtSpot r v d y
+    moved_to r v (Var k) y ms vs h d x = subst (AtSpot r v d) x.0 (x.1, h.0)
+    moved_to r v (Own k i) y ms vs h d x = subst (AtSpot r v d) x.0 (x.1, h.0)
 
-    module _ (ms : List Mark) (holds : Holds s.env.exec s.run.frame ms s.run.operands) where
-      called : (r : ℕ) (todo : List Todo) → Ok g source ms (piece.CallOnNow r ∷ todo) → Awaited (AtVariable r (top (drop (params source r) s.run.operands))) todo
-      called r todo (inl h) = any_awaited (AtVariable r (top (drop (params source r) s.run.operands))) todo (none_awaited _ todo h)
-      called r todo (inr h) = awaited_at r (rests (params source r) ms) (drop (params source r) s.run.operands) (holds_drop s.env.exec s.run.frame (params source r) ms s.run.operands holds) todo h
+    awaited : (r : ℕ) (v : Value) (x : Spot) (ms : List Mark) (vs : List Value) → Holds s.env.exec s.run.frame s.run.this (At x ∷ ms) (v ∷ vs) → (todo : List Todo) → AtDrop g source (CalledAt g r x) todo → Awaited (AtVariable r v) todo × AwaitedPart (AtOwn r v) todo
+    awaited r v x ms vs k (piece.DropNow ∷ (piece.Within line ∷ (piece.Rest ss ∷ todo))) h =
+        let both = next_more (CalledAt g r x) (AtSpot r v) (λ d y z. moved_to r v x y ms vs k d z) ss h.0.0 in
+        (next_opens (AtSpot r v) ss both, next_part (AtSpot r v) ss both)
+    awaited r v x ms vs k todo h = (tt, tt)
+
+    none_at : (todo : List Todo) → AtDrop g source (λ d x. ⊥) todo → NoneAwaited todo × NoPart todo
+    none_at (piece.DropNow ∷ (piece.Within line ∷ (piece.Rest ss ∷ todo))) h = (next_opens (λ d x. ⊥) ss h.0.0, next_part (λ d x. ⊥) ss h.0.0)
+    none_at todo h = (tt, tt)
+
+    any_part : (P : ℕ → Shape → ℕ → Type 0) (todo : List Todo) → NoPart todo → AwaitedPart P todo
+    any_part P (piece.DropNow ∷ (piece.Within line ∷ (piece.Rest ss ∷ todo))) h = part_any P ss h
+    any_part P todo h = tt
+
+    none_part : (ms : List Mark) (todo : List Todo) → Ok g source ms todo → NoPart todo
+    none_part ms (piece.DropNow ∷ (piece.Within line ∷ (piece.Rest ss ∷ todo))) h = next_part (λ d x. ⊥) ss h.1.1.0.0
+    none_part ms todo h = tt
+
+    part_behind : (ms : List Mark) (todo : List Todo) → Ok g source ms todo → NoPart (piece.DropNow ∷ todo)
+    part_behind ms (piece.Within line ∷ (piece.Rest ss ∷ todo)) h = next_part (λ d x. ⊥) ss h.1.0.0
+    part_behind ms todo h = tt
+
+    neither : (r : ℕ) (v : Value) (todo : List Todo) → NoneAwaited todo × NoPart todo → Awaited (AtVariable r v) todo × AwaitedPart (AtOwn r v) todo
+    neither r v todo h = (any_awaited (AtVariable r v) todo h.0, any_part (AtOwn r v) todo h.1)
+
+    awaited_at : (r : ℕ) (ms : List Mark) (vs : List Value) → Holds s.env.exec s.run.frame s.run.this ms vs → (todo : List Todo) → AtDrop g source (CalledBy g r ms) todo → Awaited (AtVariable r (top vs)) todo × AwaitedPart (AtOwn r (top vs)) todo
+    awaited_at r (At x ∷ ms) vs k todo h = awaited r (top vs) x ms (below vs) k todo h
+    awaited_at r (Any ∷ ms) vs k todo h = neither r (top vs) todo (none_at todo h)
+    awaited_at r [] vs k todo h = neither r (top vs) todo (none_at todo h)
+
+    module _ (ms : List Mark) (holds : Holds s.env.exec s.run.frame s.run.this ms s.run.operands) where
+      called : (r : ℕ) (todo : List Todo) → Ok g source ms (piece.CallOnNow r ∷ todo) → Awaited (AtVariable r (top (drop (params source r) s.run.operands))) todo × AwaitedPart (AtOwn r (top (drop (params source r) s.run.operands))) todo
+      called r todo (inl h) = neither r (top (drop (params source r) s.run.operands)) todo (none_awaited _ todo h, none_part _ todo h)
+      called r todo (inr h) = awaited_at r (rests (params source r) ms) (drop (params source r) s.run.operands) (holds_drop s.env.exec s.run.frame s.run.this (params source r) ms s.run.operands holds) todo h
 
       calls : (l : List Todo) → Ok g source ms l → CallsAt g source l s
       calls (piece.CallNow r ∷ todo) h = none_awaited _ todo h.1
       calls (piece.RaiseNow ∷ todo) h = none_behind _ todo h.1
-      calls (piece.CallOnNow r ∷ todo) h = called r todo h
-      calls (piece.CallUnwrittenNow r ∷ todo) h = called r todo h
+      calls (piece.CallOnNow r ∷ todo) h = (called r todo h).0
+      calls (piece.CallUnwrittenNow r ∷ todo) h = (called r todo h).0
       calls l h = tt
+
+      builds : (l : List Todo) → Ok g source ms l → PartsAt g source l s
+      builds (piece.CallNow r ∷ todo) h = none_part _ todo h.1
+      builds (piece.RaiseNow ∷ todo) h = part_behind _ todo h.1
+      builds (piece.CallOnNow r ∷ todo) h = (called r todo h).1
+      builds (piece.CallUnwrittenNow r ∷ todo) h = (called r todo h).1
+      builds l h = tt
 
     stands : (l : List Todo) → Stands g source l → CallsAt g source l s
     stands (piece.Rest ss ∷ todo) h = tt
@@ -172,10 +210,32 @@ module _ (g : Program) (source : Source) where
     ways (piece.CallUnwrittenNow r ∷ todo) h = absurd h
     ways l h = tt
 
+    stands_part : (l : List Todo) → Stands g source l → PartsAt g source l s
+    stands_part (piece.Rest ss ∷ todo) h = tt
+    stands_part (piece.Within line ∷ todo) h = tt
+    stands_part (piece.DropNow ∷ todo) h = tt
+    stands_part l h = absurd h
+
+    way_part : (l : List Todo) → OnWay g source l → PartsAt g source l s
+    way_part (piece.CallNow r ∷ todo) h = absurd h
+    way_part (piece.RaiseNow ∷ todo) h = absurd h
+    way_part (piece.CallOnNow r ∷ todo) h = absurd h
+    way_part (piece.CallUnwrittenNow r ∷ todo) h = absurd h
+    way_part l h = tt
+
+    pub is_building : RunsNow g source s.env.exec s.run → PartsAt g source s.run.control s
+    is_building (inl f) = builds f.marks f.holds s.run.control f.ok
+    is_building (inr (inl f)) = stands_part s.run.control f
+    is_building (inr (inr f)) = way_part s.run.control f
+
     pub is_calling : RunsNow g source s.env.exec s.run → CallsAt g source s.run.control s
     is_calling (inl f) = calls f.marks f.holds s.run.control f.ok
     is_calling (inr (inl f)) = stands s.run.control f
     is_calling (inr (inr f)) = ways s.run.control f
+
+all_seated : (g : Program) (source : Source) (n : Exec) (cs : List Active) → AllWait (Runs g source) (Waits g source) n cs → AllSeated n cs
+all_seated g source n [] h = tt
+all_seated g source n (c ∷ cs) h = (h.0.1, all_seated g source n cs h.1)
 
 pub law_called : LawCalled
 law_called g source known opened s h = record {
@@ -183,4 +243,7 @@ law_called g source known opened s h = record {
   tails = tails g source s h.run;
   joins = joined g source s (quiet.quiet source s) (walk g source (code g source known opened) s h);
   follows = followed g source s (quiet.quiet source s) (walk g source (code g source known opened) s h);
+  parts = is_building g source s h.run;
+  seats = (h.seat, all_seated g source s.env.exec s.callers h.callers);
+  part_joins = parted g source s (quiet.quiet source s) (walk g source (code g source known opened) s h);
 }

@@ -30,9 +30,9 @@ use Rattle.uc_state_laws.specs.Counted.{params_at, params, count, CountedExpr, C
 use Rattle.uc_place_laws.specs.OlderResting.{AllWait, NamedEnv, NamedState}
 use Rattle.uc_place_laws.proofs.AsideKeeping as kept
 use Rattle.uc_place_laws.proofs.AsideKeeping.{either, tested}
-use Rattle.uc_place_laws.specs.Opened.{BuildsNone, Spans, Declares, Builds, Before}
-use Rattle.uc_place_laws.specs.Called.{Mark, Any, At, Holds, rest, rests, anys, Placed, Every, CalledAt, CalledBy, CodeStmt, CodeStmts, CodeBlock, CodeHandlers, CodeClauses, CodeRoutine, LeftBy, Ok, AtRest, AtBuild, AtDrop, Left, Stands, OnWay}
-use Rattle.uc_place_laws.specs.CalledStates.{Runs, Waits, CalledAsk, Ends, Joins, Follows}
+use Rattle.uc_place_laws.specs.Opened.{Spot, Var, Own, BuildsNone, Spans, Declares, Builds, Before}
+use Rattle.uc_place_laws.specs.Called.{Mark, Any, At, Meets, NextAt, Holds, rest, rests, anys, Placed, Every, CalledAt, CalledBy, CodeStmt, CodeStmts, CodeBlock, CodeHandlers, CodeClauses, CodeRoutine, LeftBy, Ok, AtRest, AtBuild, AtDrop, Left, Stands, OnWay}
+use Rattle.uc_place_laws.specs.CalledStates.{Seated, Runs, Waits, CalledAsk, Ends, NextJoins, Follows}
 use Rattle.uc_place_laws.proofs.OpeningMarks as marks
 use Rattle.uc_place_laws.proofs.OpeningMarks.{holds_below, holds_drop, holds_anys, rests_anys, drop_set, builds_more, builds_or}
 
@@ -44,7 +44,7 @@ module _ (g : Program) (source : Source) where
   W n cs = AllWait (Runs g source) (Waits g source) n cs
 
   pub calm : (n : Exec) (older : List Active) (a : Active) (w : Option UnwindReason) → Runs g source n older a → Runs g source n older (record a { raised = w })
-  calm n older a w h = record { marks = h.marks; holds = h.holds; ok = h.ok }
+  calm n older a w h = (record { marks = h.0.marks; holds = h.0.holds; ok = h.0.ok }, h.1)
 
   abbrev K : Env → Env → Type 0
   K e f = kept.Keeps (Runs g source) (Waits g source) calm e f
@@ -61,13 +61,15 @@ module _ (g : Program) (source : Source) where
   -- a scope opens next, behind the end of an activation of this state, or where its value is dropped
   pub record Comes (s u : State) : Type 0 where
     pub stands : Stands g source u.run.control
+    pub seat : Seated u.env.exec u.callers u.run.this
     pub callers : W u.env.exec u.callers
     pub env : E u.env
-    pub joins : Joins s u.run.control
+    pub joins : NextJoins s u.run.control
 
   -- an object is to be built next, behind its declaration
   pub record Ways (s u : State) : Type 0 where
     pub way : OnWay g source u.run.control
+    pub seat : Seated u.env.exec u.callers u.run.this
     pub callers : W u.env.exec u.callers
     pub env : E u.env
     pub follows : Follows g s u.run.control
@@ -248,8 +250,8 @@ module _ (g : Program) (source : Source) where
   called_on n r m ms todo e h =
       subst (λ k. Ok g source (Any ∷ rest (rests k (anys n (m ∷ ms)))) todo) e (subst (λ ns. Ok g source (Any ∷ rest ns) todo) (sym (rests_anys n (m ∷ ms))) h)
 
-  -- the variable lies below the arguments
-  called_at : (n r m : ℕ) (ms : List Mark) (todo : List Todo) → n ≡ params source r → AtDrop g source (CalledAt g r m) todo → AtDrop g source (CalledBy g r (rests (params source r) (anys n (At m ∷ ms)))) todo
+  -- the place lies below the arguments
+  called_at : (n r : ℕ) (m : Spot) (ms : List Mark) (todo : List Todo) → n ≡ params source r → AtDrop g source (CalledAt g r m) todo → AtDrop g source (CalledBy g r (rests (params source r) (anys n (At m ∷ ms)))) todo
   called_at n r m ms todo e h =
       subst (λ k. AtDrop g source (CalledBy g r (rests k (anys n (At m ∷ ms)))) todo) e (subst (λ ns. AtDrop g source (CalledBy g r ns) todo) (sym (rests_anys n (At m ∷ ms))) h)
 
@@ -260,13 +262,13 @@ module _ (g : Program) (source : Source) where
       let below_it : rests (suc k) (anys n (Any ∷ ms)) ≡ ms = subst (λ m. rest (rests m (anys n (Any ∷ ms))) ≡ ms) e (ap rest (rests_anys n (Any ∷ ms))) in
       subst (λ ns. Ok g source (Any ∷ ns) todo) (sym (rests_anys (suc k) (rests (suc k) (anys n (Any ∷ ms))) ∙ below_it)) h
 
-  module _ (s : State) (callers : W s.env.exec s.callers) (env : E s.env) where
+  module _ (s : State) (callers : W s.env.exec s.callers) (seat : Seated s.env.exec s.callers s.run.this) (env : E s.env) where
     abbrev pub H : List Mark → List Value → Type 0
-    H ms vs = Holds s.env.exec s.run.frame ms vs
+    H ms vs = Holds s.env.exec s.run.frame s.run.this ms vs
 
     -- with other operands and something else to do
     pub here : (ns : List Mark) (todo : List Todo) (vs : List Value) → H ns vs → Ok g source ns todo → N (at todo vs s)
-    here ns todo vs k h = record { run = record { marks = ns; holds = k; ok = h }; callers = callers; env = env }
+    here ns todo vs k h = record { run = (record { marks = ns; holds = k; ok = h }, seat); callers = callers; env = env }
 
     pub go : (ns : List Mark) (todo : List Todo) (vs : List Value) → H ns vs → Ok g source ns todo → T s (Goes (at todo vs s))
     go ns todo vs k h = inl (here ns todo vs k h)
@@ -286,10 +288,10 @@ module _ (g : Program) (source : Source) where
     same x h k o = kept.keeps_like (Runs g source) (Waits g source) calm env x h k o
 
     pub stop : (f : RunFault) (todo : List Todo) (vs : List Value) → T s (fault f todo vs s)
-    stop f todo vs = record { run = tt; callers = callers; env = env }
+    stop f todo vs = record { run = tt; seat = seat; callers = callers; env = env }
 
     ends : (todo : List Todo) (vs : List Value) → T s (Asks ask.End (at todo vs s))
-    ends todo vs = record { run = tt; callers = callers; env = env }
+    ends todo vs = record { run = tt; seat = seat; callers = callers; env = env }
 
     pub moved : (m : Moved (List Todo) Value) (todo : List Todo) (vs : List Value) → M m → T s (piece.moves m (at todo vs s))
     moved (To t) todo vs m = inl m
@@ -315,18 +317,18 @@ module _ (g : Program) (source : Source) where
     stands (piece.DropNow ∷ (piece.Within line ∷ todo)) h = h
     stands todo h = absurd h
 
-    joins : (todo : List Todo) → AtDrop g source Every todo → Ends s s.run.control → Joins s todo
+    joins : (todo : List Todo) → AtDrop g source Every todo → Ends s s.run.control → NextJoins s todo
     joins (piece.DropNow ∷ (piece.Within line ∷ (piece.Rest ss ∷ todo))) h e = inr e
     joins todo h e = absurd h
 
     pub returned : (given : Value) (cs : List Active) → W s.env.exec cs → Ends s s.run.control → T s (piece.return_step given cs s)
-    returned given [] c e = record { run = tt; callers = callers; env = env }
-    returned given (a ∷ cs) (inl f, c) e = inl (record { run = record { marks = Any ∷ f.marks; holds = (tt, f.holds); ok = f.ok }; callers = c; env = likes env refl refl refl })
-    returned given (a ∷ cs) (inr f, c) e = inr (inl (record { stands = stands a.control f; callers = c; env = likes env refl refl refl; joins = joins a.control f e }))
+    returned given [] c e = record { run = tt; seat = seat; callers = callers; env = env }
+    returned given (a ∷ cs) (((inl f), z), c) e = inl (record { run = (record { marks = Any ∷ f.marks; holds = (tt, f.holds); ok = f.ok }, z); callers = c; env = likes env refl refl refl })
+    returned given (a ∷ cs) (((inr f), z), c) e = inr (inl (record { stands = stands a.control f; seat = z; callers = c; env = likes env refl refl refl; joins = joins a.control f e }))
 
     past : (v : Visited) (given : Value) (cs : List Active) → W s.env.exec cs → T s (raising.return_past v given cs s)
-    past v given [] c = record { run = tt; callers = callers; env = env }
-    past v given (a ∷ cs) c = inl (record { run = record { marks = []; holds = tt; ok = marks.wait_left g source s.env.exec cs a c.0 }; callers = c.1; env = likes env refl refl refl })
+    past v given [] c = record { run = tt; seat = seat; callers = callers; env = env }
+    past v given (a ∷ cs) c = inl (record { run = (record { marks = []; holds = tt; ok = marks.wait_left g source s.env.exec cs a c.0 }, c.0.1); callers = c.1; env = likes env refl refl refl })
 
     end_by : (v : Option Visited) (given : Value) → Ends s s.run.control → T s (raising.end_by v given s)
     end_by None given e = returned given s.callers callers e
@@ -346,7 +348,7 @@ module _ (g : Program) (source : Source) where
 
     pub swept : (n : ℕ) (e : Expr) (todo : List Todo) → CountedExpr source e → Ok g source [] todo → T s (quiet.sweep_step n e todo s)
     swept zero e todo n h = anew _ _ h
-    swept (suc m) e todo n h = inl (record { run = record { marks = []; holds = tt; ok = (n, inl (tt, (n, h))) }; callers = callers; env = env })
+    swept (suc m) e todo n h = inl (record { run = (record { marks = []; holds = tt; ok = (n, inl (tt, (n, h))) }, seat); callers = callers; env = env })
 
     event_step : (a : EventStmt) (todo : List Todo) → CodeStmt g source (src.OfEvents a) → Ok g source [] todo → T s (quiet.event_step a todo s)
     event_step (src.Throw line r) todo n h = anew _ _ (raised r _ n.0 (tt, (tt, h)))
@@ -373,7 +375,7 @@ module _ (g : Program) (source : Source) where
     evaluates line a todo n (inr (inr h)) = (n, inl (tt, (tt, marks.build_none g source todo h)))
 
     -- behind a statement that builds no such object
-    plainly : (todo : List Todo) → Ok g source [] todo ⊎ (AtRest g source (λ d k. ⊥) todo ⊎ AtBuild g source (λ d k. ⊥) todo) → Ok g source [] todo
+    plainly : (todo : List Todo) → Ok g source [] todo ⊎ (AtRest g source (λ d x. ⊥) todo ⊎ AtBuild g source (λ d k. ⊥) todo) → Ok g source [] todo
     plainly todo (inl h) = h
     plainly todo (inr (inl h)) = marks.rest_none g source todo h
     plainly todo (inr (inr h)) = marks.build_none g source todo h
@@ -386,13 +388,14 @@ module _ (g : Program) (source : Source) where
         by (inl none) = anew _ _ (n, (tt, ((h.0.0, h.0.1, none), h.1)))
         by (inr z) = inr (inr (record {
           way = (z.2.1, ((h.0.0, h.0.1, builds_more (Declares g (src.Declare line (x ∷ []))) (λ d k. (x.cell ≡ k) × Spans g d x.cells) (λ d k y. (y.0, y.2)) ss h.0.2), h.1));
+          seat = seat;
           callers = callers;
           env = env;
           follows = tt;
         }))
     declared line x todo n h = absurd h
 
-    declares : (line : ℕ) (ds : List Declared) (todo : List Todo) → CountedDeclared source ds → Ok g source [] todo ⊎ (AtRest g source (λ d k. ⊥) todo ⊎ AtBuild g source (Declares g (src.Declare line ds)) todo) → T s (quiet.stmt_step (src.Declare line ds) todo s)
+    declares : (line : ℕ) (ds : List Declared) (todo : List Todo) → CountedDeclared source ds → Ok g source [] todo ⊎ (AtRest g source (λ d x. ⊥) todo ⊎ AtBuild g source (Declares g (src.Declare line ds)) todo) → T s (quiet.stmt_step (src.Declare line ds) todo s)
     declares line ds todo n (inl h) = anew _ _ (n, (tt, h))
     declares line ds todo n (inr (inl h)) = anew _ _ (n, (tt, marks.rest_none g source todo h))
     declares line [] todo n (inr (inr h)) = anew _ _ (n, (tt, marks.build_none g source todo h))
@@ -437,7 +440,7 @@ module _ (g : Program) (source : Source) where
     -- events
 
     throws : (e : raising.Event) (todo : List Todo) → Left g source todo → T s (raising.throw_step e todo s)
-    throws e todo h = inl (record { run = record { marks = []; holds = tt; ok = h }; callers = callers; env = env })
+    throws e todo h = inl (record { run = (record { marks = []; holds = tt; ok = h }, seat); callers = callers; env = env })
 
     pub thrown : (e : raising.Event) (todo : List Todo) → Ok g source [] todo → T s (raising.throw_step e todo s)
     thrown e todo h = throws e todo (marks.left g source [] todo h)
@@ -446,8 +449,8 @@ module _ (g : Program) (source : Source) where
     handles : (ms : List Mark) (f : Option Found) (e : raising.Event) (todo : List Todo) → H ms s.run.operands → OfFound f → Ok g source (rests 3 ms) todo → T s (raising.handle_step f e todo s)
     handles ms None e todo k n h = throws e todo (marks.left g source (rests 3 ms) todo h)
     handles ms (Some f) e todo k n h = inl (record {
-      run = record { marks = []; holds = tt; ok = handled f.handler [] n tt };
-      callers = (inl (record { marks = rests 3 ms; holds = holds_below s.env.exec s.run.frame (rests 2 ms) _ (holds_below s.env.exec s.run.frame (rests 1 ms) _ (holds_below s.env.exec s.run.frame ms _ k)); ok = (tt, h) }), callers);
+      run = (record { marks = []; holds = tt; ok = handled f.handler [] n tt }, marks.next_behind g source (λ d x. Meets s.env.exec s.run.frame s.run.this (At x) f.this) (rests 3 ms) todo h);
+      callers = ((inl (record { marks = rests 3 ms; holds = holds_below s.env.exec s.run.frame s.run.this (rests 2 ms) _ (holds_below s.env.exec s.run.frame s.run.this (rests 1 ms) _ (holds_below s.env.exec s.run.frame s.run.this ms _ k)); ok = (tt, h) }), seat), callers);
       env = likes env refl refl refl;
     })
 
@@ -460,7 +463,7 @@ module _ (g : Program) (source : Source) where
 
     catches : (o : Option Handler) (e : raising.Event) (todo : List Todo) → OfHandler o → Ok g source [] todo → T s (raising.catch_step o e todo s)
     catches None e todo n h = anew _ _ (marks.left g source [] todo h)
-    catches (Some x) e todo n h = inl (record { run = record { marks = []; holds = tt; ok = handled x todo n h }; callers = callers; env = env })
+    catches (Some x) e todo n h = inl (record { run = (record { marks = []; holds = tt; ok = handled x todo n h }, seat); callers = callers; env = env })
 
     guarded : (hs : Handlers) (o : Option UnwindReason) (todo : List Todo) → CodeHandlers g source hs → Ok g source [] todo → T s (raising.guard_left hs o todo s)
     guarded hs (Some (reason.Event n x y)) todo k h =
@@ -468,19 +471,19 @@ module _ (g : Program) (source : Source) where
     guarded hs o todo k h = anew _ _ (marks.left g source [] todo h)
 
     whole : (b : Bool) (todo : List Todo) → Ok g source [] todo → T s (raising.whole_left b todo s)
-    whole true todo h = inl (record { run = record { marks = []; holds = tt; ok = h }; callers = callers; env = env })
+    whole true todo h = inl (record { run = (record { marks = []; holds = tt; ok = h }, seat); callers = callers; env = env })
     whole false todo h = anew _ _ (marks.left g source [] todo h)
 
     scope : (c : CleanUp) (b : Bool) (todo : List Todo) → CountedClean source c → Ok g source [] todo → T s (raising.scope_left c b todo s)
-    scope src.Leaves true todo n h = inl (record { run = record { marks = []; holds = tt; ok = (tt, marks.left g source [] todo h) }; callers = callers; env = env })
+    scope src.Leaves true todo n h = inl (record { run = (record { marks = []; holds = tt; ok = (tt, marks.left g source [] todo h) }, seat); callers = callers; env = env })
     scope c b todo n h = anew (raising.left_todo c (piece.Unwind ∷ todo)) [] (left_cleans c (piece.Unwind ∷ todo) n (marks.left g source [] todo h))
 
     main_left : (o : Option UnwindReason) (todo : List Todo) → Ok g source [] todo → T s (raising.main_left o todo s)
-    main_left (Some (reason.ReturnTo n)) todo h = inl (record { run = record { marks = []; holds = tt; ok = (tt, h) }; callers = callers; env = env })
+    main_left (Some (reason.ReturnTo n)) todo h = inl (record { run = (record { marks = []; holds = tt; ok = (tt, h) }, seat); callers = callers; env = env })
     main_left o todo h = stop Unhandled todo []
 
     coroutine_left : (o : Option UnwindReason) (todo : List Todo) → Ok g source [] todo → T s (raising.coroutine_left o todo s)
-    coroutine_left (Some (reason.ReturnTo n)) todo h = inl (record { run = record { marks = []; holds = tt; ok = (tt, h) }; callers = callers; env = env })
+    coroutine_left (Some (reason.ReturnTo n)) todo h = inl (record { run = (record { marks = []; holds = tt; ok = (tt, h) }, seat); callers = callers; env = env })
     coroutine_left (Some reason.Destroyed) todo h = moved _ todo _ (kept.taken_down_rests (Runs g source) (Waits g source) calm (at todo [] s) (afresh todo [] h))
     coroutine_left o todo h = moved _ todo _ (kept.escape_rests (Runs g source) (Waits g source) calm (at todo [] s) (afresh todo [] h))
 
@@ -496,18 +499,18 @@ module _ (g : Program) (source : Source) where
     unwind_past piece.IsFinish todo h = main_left s.run.raised todo h
     unwind_past piece.IsFinishCoroutine todo h = coroutine_left s.run.raised todo h
 
-    pass_on : (o : Option UnwindReason) (c : Active) (cs : List Active) → Left g source c.control → W s.env.exec cs → T s (raising.pass_on o c cs s)
-    pass_on None c cs a b = record { run = tt; callers = callers; env = env }
-    pass_on (Some why) c cs a b = inl (record { run = record { marks = []; holds = tt; ok = a }; callers = b; env = likes env refl refl refl })
+    pass_on : (o : Option UnwindReason) (c : Active) (cs : List Active) → Left g source c.control × Seated s.env.exec cs c.this → W s.env.exec cs → T s (raising.pass_on o c cs s)
+    pass_on None c cs a b = record { run = tt; seat = seat; callers = callers; env = env }
+    pass_on (Some why) c cs a b = inl (record { run = (record { marks = []; holds = tt; ok = a.0 }, a.1); callers = b; env = likes env refl refl refl })
 
-    leave_for : (b : Bool) (c : Active) (cs : List Active) → Left g source c.control → W s.env.exec cs → T s (raising.leave_for b c cs s)
-    leave_for true c cs a b = record { run = tt; callers = callers; env = env }
+    leave_for : (b : Bool) (c : Active) (cs : List Active) → Left g source c.control × Seated s.env.exec cs c.this → W s.env.exec cs → T s (raising.leave_for b c cs s)
+    leave_for true c cs a b = record { run = tt; seat = seat; callers = callers; env = env }
     leave_for false c cs a b = pass_on s.run.raised c cs a b
 
     leaves : (cs : List Active) → W s.env.exec cs → (raising.arrives s.run.raised (length cs) ≡ true → Ends s s.run.control) → T s (raising.leave_step cs s)
-    leaves [] c f = record { run = tt; callers = callers; env = env }
+    leaves [] c f = record { run = tt; seat = seat; callers = callers; env = env }
     leaves (c ∷ cs) w f =
-        tested (T s) (raising.arrives s.run.raised (length (c ∷ cs))) _ _ (λ e. returned s.run.result (c ∷ cs) w (f e)) (leave_for _ c cs (marks.wait_left g source s.env.exec cs c w.0) w.1)
+        tested (T s) (raising.arrives s.run.raised (length (c ∷ cs))) _ _ (λ e. returned s.run.result (c ∷ cs) w (f e)) (leave_for _ c cs (marks.wait_left g source s.env.exec cs c w.0, w.0.1) w.1)
 
     pub unwinds : (todo : List Todo) → s.run.control ≡ piece.Unwind ∷ todo → Left g source todo → T s (raising.unwind_step todo s)
     unwinds [] e h = leaves s.callers callers (λ a. subst (Ends s) (sym e) a)
@@ -516,21 +519,21 @@ module _ (g : Program) (source : Source) where
     -- printing
 
     pub prints : (o : Option (List Piece)) (p : Piece) (todo : List Todo) (vs : List Value) → Ok g source [] todo → T s (piece.print_step o p todo vs s)
-    prints None p todo vs h = record { run = record { marks = []; holds = tt; ok = h }; callers = callers; env = env }
+    prints None p todo vs h = record { run = record { marks = []; holds = tt; ok = h }; seat = seat; callers = callers; env = env }
     prints (Some ps) p todo vs h = go_in [] _ _ _ tt h (same refl refl refl refl)
 
     pub flushes : (o : Option (List Piece)) (todo : List Todo) (vs : List Value) → Ok g source [] todo → T s (piece.flush_step o todo vs s)
     flushes None todo vs h = anew _ _ h
     flushes (Some []) todo vs h = go_in [] _ _ _ tt h (same refl refl refl refl)
-    flushes (Some (p ∷ ps)) todo vs h = record { run = record { marks = []; holds = tt; ok = h }; callers = callers; env = likes env refl refl refl }
+    flushes (Some (p ∷ ps)) todo vs h = record { run = record { marks = []; holds = tt; ok = h }; seat = seat; callers = callers; env = likes env refl refl refl }
 
     -- with what is known of the operands
     module _ (ms : List Mark) (holds : H ms s.run.operands) where
       pub one : H (rest ms) (below s.run.operands)
-      one = holds_below s.env.exec s.run.frame ms s.run.operands holds
+      one = holds_below s.env.exec s.run.frame s.run.this ms s.run.operands holds
 
       pub two : H (rest (rest ms)) (below (below s.run.operands))
-      two = holds_below s.env.exec s.run.frame (rest ms) (below s.run.operands) one
+      two = holds_below s.env.exec s.run.frame s.run.this (rest ms) (below s.run.operands) one
 
       -- expressions
 
@@ -579,44 +582,49 @@ module _ (g : Program) (source : Source) where
       eval (src.Update op k p a) todo n h = go ms _ _ holds (n.0, inl (tt, (tt, (n.1, inl (tt, converts k (Any ∷ ms) _ (tt, h))))))
       eval (src.StepBehind op k p) todo n h =
           go ms _ _ holds (n, inl (tt, (tt, (tt, (tt, (tt, inl (tt, converts k (Any ∷ (Any ∷ (Any ∷ ms))) _ (tt, (tt, h)))))))))
-      eval src.Fail todo n h = record { run = record { marks = ms; holds = holds; ok = h }; callers = callers; env = env }
+      eval src.Fail todo n h = record { run = record { marks = ms; holds = holds; ok = h }; seat = seat; callers = callers; env = env }
       eval (src.Call r args) todo n h = go ms _ _ holds (n.0, (tt, (tt, called args r ms todo n.1 h)))
       eval (src.OfObject o) todo n h = object o todo n h
 
-      placed : (e : Expr) (todo : List Todo) → Placed e (λ k. Ok g source (At k ∷ ms) todo) → T s (quiet.eval_step e todo s)
-      placed (src.Variable k) todo h = go (At k ∷ ms) _ _ (refl, holds) h
+      placed : (e : Expr) (todo : List Todo) → Placed e (λ x. Ok g source (At x ∷ ms) todo) → T s (quiet.eval_step e todo s)
+      placed (src.Variable k) todo h = go (At (Var k) ∷ ms) _ _ (refl, holds) h
+      placed (src.OfObject (src.OwnField k i)) todo h = go (At (Own k i) ∷ ms) _ _ (refl, holds) h
       placed e todo h = absurd h
 
-      -- a constructor is called at a variable
+      -- a constructor is called at a variable or at a field
       builds : (e : Expr) (todo : List Todo) → CountedExpr source e → AtDrop g source (Builds g e) todo → T s (quiet.eval_step e todo s)
       builds (src.OfObject (src.CallOn r (src.Variable k) args)) todo n h =
-          go ms _ _ holds (tt, inr (inr (n.1, (tt, inr (called_at (count args) r k ms todo n.2 h)))))
+          go ms _ _ holds (tt, inr (inr (n.1, (tt, inr (called_at (count args) r (Var k) ms todo n.2 h)))))
+      builds (src.OfObject (src.CallOn r (src.OfObject (src.OwnField k i)) args)) todo n h =
+          go ms _ _ holds (tt, inr (inr (n.1, (tt, inr (called_at (count args) r (Own k i) ms todo n.2 h)))))
       builds (src.OfObject (src.CallUnwritten r (src.Variable k))) todo n h =
-          go ms _ _ holds (tt, inr (inr (inr (called_at 0 r k ms todo n.1 h))))
+          go ms _ _ holds (tt, inr (inr (inr (called_at 0 r (Var k) ms todo n.1 h))))
+      builds (src.OfObject (src.CallUnwritten r (src.OfObject (src.OwnField k i)))) todo n h =
+          go ms _ _ holds (tt, inr (inr (inr (called_at 0 r (Own k i) ms todo n.1 h))))
       builds e todo n h = eval e todo n (marks.drop_none g source (Any ∷ ms) todo h)
 
-      pub evals : (e : Expr) (todo : List Todo) → CountedExpr source e → Ok g source (Any ∷ ms) todo ⊎ (AtDrop g source (Builds g e) todo ⊎ Placed e (λ k. Ok g source (At k ∷ ms) todo)) → T s (quiet.eval_step e todo s)
+      pub evals : (e : Expr) (todo : List Todo) → CountedExpr source e → Ok g source (Any ∷ ms) todo ⊎ (AtDrop g source (Builds g e) todo ⊎ Placed e (λ x. Ok g source (At x ∷ ms) todo)) → T s (quiet.eval_step e todo s)
       evals e todo n (inl h) = eval e todo n h
       evals e todo n (inr (inl h)) = builds e todo n h
       evals e todo n (inr (inr h)) = placed e todo h
 
       -- calls
 
-      begun : (r : Routine) (this : Value) (counts : Bool) (todo : List Todo) (vs : List Value) → CodeBlock g source r.body → Waits g source s.env.exec s.callers (record s.run { control = todo; operands = vs }) → T s (quiet.begun_step r this counts todo vs s)
-      begun r this counts todo vs n w = inl (record { run = record { marks = []; holds = tt; ok = routine r n }; callers = (w, callers); env = likes env refl refl refl })
+      begun : (r : Routine) (this : Value) (counts : Bool) (todo : List Todo) (vs : List Value) → CodeBlock g source r.body → NextAt (λ d x. Meets s.env.exec s.run.frame s.run.this (At x) this) todo → Waits g source s.env.exec s.callers (record s.run { control = todo; operands = vs }) → T s (quiet.begun_step r this counts todo vs s)
+      begun r this counts todo vs n k w = inl (record { run = (record { marks = []; holds = tt; ok = routine r n }, k); callers = (w, callers); env = likes env refl refl refl })
 
       waits : (ns : List Mark) (todo : List Todo) (vs : List Value) → H ns vs → Ok g source (Any ∷ ns) todo → Waits g source s.env.exec s.callers (record s.run { control = todo; operands = vs })
-      waits ns todo vs k h = inl (record { marks = ns; holds = k; ok = h })
+      waits ns todo vs k h = (inl (record { marks = ns; holds = k; ok = h }), seat)
 
       dropped : (n : ℕ) → H (rests n ms) (drop n s.run.operands)
-      dropped n = holds_drop s.env.exec s.run.frame n ms s.run.operands holds
+      dropped n = holds_drop s.env.exec s.run.frame s.run.this n ms s.run.operands holds
 
       dropped_one : (n : ℕ) → H (rests (suc n) ms) (below (drop n s.run.operands))
-      dropped_one n = holds_below s.env.exec s.run.frame (rests n ms) (drop n s.run.operands) (dropped n)
+      dropped_one n = holds_below s.env.exec s.run.frame s.run.this (rests n ms) (drop n s.run.operands) (dropped n)
 
       pub call : (r : Option Routine) (todo : List Todo) → CodeRoutine g source r → Ok g source (Any ∷ rests (params_at r) ms) todo → T s (quiet.call_step r todo s)
       call None todo n h = ends _ _
-      call (Some r) todo n h = either (T s) (nat_lt s.env.links.calls CALLS) _ _ (begun r _ true todo _ n (waits (rests r.params ms) todo _ (dropped r.params) h)) (stop Depth todo _)
+      call (Some r) todo n h = either (T s) (nat_lt s.env.links.calls CALLS) _ _ (begun r _ true todo _ n (marks.next_none g source (λ d x. Meets s.env.exec s.run.frame s.run.this (At x) piece.Nothing) _ todo h) (waits (rests r.params ms) todo _ (dropped r.params) h)) (stop Depth todo _)
 
       -- behind the call of the routine k
       abbrev Calls : ℕ → ℕ → List Todo → Type 0
@@ -624,15 +632,20 @@ module _ (g : Program) (source : Source) where
 
       waits_on : (k n : ℕ) (todo : List Todo) → Calls k n todo → Waits g source s.env.exec s.callers (record s.run { control = todo; operands = below (drop n s.run.operands) })
       waits_on k n todo (inl h) = waits (rests (suc n) ms) todo _ (dropped_one n) h
-      waits_on k n todo (inr h) = inr (marks.drop_more g source (CalledBy g k (rests n ms)) Every (λ d i x. tt) todo h)
+      waits_on k n todo (inr h) = (inr (marks.drop_more g source (CalledBy g k (rests n ms)) Every (λ d i x. tt) todo h), seat)
+
+      -- what is called lies where what opens, or is a part, next does
+      lies_on : (k n : ℕ) (todo : List Todo) → Calls k n todo → NextAt (λ d x. Meets s.env.exec s.run.frame s.run.this (At x) (top (drop n s.run.operands))) todo
+      lies_on k n todo (inl h) = marks.next_none g source (λ d x. Meets s.env.exec s.run.frame s.run.this (At x) (top (drop n s.run.operands))) _ todo h
+      lies_on k n todo (inr h) = marks.next_called g source s.env.exec s.run.frame s.run.this k (rests n ms) (drop n s.run.operands) (dropped n) todo h
 
       pub call_on : (k : ℕ) (r : Option Routine) (todo : List Todo) → CodeRoutine g source r → Calls k (params_at r) todo → T s (quiet.call_on_step r todo s)
       call_on k None todo n h = ends _ _
-      call_on k (Some r) todo n h = either (T s) (nat_lt s.env.links.calls CALLS) _ _ (begun r _ true todo _ n (waits_on k r.params todo h)) (stop Depth todo _)
+      call_on k (Some r) todo n h = either (T s) (nat_lt s.env.links.calls CALLS) _ _ (begun r _ true todo _ n (lies_on k r.params todo h) (waits_on k r.params todo h)) (stop Depth todo _)
 
       pub call_unwritten : (k : ℕ) (r : Option Routine) (todo : List Todo) → CodeRoutine g source r → Calls k (params_at r) todo → T s (quiet.call_unwritten_step r todo s)
       call_unwritten k None todo n h = ends _ _
-      call_unwritten k (Some r) todo n h = begun r _ false todo _ n (waits_on k r.params todo h)
+      call_unwritten k (Some r) todo n h = begun r _ false todo _ n (lies_on k r.params todo h) (waits_on k r.params todo h)
 
       pub live : (r : Option Routine) (todo : List Todo) → Ok g source ms todo → T s (quiet.live_step r todo s)
       live None todo h = ends _ _
@@ -642,7 +655,7 @@ module _ (g : Program) (source : Source) where
       set_up None todo n h = anew _ _ h
       set_up (Some r) todo n h =
           let at_home = quiet.home_at s.run.this s.env in
-          let b : K s.env (sw.born at_home (quiet.fresh r s.run.this) s.env) = kept.born_keeps (Runs g source) (Waits g source) calm at_home (quiet.fresh r s.run.this) s.env (λ k. record { run = record { marks = []; holds = tt; ok = routine r n }; callers = tt }) env in
+          let b : K s.env (sw.born at_home (quiet.fresh r s.run.this) s.env) = kept.born_keeps (Runs g source) (Waits g source) calm at_home (quiet.fresh r s.run.this) s.env (λ k. record { run = (record { marks = []; holds = tt; ok = routine r n }, tt); callers = tt }) env in
           go_in [] _ _ _ tt h (kept.keeps_both (Runs g source) (Waits g source) calm b (kept.written_keeps (Runs g source) (Waits g source) calm s.run.this _ _ b.env))
 
       -- mutex objects
@@ -652,7 +665,7 @@ module _ (g : Program) (source : Source) where
 
       enter_at : (d : Option ℕ) (o m : ℕ) (todo : List Todo) → Ok g source ms todo → T s (monitors.enter_at d o m todo s)
       enter_at (Some d) o m todo h = go_in ms _ _ _ holds h (same refl refl refl refl)
-      enter_at None o m todo h = record { run = record { marks = ms; holds = holds; ok = h }; callers = callers; env = likes env refl refl refl }
+      enter_at None o m todo h = record { run = record { marks = ms; holds = holds; ok = h }; seat = seat; callers = callers; env = likes env refl refl refl }
 
       pub enter : (m : ℕ) (r : Option Routine) (todo : List Todo) → Ok g source ms todo → T s (monitors.enter_step m r todo s)
       enter m None todo h = ends _ _
@@ -663,12 +676,12 @@ module _ (g : Program) (source : Source) where
       pub leave : (b : Bool) (o : ℕ) (todo : List Todo) → Ok g source ms todo → T s (monitors.leave_at b o todo s)
       leave false o todo h = go_in ms _ _ _ holds h (same refl refl refl refl)
       leave true o todo h =
-          unless o _ todo (record { run = record { marks = ms; holds = holds; ok = polled s.run.raised ms todo h }; callers = callers; env = likes env refl refl refl })
+          unless o _ todo (record { run = record { marks = ms; holds = holds; ok = polled s.run.raised ms todo h }; seat = seat; callers = callers; env = likes env refl refl refl })
 
       pub make : (c k : ℕ) (r : Option Routine) (todo : List Todo) → Ok g source (anys (suc (params source k)) (rests (suc (params source k)) ms)) todo → T s (monitors.make_step c k r todo s)
       make c k None todo h = ends _ _
       make c k (Some r) todo h =
-          either (T s) (monitors.may_call r.written s) _ _ (record { run = record { marks = ms; holds = holds; ok = (tt, h) }; callers = callers; env = likes env refl refl refl }) (stop Depth todo _)
+          either (T s) (monitors.may_call r.written s) _ _ (record { run = record { marks = ms; holds = holds; ok = (tt, h) }; seat = seat; callers = callers; env = likes env refl refl refl }) (stop Depth todo _)
 
       pub bind : (r : Option Routine) (todo : List Todo) → Ok g source (anys (suc (params_at r)) (rests (suc (params_at r)) (rest ms))) todo → T s (monitors.bind_step r todo s)
       bind None todo h = ends _ _
@@ -676,12 +689,12 @@ module _ (g : Program) (source : Source) where
           let n = r.params in
           let vs = below s.run.operands in
           let v = top s.run.operands in
-          let under : H (rests (suc n) (rest ms)) (drop (suc n) (slice_set vs n v)) = subst (H (rests (suc n) (rest ms))) (sym (drop_set n v vs)) (holds_drop s.env.exec s.run.frame (suc n) (rest ms) vs one) in
-          go_in (anys (suc n) (rests (suc n) (rest ms))) todo _ _ (holds_anys s.env.exec s.run.frame (suc n) (rests (suc n) (rest ms)) (slice_set vs n v) under) h (write _ _)
+          let under : H (rests (suc n) (rest ms)) (drop (suc n) (slice_set vs n v)) = subst (H (rests (suc n) (rest ms))) (sym (drop_set n v vs)) (holds_drop s.env.exec s.run.frame s.run.this (suc n) (rest ms) vs one) in
+          go_in (anys (suc n) (rests (suc n) (rest ms))) todo _ _ (holds_anys s.env.exec s.run.frame s.run.this (suc n) (rests (suc n) (rest ms)) (slice_set vs n v) under) h (write _ _)
 
       pub accept : (mask o site : ℕ) (todo : List Todo) (vs : List Value) → Ok g source [] todo → T s (monitors.accept_by mask o site todo vs s)
       accept zero o site todo vs h = anew _ _ h
-      accept (suc mask) o site todo vs h = unless o _ todo (record { run = record { marks = []; holds = tt; ok = (tt, (tt, h)) }; callers = callers; env = env })
+      accept (suc mask) o site todo vs h = unless o _ todo (record { run = record { marks = []; holds = tt; ok = (tt, (tt, h)) }; seat = seat; callers = callers; env = env })
 
       pub failed : (b : Bool) (todo : List Todo) (vs : List Value) → Ok g source [] todo → T s (monitors.failed_step b todo vs s)
       failed true todo vs h = anew _ _ h
@@ -698,7 +711,7 @@ module _ (g : Program) (source : Source) where
       pend_at (Some n) e todo vs h = either (T s) (sw.is_live (Some n) s.env) _ _ (pend n e todo vs h) (stop NotLive todo vs)
 
       pub raise_at : (v : Value) (e : raising.Event) (todo : List Todo) (vs : List Value) → Ok g source [] todo → T s (polls.raise_at_step v e todo vs s)
-      raise_at (Object o) e todo vs h = record { run = record { marks = []; holds = tt; ok = h }; callers = callers; env = env }
+      raise_at (Object o) e todo vs h = record { run = record { marks = []; holds = tt; ok = h }; seat = seat; callers = callers; env = env }
       raise_at v e todo vs h = pend_at (piece.exec_at v s.env) e todo vs h
 
       enabled_in : {e f : Env} → K s.env e → f.exec ≡ e.exec → f.hand ≡ e.hand → f.house ≡ e.house → f.own ≡ e.own → K s.env f
@@ -712,7 +725,7 @@ module _ (g : Program) (source : Source) where
       quiet_poll (Some p) todo h = go_in (Any ∷ (Any ∷ (Any ∷ ms))) _ _ _ (tt, (tt, (tt, holds))) (tt, h) (same refl refl refl refl)
 
       poll_by : (b : Bool) (todo : List Todo) → Ok g source ms todo → T s (polls.poll_by b todo s)
-      poll_by true todo h = record { run = record { marks = ms; holds = holds; ok = (tt, h) }; callers = callers; env = env }
+      poll_by true todo h = record { run = record { marks = ms; holds = holds; ok = (tt, h) }; seat = seat; callers = callers; env = env }
       poll_by false todo h = quiet_poll (inside.oldest_enabled s.env.links) todo h
 
       pub poll : (todo : List Todo) → Ok g source ms todo → T s (polls.poll_step todo s)

@@ -54,7 +54,7 @@ use Rattle.uc_state_laws.proofs.Arguments.{counted_source}
 use Rattle.uc_place_laws.specs.OlderResting.{AllWait, NamedParked, NamedHand, NamedEnv}
 use Rattle.uc_state_laws.specs.Marked.{operands}
 use Rattle.uc_place_laws.specs.Called.{CodeRoutine}
-use Rattle.uc_place_laws.specs.CalledStates.{Finds, FindsFor, Runs, Waits, FindsBehind, CalledMembers, CalledState, CalledAsk, CalledStep}
+use Rattle.uc_place_laws.specs.CalledStates.{Seated, Finds, FindsFor, Runs, Waits, FindsBehind, CalledMembers, CalledState, CalledAsk, CalledStep}
 use Rattle.uc_place_laws.proofs.AsideKeeping as kept
 use Rattle.uc_place_laws.proofs.AsideKeeping.{either}
 use Rattle.uc_place_laws.proofs.OpeningSteps.{calm}
@@ -89,6 +89,7 @@ spawns_none j (e ∷ a) u l lt =
 -- a task at rest
 record TaskCalled (g : Program) (source : Source) (j : Journal) (t : ℕ) (s : State) : Type 0 where
   run : has_ended t j ≡ false → FindsFor g source (asked_form t j) s.env.exec s.run
+  seat : Seated s.env.exec s.callers s.run.this
   callers : AllWait (Runs g source) (Waits g source) s.env.exec s.callers
   house : NamedParked (Runs g source) (Waits g source) (home.Task s.env.own) s.env.house.parked
 
@@ -122,18 +123,19 @@ module _ (g : Program) (source : Source) where
   -- a ride that ends in a request, or as its slice is over
   record Rode (r : Request) (u : State) : Type 0 where
     run : (r ≡ ask.End → ⊥) → ((n : ℕ) → r ≡ ask.Fault n → ⊥) → FindsFor g source (form_of_request r) u.env.exec u.run
+    seat : Seated u.env.exec u.callers u.run.this
     callers : AllWait (Runs g source) (Waits g source) u.env.exec u.callers
     env : NamedEnv (Runs g source) (Waits g source) u.env
 
   rode : (r : Request) (u : State) → CalledAsk g source r u → Rode r u
-  rode r u h = record { run = λ e f. behind r u.env.exec u.run e f h.run; callers = h.callers; env = h.env }
+  rode r u h = record { run = λ e f. behind r u.env.exec u.run e f h.run; seat = h.seat; callers = h.callers; env = h.env }
 
 module _ (g : Program) (source : Source) (known : (n : ℕ) → CodeRoutine g source (slice_get source.routines n)) where
   step : (s : State) → CalledState g source s → CalledStep g source (quiet source s)
   step s h = led_to g source s (quiet source s) (walk g source known s h)
 
   ridden : {s u : State} {q k : ℕ} {a : Asked} → Rides source s q u k a → CalledState g source s → Rode g source a.request u
-  ridden rides.slices h = record { run = λ e f. h.run; callers = h.callers; env = h.env }
+  ridden rides.slices h = record { run = λ e f. h.run; seat = h.seat; callers = h.callers; env = h.env }
   ridden (rides.goes_on {s} {t} e r) h = ridden r (subst (CalledStep g source) e (step s h))
   ridden (rides.ticks {s} {t} e r) h = ridden r (subst (CalledStep g source) e (step s h))
   ridden (rides.asks {s} {t} {q} {r} e) h = rode g source r t (subst (CalledStep g source) e (step s h))
@@ -156,7 +158,7 @@ module _ (g : Program) (known : (n : ℕ) → CodeRoutine g (source_of g) (slice
     goes_on p t a runs told =
         let m = x.tasks t in
         let finds : FindsFor g source (asked_form t j) (drawn j w t).env.exec (drawn j w t).run = m.run (law_alive opts source.sites input j r.kernel going p t runs) in
-        answered_called g source (asked_form t j) a (drawn j w t) (law_suiting opts source.sites input j r.kernel going t a told) finds m.callers (record { house = m.house; hand = hand_called g source (held t j) w.homes x.homes })
+        answered_called g source (asked_form t j) a (drawn j w t) (law_suiting opts source.sites input j r.kernel going t a told) finds m.seat m.callers (record { house = m.house; hand = hand_called g source (held t j) w.homes x.homes })
 
     asks_called : (p t n : ℕ) (s : State) (asked : Asked) → AsksIn source opts j w p t n s asked → Rode g source asked.request s
     asks_called q t n s asked d = ridden g source known d.rides (goes_on q t d.given d.runs d.told)
@@ -176,6 +178,7 @@ module _ (g : Program) (known : (n : ℕ) → CodeRoutine g (source_of g) (slice
         run = λ h.
             let k = law_ends opts source.sites input j q t n asked on h in
             subst (λ f. FindsFor g source f s.env.exec s.run) (sym (law_asking opts source.sites input j q t n asked r.kernel m on).own) (asks.run k.no_end k.no_fault);
+        seat = asks.seat;
         callers = asks.callers;
         house = asks.env.house;
       }
@@ -200,6 +203,7 @@ module _ (g : Program) (known : (n : ℕ) → CodeRoutine g (source_of g) (slice
           stays : (u == t) ≡ false → TaskCalled g source (j ++ a) u (w.tasks u)
           stays e = record {
             run = λ h. subst (λ f. FindsFor g source f (w.tasks u).env.exec (w.tasks u).run) (sym (others u e)) ((x.tasks u).run (ended_before j a u h));
+            seat = (x.tasks u).seat;
             callers = (x.tasks u).callers;
             house = (x.tasks u).house;
           }
@@ -209,6 +213,7 @@ module _ (g : Program) (known : (n : ℕ) → CodeRoutine g (source_of g) (slice
               let first = first_called g source known (child_main source s.run.control) (own_object u a) in
               record {
                 run = λ h. subst (λ f. FindsFor g source f (child_of source (own_object u a) s).env.exec (child_of source (own_object u a) s).run) (sym (child_form u e f)) first.run;
+                seat = first.seat;
                 callers = first.callers;
                 house = first.env.house;
               }
@@ -229,6 +234,7 @@ module _ (g : Program) (known : (n : ℕ) → CodeRoutine g (source_of g) (slice
   called_may {j} {w} r o x (gives q t s le) f on = record {
     tasks = λ u. record {
       run = λ h. subst (λ f. FindsFor g source f (w.tasks u).env.exec (w.tasks u).run) (sym (given_form j q t u)) ((x.tasks u).run (ended_before j (dispatch q t ∷ []) u h));
+      seat = (x.tasks u).seat;
       callers = (x.tasks u).callers;
       house = (x.tasks u).house;
     };
@@ -247,7 +253,7 @@ module _ (g : Program) (known : (n : ℕ) → CodeRoutine g (source_of g) (slice
   called_run begun f on =
       let first = first_called g source known source.main 0 in
       record {
-        tasks = λ u. record { run = λ h. subst (λ f. FindsFor g source f (first_state (routine_of source source.main) 0).env.exec (first_state (routine_of source source.main) 0).run) (sym (begin_form u)) first.run; callers = first.callers; house = first.env.house };
+        tasks = λ u. record { run = λ h. subst (λ f. FindsFor g source f (first_state (routine_of source source.main) 0).env.exec (first_state (routine_of source source.main) 0).run) (sym (begin_form u)) first.run; seat = first.seat; callers = first.callers; house = first.env.house };
         homes = λ o. either (CalledMembers g source (home.Object o)) (o == 0) (Some no_members) None tt tt;
       }
   called_run (more {j} {w} r o m) f on =

@@ -23,14 +23,14 @@ use Rattle.uc_resolve.specs.Resolve as meaning
 use Rattle.uc_resolve.specs.Resolve.{Scope, source_of}
 use Rattle.uc_state_laws.specs.Layout.{references, started_references, own_references, NoReferences, AreNoReferences}
 use Rattle.uc_state_laws.proofs.Statements.{none_left, none_right}
-use Rattle.uc_place_laws.specs.Opened.{role_number, OfPlain, OpensNone, BuildsNone, Declares, Builds, Before, OpenedStmt, OpenedStmts, OpenedHandlers, OpenedClauses, OpenedRoutine}
+use Rattle.uc_place_laws.specs.Opened.{Var, Own, role_number, OfPlain, OfPart, NextNone, BuildsNone, Declares, Builds, Before, OpenedStmt, OpenedStmts, OpenedHandlers, OpenedClauses, OpenedRoutine}
 use Rattle.uc_place_laws.specs.OpeningLaws.{LawOpened}
-use Rattle.uc_place_laws.proofs.OpeningMarks.{opens_any, builds_any}
+use Rattle.uc_place_laws.proofs.OpeningMarks.{next_any, next_opens, builds_any}
 
 -- what builds an object that is a variable, and what destroys it
 
 module _ (p : Program) (b : Base) (i k : ℕ) (made : making p b ≡ Some (APlain i)) (args : List Meant) where
-  paired : (x y : Option ℕ) → written_at p i role.Constructor ≡ x → written_at p i role.Destructor ≡ y → OfPlain (Builds p (meaning.called_by p i role.Constructor (src.Variable k) args x)) (src.Destroys (meaning.called_by p i role.Destructor (src.Variable k) [] y))
+  paired : (x y : Option ℕ) → written_at p i role.Constructor ≡ x → written_at p i role.Destructor ≡ y → OfPlain (λ d m. Builds p (meaning.called_by p i role.Constructor (src.Variable k) args x) d (Var m)) (src.Destroys (meaning.called_by p i role.Destructor (src.Variable k) [] y))
   paired None None e f = (refl, record { class = i; base = b; made = made; builds = ap (role_number p i role.Constructor) (sym e); ends = ap (role_number p i role.Destructor) (sym f) })
   paired None (Some d) e f = (refl, record { class = i; base = b; made = made; builds = ap (role_number p i role.Constructor) (sym e); ends = ap (role_number p i role.Destructor) (sym f) })
   paired (Some r) None e f = (refl, record { class = i; base = b; made = made; builds = ap (role_number p i role.Constructor) (sym e); ends = ap (role_number p i role.Destructor) (sym f) })
@@ -47,12 +47,30 @@ module _ (p : Program) where
   by_number_plain P i object None = tt
   by_number_plain P i object (Some r) = tt
 
-  opens : (line : ℕ) (b : Base) (m : Making) (len : Option ℕ) (k : ℕ) (args : List Meant) → making p b ≡ Some m → OfPlain (Before p (meaning.build p line m len (src.Variable k) args)) (meaning.clean_up p m len (src.Variable k))
+  opens : (line : ℕ) (b : Base) (m : Making) (len : Option ℕ) (k : ℕ) (args : List Meant) → making p b ≡ Some m → OfPlain (λ d n. Before p (meaning.build p line m len (src.Variable k) args) d (Var n)) (meaning.clean_up p m len (src.Variable k))
   opens line b (APlain i) None k args e = paired p b i k e args (written_at p i role.Constructor) (written_at p i role.Destructor) refl refl
   opens line b (AMutex i) None k args e = by_number_plain _ i (src.Load (src.Variable k)) (written_at p i role.Destructor)
   opens line b ACluster None k args e = tt
   opens line b AProcessor None k args e = tt
   opens line b m (Some n) k args e = tt
+
+  -- so is a field of the object at hand
+  own_paired : (b : Base) (i : ℕ) (k : Shape) (n : ℕ) (args : List Meant) → making p b ≡ Some (APlain i) → (x y : Option ℕ) → written_at p i role.Constructor ≡ x → written_at p i role.Destructor ≡ y → OfPart (λ d h m. Builds p (meaning.called_by p i role.Constructor (src.OfObject (src.OwnField k n)) args x) d (Own h m)) (src.Destroys (meaning.called_by p i role.Destructor (src.OfObject (src.OwnField k n)) [] y))
+  own_paired b i k n args made None None e f = (refl, record { class = i; base = b; made = made; builds = ap (role_number p i role.Constructor) (sym e); ends = ap (role_number p i role.Destructor) (sym f) })
+  own_paired b i k n args made None (Some d) e f = (refl, record { class = i; base = b; made = made; builds = ap (role_number p i role.Constructor) (sym e); ends = ap (role_number p i role.Destructor) (sym f) })
+  own_paired b i k n args made (Some r) None e f = (refl, record { class = i; base = b; made = made; builds = ap (role_number p i role.Constructor) (sym e); ends = ap (role_number p i role.Destructor) (sym f) })
+  own_paired b i k n args made (Some r) (Some d) e f = (refl, record { class = i; base = b; made = made; builds = ap (role_number p i role.Constructor) (sym e); ends = ap (role_number p i role.Destructor) (sym f) })
+
+  numbered_part : (P : ℕ → Shape → ℕ → Type 0) (i : ℕ) (object : Expr) (r : Option ℕ) → OfPart P (src.Destroys (meaning.ended_by p i object r))
+  numbered_part P i object None = tt
+  numbered_part P i object (Some r) = tt
+
+  own_part : (b : Base) (m : Making) (len : Option ℕ) (k : Shape) (n : ℕ) (args : List Meant) → making p b ≡ Some m → OfPart (λ d h i. Before p (meaning.build p 0 m len (src.OfObject (src.OwnField k n)) args) d (Own h i)) (meaning.clean_up p m len (src.OfObject (src.OwnField k n)))
+  own_part b (APlain i) None k n args e = own_paired b i k n args e (written_at p i role.Constructor) (written_at p i role.Destructor) refl refl
+  own_part b (AMutex i) None k n args e = numbered_part _ i _ (written_at p i role.Destructor)
+  own_part b ACluster None k n args e = tt
+  own_part b AProcessor None k n args e = tt
+  own_part b m (Some j) k n args e = tt
 
   -- a list of references, in a program that declares no variable to be one
   abbrev None_of : List Pos → Type 0
@@ -103,10 +121,10 @@ module _ (p : Program) where
 
   -- a block of which nothing is done, and a statement before one
   abbrev Open : Stmts → Type 0
-  Open ss = OpensNone ss × OpenedStmts p ss × BuildsNone ss
+  Open ss = NextNone ss × OpenedStmts p ss × BuildsNone ss
 
   prepend : (a : Stmt) (ss : Stmts) → OpenedStmt p a → Open ss → Open (src.Then a ss)
-  prepend a ss k h = (tt, (k, opens_any (Before p a) ss h.0, h.1, builds_any (Declares p a) ss h.2), h.0)
+  prepend a ss k h = (tt, (k, next_any (Before p a) ss h.0, h.1, builds_any (Declares p a) ss h.2), next_opens (λ d x. ⊥) ss h.0)
 
   -- declarations
 
@@ -179,9 +197,17 @@ module _ (p : Program) where
   field_started f place [] rest h = h
   field_started f place (m ∷ ms) rest h = prepend (src.Evaluate 0 (meaning.field_start p f.declarator.by_ref (shape_of f.base) place m)) rest tt h
 
-  field_built : (m : Option Making) (f : ClassField) (len : Option ℕ) (place : Expr) (args : List Meant) (rest : Stmts) → Open rest → Open (meaning.field_built p m f len place args rest)
-  field_built None f len place args rest h = field_started f place args rest h
-  field_built (Some m) f len place args rest h = (tt, (open_build 0 m len place args, tt, h, tt), tt)
+  field_built : (m : Option Making) (f : ClassField) (len : Option ℕ) (k : Shape) (n : ℕ) (args : List Meant) (rest : Stmts) → ((x : Making) → m ≡ Some x → making p f.base ≡ Some x) → Open rest → Open (meaning.field_built p m f len (src.OfObject (src.OwnField k n)) args rest)
+  field_built None f len k n args rest e h = field_started f (src.OfObject (src.OwnField k n)) args rest h
+  field_built (Some m) f len k n args rest e h = (tt, (open_build 0 m len (src.OfObject (src.OwnField k n)) args, own_part f.base m len k n args (e m refl), h, tt), tt)
+
+  -- what a field is made of
+  made_of : (f : ClassField) (x : Making) → meaning.field_making p f ≡ Some x → making p f.base ≡ Some x
+  made_of f x e = by f.declarator.by_ref e
+    where
+      by : (b : Bool) → (if b then None else making p f.base) ≡ Some x → making p f.base ≡ Some x
+      by true e = absurd (cc)
+      by false e = e
 
   field_left : (m : Option Making) (len : Option ℕ) (s : Shape) (i : ℕ) (rest : Stmts) → Open rest → Open (meaning.field_left p m len (src.OfObject (src.OwnField s i)) rest)
   field_left None len s i rest h = h
@@ -191,7 +217,7 @@ module _ (p : Program) where
     fields_built : (inits : List whole.Init) (s : Scope) (fs : List ClassField) (n : ℕ) (rest : Stmts) → Open rest → Open (meaning.fields_built p c i inits s fs n rest)
     fields_built inits s [] n rest h = h
     fields_built inits s (f ∷ fs) n rest h =
-        field_built (meaning.field_making p f) f (meaning.length_in_class p c i f) (tree.field_place (class_shape p i) n tree.Own) (meaning.init_args p s (meaning.init_named p inits f.declarator.name)) (meaning.fields_built p c i inits s fs (suc n) rest) (fields_built inits s fs (suc n) rest h)
+        field_built (meaning.field_making p f) f (meaning.length_in_class p c i f) (class_shape p i) n (meaning.init_args p s (meaning.init_named p inits f.declarator.name)) (meaning.fields_built p c i inits s fs (suc n) rest) (made_of f) (fields_built inits s fs (suc n) rest h)
 
     fields_left : (fs : List ClassField) (n : ℕ) (rest : Stmts) → Open rest → Open (meaning.fields_left p c i fs n rest)
     fields_left [] n rest h = h

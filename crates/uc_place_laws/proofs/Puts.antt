@@ -9,7 +9,7 @@ use Rattle.uc_state_laws.specs.Layout.{Sized}
 use Rattle.uc_state_laws.specs.There.{IsBefore, Pends, EachNext}
 use Rattle.uc_state_laws.specs.ThereStates.{StackAside, InFrame, IsAside}
 use Rattle.uc_state_laws.specs.Counted.{params}
-use Rattle.uc_place_laws.specs.Asides.{IsNearer, PendsBefore, OwnerAside, LiesAside, IsNear, Mark, Holds, rest, rests, Free, OkNow}
+use Rattle.uc_place_laws.specs.Asides.{IsNearer, PendsBefore, OwnerAside, LiesAside, IsNear, Sits, Mark, Holds, rest, rests, Free, OkNow}
 use Rattle.uc_place_laws.specs.AsideLaws.{PutsAt, LawPuts}
 use Rattle.uc_place_laws.proofs.AsideMarks.{holds_below, holds_aside, holds_drop, pends_more, each_next_more, free_pends}
 
@@ -38,16 +38,16 @@ module _ (Z : ℕ → ℕ → Type 0) (s : State) (todo : List Todo) (free : Fre
   is_aside (Object o) h = tt
   is_aside Nothing h = tt
 
-module _ (Z : ℕ → ℕ → Type 0) (makes : ℕ → Bool) (source : Source) (s : State) (made : Bool) (this : made ≡ true → LiesAside Z s.env.exec s.callers s.run.this) (ms : List Mark) (holds : Holds Z s.env.exec s.callers ms s.run.operands) where
-  one : Holds Z s.env.exec s.callers (rest ms) (below s.run.operands)
-  one = holds_below Z s.env.exec s.callers ms s.run.operands holds
+module _ (Z : ℕ → ℕ → Type 0) (makes : ℕ → Bool) (source : Source) (s : State) (made : Bool) (this : made ≡ true → LiesAside Z s.env.exec s.callers s.run.this × Sits Z s.env.exec s.callers s.run.this) (ms : List Mark) (holds : Holds Z s.env.exec s.run.frame s.run.this s.callers ms s.run.operands) where
+  one : Holds Z s.env.exec s.run.frame s.run.this s.callers (rest ms) (below s.run.operands)
+  one = holds_below Z s.env.exec s.run.frame s.run.this s.callers ms s.run.operands holds
 
   puts_at : (l : List Todo) → OkNow makes source (IsNear Z s.run.frame s.callers) made ms l → PutsAt source l s
-  puts_at (piece.BindNow ∷ todo) h = is_aside Z s todo h.0.1 (top (below s.run.operands)) (holds_aside Z s.env.exec s.callers (rest ms) (below s.run.operands) one h.0.0)
+  puts_at (piece.BindNow ∷ todo) h = is_aside Z s todo h.0.1 (top (below s.run.operands)) (holds_aside Z s.env.exec s.run.frame s.run.this s.callers (rest ms) (below s.run.operands) one h.0.0).0
   puts_at (piece.BindMadeNow c r ∷ todo) h =
       let n = params source r in
-      is_aside Z s todo h.0.2 (top (drop n (below s.run.operands))) (holds_aside Z s.env.exec s.callers (rests n (rest ms)) (drop n (below s.run.operands)) (holds_drop Z s.env.exec s.callers n (rest ms) (below s.run.operands) one) h.0.1)
-  puts_at (piece.SetUpNow r ∷ todo) h = is_aside Z s todo h.0.2 s.run.this (this h.0.0)
+      is_aside Z s todo h.0.2 (top (drop n (below s.run.operands))) (holds_aside Z s.env.exec s.run.frame s.run.this s.callers (rests n (rest ms)) (drop n (below s.run.operands)) (holds_drop Z s.env.exec s.run.frame s.run.this s.callers n (rest ms) (below s.run.operands) one) h.0.1).0
+  puts_at (piece.SetUpNow r ∷ todo) h = is_aside Z s todo h.0.2 s.run.this (this h.0.0).0
   puts_at l h = tt
 
 pub law_puts : LawPuts

@@ -13,7 +13,7 @@ use Rattle.uc_state_laws.specs.Counted.{params}
 use Rattle.uc_place_laws.specs.Opened.{OfPlain, OpensOf}
 use Rattle.uc_place_laws.specs.OpeningLaws.{NoneAwaited}
 use Rattle.uc_place_laws.specs.Calling.{Calling, NoneBehind, EndsBefore}
-use Rattle.uc_place_laws.specs.Asides.{PendsBefore, LiesAside, IsNear, Mark, Holds, rest, rests, OkNow}
+use Rattle.uc_place_laws.specs.Asides.{PendsBefore, LiesAside, IsNear, Sits, Mark, Holds, rest, rests, OkNow}
 use Rattle.uc_place_laws.specs.Placed.{EndsIt, OpensFor, IsObject, ScopeFor, PlacedState}
 use Rattle.uc_place_laws.specs.BindingLaws.{IsNamedPlace}
 use Rattle.uc_place_laws.specs.Sparing.{CalledBefore, Spares, SparesAt, LawSpares}
@@ -60,18 +60,18 @@ module _ (Z : ℕ → ℕ → Type 0) where
     spares (Object o) h = tt
     spares Nothing h = tt
 
-module _ (p : Program) (makes : ℕ → Bool) (s : State) (placed : PlacedState (Sized p) (source_of p) s) (made : Bool) (this : made ≡ true → LiesAside (Sized p) s.env.exec s.callers s.run.this) (ms : List Mark) (holds : Holds (Sized p) s.env.exec s.callers ms s.run.operands) where
-  one : Holds (Sized p) s.env.exec s.callers (rest ms) (below s.run.operands)
-  one = holds_below (Sized p) s.env.exec s.callers ms s.run.operands holds
+module _ (p : Program) (makes : ℕ → Bool) (s : State) (placed : PlacedState (Sized p) (source_of p) s) (made : Bool) (this : made ≡ true → LiesAside (Sized p) s.env.exec s.callers s.run.this × Sits (Sized p) s.env.exec s.callers s.run.this) (ms : List Mark) (holds : Holds (Sized p) s.env.exec s.run.frame s.run.this s.callers ms s.run.operands) where
+  one : Holds (Sized p) s.env.exec s.run.frame s.run.this s.callers (rest ms) (below s.run.operands)
+  one = holds_below (Sized p) s.env.exec s.run.frame s.run.this s.callers ms s.run.operands holds
 
   spares_at : (l : List Todo) → s.run.control ≡ l → OkNow makes (source_of p) (IsNear (Sized p) s.run.frame s.callers) made ms l → SparesAt (Sized p) (source_of p) l s
   spares_at (piece.BindNow ∷ todo) e h =
-      spares (Sized p) s todo (λ cell. none_calling (EndsBefore (Sized p) cell) todo h.0.2) (top (below s.run.operands)) (holds_aside (Sized p) s.env.exec s.callers (rest ms) (below s.run.operands) one h.0.0)
+      spares (Sized p) s todo (λ cell. none_calling (EndsBefore (Sized p) cell) todo h.0.2) (top (below s.run.operands)) (holds_aside (Sized p) s.env.exec s.run.frame s.run.this s.callers (rest ms) (below s.run.operands) one h.0.0).0
   spares_at (piece.BindMadeNow c r ∷ todo) e h =
       let n = params (source_of p) r in
       let x : IsNamedPlace p s todo (others todo) (top (drop n (below s.run.operands))) = law_bound.made (source_of p) p s placed c r todo e in
-      spares (Sized p) s todo (made_calling (Sized p) (IsObject (top s.run.operands)) x.name todo x.scope h.0.3) (top (drop n (below s.run.operands))) (holds_aside (Sized p) s.env.exec s.callers (rests n (rest ms)) (drop n (below s.run.operands)) (holds_drop (Sized p) s.env.exec s.callers n (rest ms) (below s.run.operands) one) h.0.1)
-  spares_at (piece.SetUpNow r ∷ todo) e h = spares (Sized p) s todo (λ cell. none_calling (EndsBefore (Sized p) cell) todo h.0.3) s.run.this (this h.0.0)
+      spares (Sized p) s todo (made_calling (Sized p) (IsObject (top s.run.operands)) x.name todo x.scope h.0.3) (top (drop n (below s.run.operands))) (holds_aside (Sized p) s.env.exec s.run.frame s.run.this s.callers (rests n (rest ms)) (drop n (below s.run.operands)) (holds_drop (Sized p) s.env.exec s.run.frame s.run.this s.callers n (rest ms) (below s.run.operands) one) h.0.1).0
+  spares_at (piece.SetUpNow r ∷ todo) e h = spares (Sized p) s todo (λ cell. none_calling (EndsBefore (Sized p) cell) todo h.0.3) s.run.this (this h.0.0).0
   spares_at l e h = tt
 
 pub law_spares : LawSpares

@@ -1,5 +1,5 @@
 -- To-do lists before which the place that is bound, and the object of a constructor that is called, lie among the operands aside of the
--- variables that are still to be bound.
+-- variables that are still to be bound, and in what such constructors build that are called one by another.
 use Rattle.std.specs.Prelude.{◌≡◌, ℕ, zero, suc, ◌<◌, ◌⊎◌, Bool, true, false, List, [], ◌∷◌, Option, Some, None}
 use Rattle.uc_tree.specs.Source.{Expr, Exprs, Source, CleanUp, Stmt, Stmts, Handlers, Clauses, Item, Target, Declared, Routine}
 use Rattle.uc_entry.specs.declared.request.Request.{Request}
@@ -10,18 +10,30 @@ use Rattle.uc_machine.specs.declared.exec.Owner.{Owner}
 use Rattle.uc_machine.specs.declared.exec.Owner.TheVariants.{Frame, Fields}
 use Rattle.uc_machine.specs.Executions.{exec_eq}
 use Rattle.uc_machine.specs.Pieces as piece
-use Rattle.uc_machine.specs.Pieces.{Link, Value, Place, LAST_ADDRESS, Slot, address, Todo, Sort, sort, Active, State, Members, Step, Goes, Ticks, Asks, top, below}
+use Rattle.uc_machine.specs.Pieces.{Link, Value, Place, LAST_ADDRESS, Slot, address, further, Todo, Sort, sort, Active, State, Members, Step, Goes, Ticks, Asks, top, below}
 use Rattle.uc_answer_laws.specs.Suiting.{Form, AnObject, JustGo, form_of_request}
 use Rattle.uc_state_laws.specs.There.{IsLoose, IsBefore, Pends, EachNext}
 use Rattle.uc_state_laws.specs.Counted.{params, count, CountedExpr, CountedExprs, CountedMaybe, CountedItems, CountedTargets, CountedDeclared, CountedClean, CountedStmt, CountedStmts, CountedHandlers, CountedClauses}
 use Rattle.uc_state_laws.specs.Marked.{operands}
 use Rattle.uc_place_laws.specs.OlderResting.{AllWait, NamedMembers, NamedEnv, NamedState}
+use Rattle.uc_place_laws.specs.OpeningLaws.{Awaited}
 use Rattle.uc_place_laws.specs.Calling.{Calling, NoneCalled, NoneBehind, EndsBefore}
 use Rattle.uc_place_laws.specs.Siting.{Nowhere, OpensAlone, PlainExpr, PlainExprs, PlainMaybe, PlainItems, PlainTargets, PlainDeclared, PlainNew, SitedAt, BuildsAt, Singly, PlainSingle, SitedClean, SitedStmt, SitedStmts, SitedHandlers, SitedClauses}
 
 -- a place that has an address of its own lies before a cell
 abbrev pub IsNearer : ℕ → List Link → Type 0
 IsNearer cell p = address p < LAST_ADDRESS → IsBefore cell p
+
+-- a variable, or an element of one
+abbrev pub IsOfVariable : List Link → Type 0
+IsOfVariable (Slot k ∷ []) = Unit {0}
+IsOfVariable (piece.At s j ∷ p) = IsOfVariable p
+IsOfVariable p = ⊥
+
+-- what lies in an object, further than that
+pub data IsIn (w : Value) : Value → Type 0 where
+  first : (l : Link) → IsIn w (further l w)
+  further_in : {v : Value} → IsIn w v → (l : Link) → IsIn w (further l v)
 
 -- `Z d n`: what the routine d destroys has n cells
 module _ (Z : ℕ → ℕ → Type 0) where
@@ -43,9 +55,28 @@ module _ (Z : ℕ → ℕ → Type 0) where
   LiesAside n older (Place o p) = OwnerAside n older o (address p)
   LiesAside n older v = Unit {0}
 
-  -- so does a variable of the frame of a depth
+  -- the objects for whose scopes these older activations wait end before a cell of the frame of a depth
+  abbrev pub AwaitsBefore : ℕ → ℕ → List Active → Type 0
+  AwaitsBefore cell d [] = Unit {0}
+  AwaitsBefore cell d (c ∷ cs) = (c.frame ≡ d → Awaited (EndsBefore Z cell) c.control) × AwaitsBefore cell d cs
+
+  -- a variable of the frame of a depth lies aside, and behind those too
   abbrev pub IsNear : ℕ → List Active → ℕ → Type 0
-  IsNear d older k = PendsBefore (address (Slot k ∷ [])) d older
+  IsNear d older k = PendsBefore (address (Slot k ∷ [])) d older × AwaitsBefore (address (Slot k ∷ [])) d older
+
+  -- the place of a variable of this frame, or of an element of it, is so
+  abbrev pub VariableAt : Exec → ℕ → List Active → Value → Type 0
+  VariableAt n f older v = (p : List Link) × (v ≡ Place (Frame n f) p) × IsOfVariable p × AwaitsBefore (address p) f older
+
+  -- an object that constructors may have at hand: none in a frame, or one that is such a variable of the first of these activations, or lies in the object at
+  -- hand of that, which is such an object too
+  abbrev pub Sits : Exec → List Active → Value → Type 0
+  Sits n [] v = IsLoose v
+  Sits n (b ∷ older) v = IsLoose v ⊎ (VariableAt n b.frame older v ⊎ (IsIn b.this v × Sits n older b.this))
+
+  -- so it is of the place of one that such a constructor may be called for, by an activation with this frame and this object
+  abbrev pub SitsAt : Exec → ℕ → Value → List Active → Value → Type 0
+  SitsAt n f this older v = VariableAt n f older v ⊎ (IsIn this v × Sits n older this)
 
 -- what is known of an operand: nothing, that it lies aside, or that it is no place and no execution
 pub data Mark : Type 0 where
@@ -54,15 +85,16 @@ pub data Mark : Type 0 where
   Loose : Mark
 
 module _ (Z : ℕ → ℕ → Type 0) where
-  abbrev pub Meets : Exec → List Active → Mark → Value → Type 0
-  Meets n older Any v = Unit {0}
-  Meets n older Aside v = LiesAside Z n older v
-  Meets n older Loose v = IsLoose v
+  -- in an activation with this frame and this object before older ones
+  abbrev pub Meets : Exec → ℕ → Value → List Active → Mark → Value → Type 0
+  Meets n f this older Any v = Unit {0}
+  Meets n f this older Aside v = LiesAside Z n older v × SitsAt Z n f this older v
+  Meets n f this older Loose v = IsLoose v
 
   -- of the newest operands, the first mark for the newest; of what lies below nothing is known
-  abbrev pub Holds : Exec → List Active → List Mark → List Value → Type 0
-  Holds n older [] vs = Unit {0}
-  Holds n older (m ∷ ms) vs = Meets n older m (top vs) × Holds n older ms (below vs)
+  abbrev pub Holds : Exec → ℕ → Value → List Active → List Mark → List Value → Type 0
+  Holds n f this older [] vs = Unit {0}
+  Holds n f this older (m ∷ ms) vs = Meets n f this older m (top vs) × Holds n f this older ms (below vs)
 
 abbrev pub rest : List Mark → List Mark
 rest [] = []
@@ -290,16 +322,16 @@ module _ (Z : ℕ → ℕ → Type 0) (makes : ℕ → Bool) (source : Source) w
   -- an activation of the execution n, before these older ones, that is to find so many operands in front of its own
   pub record Finds (many : ℕ) (n : Exec) (older : List Active) (a : Active) : Type 0 where
     pub made : Bool
-    pub this : made ≡ true → LiesAside Z n older a.this
+    pub this : made ≡ true → LiesAside Z n older a.this × Sits Z n older a.this
     pub marks : List Mark
-    pub holds : Holds Z n older marks a.operands
+    pub holds : Holds Z n a.frame a.this older marks a.operands
     pub ok : Ok makes source (IsNear Z a.frame older) made (anys many marks) a.control
 
   pub record Runs (n : Exec) (older : List Active) (a : Active) : Type 0 where
     pub made : Bool
-    pub this : made ≡ true → LiesAside Z n older a.this
+    pub this : made ≡ true → LiesAside Z n older a.this × Sits Z n older a.this
     pub marks : List Mark
-    pub holds : Holds Z n older marks a.operands
+    pub holds : Holds Z n a.frame a.this older marks a.operands
     pub ok : OkNow makes source (IsNear Z a.frame older) made marks a.control
 
   abbrev pub Waits : Exec → List Active → Active → Type 0
@@ -314,11 +346,11 @@ module _ (Z : ℕ → ℕ → Type 0) (makes : ℕ → Bool) (source : Source) w
   -- one that is to find a new object in front of them
   pub record FindsObject (n : Exec) (older : List Active) (a : Active) : Type 0 where
     pub made : Bool
-    pub this : made ≡ true → LiesAside Z n older a.this
+    pub this : made ≡ true → LiesAside Z n older a.this × Sits Z n older a.this
     pub first : Mark
     pub told : IsTold first
     pub marks : List Mark
-    pub holds : Holds Z n older marks a.operands
+    pub holds : Holds Z n a.frame a.this older marks a.operands
     pub ok : Ok makes source (IsNear Z a.frame older) made (first ∷ marks) a.control
 
   -- what comes with an answer of a form

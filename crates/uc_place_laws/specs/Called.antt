@@ -1,5 +1,5 @@
--- To-do lists in which the scope of an object that is a variable opens behind the call of its constructor, before which the place of that variable
--- lies among the operands.
+-- To-do lists in which the scope of an object that is a variable opens behind the call of its constructor, and an object that is a field is a part of the one
+-- at hand behind the call of its own, before which the place of that variable or field lies among the operands.
 use Rattle.std.specs.Prelude.{◌≡◌, ℕ, zero, suc, ◌⊎◌, List, [], ◌∷◌, Option, Some, None}
 use Rattle.uc_tree.specs.Programs.{Program}
 use Rattle.uc_tree.specs.Source as src
@@ -7,27 +7,34 @@ use Rattle.uc_tree.specs.Source.{Expr, Stmt, Stmts, Handlers, Clauses, Source, R
 use Rattle.uc_machine.specs.declared.exec.Exec.{Exec}
 use Rattle.uc_machine.specs.declared.exec.Owner.TheVariants.{Frame}
 use Rattle.uc_machine.specs.Pieces as piece
-use Rattle.uc_machine.specs.Pieces.{Slot, Value, Place, Todo, Sort, sort, top, below}
+use Rattle.uc_machine.specs.Pieces.{Slot, FieldAt, Value, Place, Todo, Sort, sort, top, below, further}
 use Rattle.uc_state_laws.specs.Counted.{params, count, CountedExpr, CountedExprs, CountedMaybe, CountedItems, CountedTargets, CountedDeclared, CountedClean, CountedStmt, CountedStmts, CountedHandlers, CountedClauses}
-use Rattle.uc_place_laws.specs.Opened.{ArePaired, OpensOf, OpensNone, BuildsOf, BuildsNone, Spans, Declares, Builds, Before, OpenedStmt, OpenedStmts, OpenedHandlers, OpenedClauses}
+use Rattle.uc_place_laws.specs.Opened.{Spot, Var, Own, ArePaired, NextOf, NextNone, BuildsOf, BuildsNone, Spans, Declares, Builds, Before, OpenedStmt, OpenedStmts, OpenedHandlers, OpenedClauses}
 
--- what is known of an operand: nothing, or that it is the place of this variable
+-- what is known of an operand: nothing, or that it is the place of this variable or field
 pub data Mark : Type 0 where
   Any : Mark
-  At : ℕ → Mark
+  At : Spot → Mark
 
 -- the place of a variable in a frame of an execution
 abbrev pub variable : Exec → ℕ → ℕ → Value
 variable n f k = Place (Frame n f) (Slot k ∷ [])
 
-abbrev pub Meets : Exec → ℕ → Mark → Value → Type 0
-Meets n f Any v = Unit {0}
-Meets n f (At k) v = v ≡ variable n f k
+-- in an activation with this frame and this object
+abbrev pub Meets : Exec → ℕ → Value → Mark → Value → Type 0
+Meets n f this Any v = Unit {0}
+Meets n f this (At (Var k)) v = v ≡ variable n f k
+Meets n f this (At (Own s i)) v = v ≡ further (FieldAt s i) this
+
+-- of the object that opens its scope, or is a part, next where the value of a statement is to be dropped
+abbrev pub NextAt : (ℕ → Spot → Type 0) → List Todo → Type 0
+NextAt P (piece.DropNow ∷ (piece.Within line ∷ (piece.Rest ss ∷ todo))) = NextOf P ss
+NextAt P todo = Unit {0}
 
 -- of the newest operands, the first mark for the newest; of what lies below nothing is known
-abbrev pub Holds : Exec → ℕ → List Mark → List Value → Type 0
-Holds n f [] vs = Unit {0}
-Holds n f (m ∷ ms) vs = Meets n f m (top vs) × Holds n f ms (below vs)
+abbrev pub Holds : Exec → ℕ → Value → List Mark → List Value → Type 0
+Holds n f this [] vs = Unit {0}
+Holds n f this (m ∷ ms) vs = Meets n f this m (top vs) × Holds n f this ms (below vs)
 
 abbrev pub rest : List Mark → List Mark
 rest [] = []
@@ -43,24 +50,28 @@ abbrev pub anys : ℕ → List Mark → List Mark
 anys zero ms = ms
 anys (suc n) ms = anys n (Any ∷ ms)
 
--- the place of a variable is found
-abbrev pub Placed : Expr → (ℕ → Type 0) → Type 0
-Placed (src.Variable k) next = next k
+-- the place of a variable or of a field of the object at hand is found
+abbrev pub Placed : Expr → (Spot → Type 0) → Type 0
+Placed (src.Variable k) next = next (Var k)
+Placed (src.OfObject (src.OwnField s i)) next = next (Own s i)
 Placed e next = ⊥
 
--- whatever the destructor and the variable are
-abbrev pub Every : ℕ → ℕ → Type 0
-Every d k = Unit {0}
+-- whatever the destructor is, and whatever it destroys
+abbrev pub Every : ℕ → Spot → Type 0
+Every d x = Unit {0}
 
--- the constructor r is called at the variable m, which a destructor of its class destroys
-abbrev pub CalledAt : Program → ℕ → ℕ → ℕ → ℕ → Type 0
-CalledAt p r m d k = (m ≡ k) × ArePaired p r d
+abbrev pub AnyOne : ℕ → ℕ → Type 0
+AnyOne d k = Unit {0}
+
+-- the constructor r is called there, where a destructor of its class destroys
+abbrev pub CalledAt : Program → ℕ → Spot → ℕ → Spot → Type 0
+CalledAt p r y d x = (y ≡ x) × ArePaired p r d
 
 -- it is called at the place of which this is known
-abbrev pub CalledBy : Program → ℕ → List Mark → ℕ → ℕ → Type 0
-CalledBy p r [] d k = ⊥
-CalledBy p r (Any ∷ ms) d k = ⊥
-CalledBy p r (At m ∷ ms) d k = CalledAt p r m d k
+abbrev pub CalledBy : Program → ℕ → List Mark → ℕ → Spot → Type 0
+CalledBy p r [] d x = ⊥
+CalledBy p r (Any ∷ ms) d x = ⊥
+CalledBy p r (At y ∷ ms) d x = CalledAt p r y d x
 
 module _ (source : Source) where
   -- the marks behind a piece; behind one of statements nothing is known
@@ -118,7 +129,7 @@ module _ (p : Program) (source : Source) where
 
   -- a block of which nothing is done yet
   abbrev pub CodeBlock : Stmts → Type 0
-  CodeBlock ss = OpensNone ss × CodeStmts ss × BuildsNone ss
+  CodeBlock ss = NextNone ss × CodeStmts ss × BuildsNone ss
 
   abbrev pub CodeHandlers : Handlers → Type 0
   CodeHandlers hs = CountedHandlers source hs × OpenedHandlers p hs
@@ -170,13 +181,13 @@ module _ (p : Program) (source : Source) where
   LeftBy piece.IsFinishCoroutine left ok = ok
 
   abbrev mutual
-    -- a to-do list is in order before operands of which this is known: no scope of such an object opens next in it but behind what builds the object,
-    -- a statement, the expression in it, or the call of its constructor, with the variable below the arguments. Where the place of a variable is
-    -- found, it may be known or not
+    -- a to-do list is in order before operands of which this is known: no scope of such an object opens next in it, and none is a part next, but behind what
+    -- builds the object, a statement, the expression in it, or the call of its constructor, with its place below the arguments. Where the place of a variable
+    -- or of a field is found, it may be known or not
     pub Ok : List Mark → List Todo → Type 0
     Ok ms [] = Unit {0}
     Ok ms (piece.Eval e ∷ todo) = CountedExpr source e ×
-        (Ok (Any ∷ ms) todo ⊎ (AtDrop (Builds p e) todo ⊎ Placed e (λ k. Ok (At k ∷ ms) todo)))
+        (Ok (Any ∷ ms) todo ⊎ (AtDrop (Builds p e) todo ⊎ Placed e (λ x. Ok (At x ∷ ms) todo)))
     Ok ms (piece.CallOnNow r ∷ todo) = Ok (Any ∷ rests (suc (params source r)) ms) todo ⊎
         AtDrop (CalledBy p r (rests (params source r) ms)) todo
     Ok ms (piece.CallUnwrittenNow r ∷ todo) = Ok (Any ∷ rests (suc (params source r)) ms) todo ⊎
@@ -186,17 +197,17 @@ module _ (p : Program) (source : Source) where
     Ok ms (piece.Unwind ∷ todo) = Left todo
     Ok ms (x ∷ todo) = CodePiece x × Ok (after source x ms) todo
 
-    -- such a scope may open next
-    pub AtRest : (ℕ → ℕ → Type 0) → List Todo → Type 0
-    AtRest P (piece.Rest ss ∷ todo) = (OpensOf P ss × CodeStmts ss × BuildsNone ss) × Ok [] todo
+    -- such a scope may open next, and such an object be a part
+    pub AtRest : (ℕ → Spot → Type 0) → List Todo → Type 0
+    AtRest P (piece.Rest ss ∷ todo) = (NextOf P ss × CodeStmts ss × BuildsNone ss) × Ok [] todo
     AtRest P todo = ⊥
 
     -- such an object may be built next
     pub AtBuild : (ℕ → ℕ → Type 0) → List Todo → Type 0
-    AtBuild P (piece.Rest ss ∷ todo) = (OpensNone ss × CodeStmts ss × BuildsOf P ss) × Ok [] todo
+    AtBuild P (piece.Rest ss ∷ todo) = (NextNone ss × CodeStmts ss × BuildsOf P ss) × Ok [] todo
     AtBuild P todo = ⊥
 
-    pub AtDrop : (ℕ → ℕ → Type 0) → List Todo → Type 0
+    pub AtDrop : (ℕ → Spot → Type 0) → List Todo → Type 0
     AtDrop P (piece.DropNow ∷ (piece.Within line ∷ todo)) = AtRest P todo
     AtDrop P todo = ⊥
 
@@ -216,7 +227,7 @@ module _ (p : Program) (source : Source) where
   abbrev pub OnWay : List Todo → Type 0
   OnWay (piece.Variables (x ∷ []) ∷ (piece.Within line ∷ todo)) = (x.value ≡ None) × AtBuild (λ d k. (x.cell ≡ k) × Spans p d x.cells) todo
   OnWay (piece.ClearNow k n ∷ (piece.Variables [] ∷ (piece.Within line ∷ todo))) = AtBuild (λ d m. (k ≡ m) × Spans p d n) todo
-  OnWay (piece.Variables [] ∷ (piece.Within line ∷ todo)) = AtBuild Every todo
-  OnWay (piece.Within line ∷ todo) = AtBuild Every todo
-  OnWay (piece.Rest ss ∷ todo) = AtBuild Every (piece.Rest ss ∷ todo)
+  OnWay (piece.Variables [] ∷ (piece.Within line ∷ todo)) = AtBuild AnyOne todo
+  OnWay (piece.Within line ∷ todo) = AtBuild AnyOne todo
+  OnWay (piece.Rest ss ∷ todo) = AtBuild AnyOne (piece.Rest ss ∷ todo)
   OnWay todo = ⊥

@@ -1,4 +1,4 @@
--- Tasks in which each scope of an object that is a variable opens behind the call of its constructor.
+-- Tasks in which each scope of an object that is a variable opens behind the call of its constructor, and each object that is a field becomes a part there.
 use Rattle.std.specs.Prelude.{◌≡◌, ℕ, ◌⊎◌, true, List, [], ◌∷◌, Option, length}
 use Rattle.uc_tree.specs.Programs.{Program}
 use Rattle.uc_tree.specs.Source.{Source}
@@ -7,28 +7,38 @@ use Rattle.uc_entry.specs.declared.request.Request.TheVariants as ask
 use Rattle.uc_machine.specs.declared.exec.Exec.{Exec}
 use Rattle.uc_machine.specs.declared.exec.Home.{Home}
 use Rattle.uc_machine.specs.Pieces as piece
-use Rattle.uc_machine.specs.Pieces.{Todo, Active, State, Members, Step, Goes, Ticks, Asks}
+use Rattle.uc_machine.specs.Pieces.{Value, Todo, Active, State, Members, Step, Goes, Ticks, Asks}
 use Rattle.uc_machine.specs.Raising.{arrives}
 use Rattle.uc_answer_laws.specs.Suiting.{Form, JustGo, form_of_request}
 use Rattle.uc_state_laws.specs.Marked.{operands}
 use Rattle.uc_place_laws.specs.OlderResting.{AllWait, NamedMembers, NamedEnv}
-use Rattle.uc_place_laws.specs.Opened.{OpensNone, BuildsOf, BuildsNone, Spans}
-use Rattle.uc_place_laws.specs.Called.{Mark, Holds, anys, Every, Ok, AtDrop, Stands, OnWay}
+use Rattle.uc_place_laws.specs.Opened.{OpensNone, PartNone, NextNone, BuildsOf, BuildsNone, Spans}
+use Rattle.uc_place_laws.specs.Called.{Mark, At, Meets, NextAt, Holds, anys, Every, Ok, AtDrop, Stands, OnWay}
+
+-- where the scope of an object opens next for the first of these that wait, or it is a part next, the object at hand of who is called lies there
+abbrev pub Seated : Exec → List Active → Value → Type 0
+Seated n [] v = Unit {0}
+Seated n (b ∷ older) v = NextAt (λ d x. Meets n b.frame b.this (At x) v) b.control
+
+-- so it is of all these activations
+abbrev pub AllSeated : Exec → List Active → Type 0
+AllSeated n [] = Unit {0}
+AllSeated n (a ∷ older) = Seated n older a.this × AllSeated n older
 
 module _ (p : Program) (source : Source) where
   -- an activation of the execution n that is to find so many operands in front of its own
   pub record Finds (many : ℕ) (n : Exec) (a : Active) : Type 0 where
     pub marks : List Mark
-    pub holds : Holds n a.frame marks a.operands
+    pub holds : Holds n a.frame a.this marks a.operands
     pub ok : Ok p source (anys many marks) a.control
 
   -- one that is to go on
   abbrev pub Runs : Exec → List Active → Active → Type 0
-  Runs n older a = Finds 0 n a
+  Runs n older a = Finds 0 n a × Seated n older a.this
 
-  -- one that waits for another, which may be a constructor of the object whose scope opens next
+  -- one that waits for another, which may be a constructor of the object whose scope opens next, or which is a part next
   abbrev pub Waits : Exec → List Active → Active → Type 0
-  Waits n older a = Finds 1 n a ⊎ AtDrop p source Every a.control
+  Waits n older a = (Finds 1 n a ⊎ AtDrop p source Every a.control) × Seated n older a.this
 
   -- who runs may stand before such a scope, or be on the way from a declaration to what builds the object
   abbrev pub RunsNow : Exec → Active → Type 0
@@ -39,6 +49,7 @@ module _ (p : Program) (source : Source) where
 
   pub record CalledState (s : State) : Type 0 where
     pub run : RunsNow s.env.exec s.run
+    pub seat : Seated s.env.exec s.callers s.run.this
     pub callers : AllWait Runs Waits s.env.exec s.callers
     pub env : NamedEnv Runs Waits s.env
 
@@ -55,6 +66,7 @@ module _ (p : Program) (source : Source) where
 
   pub record CalledAsk (r : Request) (s : State) : Type 0 where
     pub run : FindsBehind r s.env.exec s.run
+    pub seat : Seated s.env.exec s.callers s.run.this
     pub callers : AllWait Runs Waits s.env.exec s.callers
     pub env : NamedEnv Runs Waits s.env
 
@@ -93,6 +105,36 @@ abbrev pub StepJoins : State → Step → Type 0
 StepJoins s (Goes u) = Joins s u.run.control
 StepJoins s (Ticks u) = Joins s u.run.control
 StepJoins s (Asks r u) = AskJoins s r u
+
+-- so it is of such an object that is a part next
+abbrev pub PartJoins : State → List Todo → Type 0
+PartJoins s (piece.Rest ss ∷ todo) = PartNone ss ⊎
+    ((line : ℕ) × (s.run.control ≡ piece.Within line ∷ (piece.Rest ss ∷ todo)))
+PartJoins s (piece.Within line ∷ (piece.Rest ss ∷ todo)) = PartNone ss ⊎
+    (s.run.control ≡ piece.DropNow ∷ (piece.Within line ∷ (piece.Rest ss ∷ todo)))
+PartJoins s (piece.DropNow ∷ (piece.Within line ∷ (piece.Rest ss ∷ todo))) = PartNone ss ⊎
+    Ends s s.run.control
+PartJoins s todo = Unit {0}
+
+abbrev pub AskPartJoins : State → Request → State → Type 0
+AskPartJoins s ask.End u = Unit {0}
+AskPartJoins s (ask.Fault f) u = Unit {0}
+AskPartJoins s r u = PartJoins s u.run.control
+
+abbrev pub StepPartJoins : State → Step → Type 0
+StepPartJoins s (Goes u) = PartJoins s u.run.control
+StepPartJoins s (Ticks u) = PartJoins s u.run.control
+StepPartJoins s (Asks r u) = AskPartJoins s r u
+
+-- so it is of both
+abbrev pub NextJoins : State → List Todo → Type 0
+NextJoins s (piece.Rest ss ∷ todo) = NextNone ss ⊎
+    ((line : ℕ) × (s.run.control ≡ piece.Within line ∷ (piece.Rest ss ∷ todo)))
+NextJoins s (piece.Within line ∷ (piece.Rest ss ∷ todo)) = NextNone ss ⊎
+    (s.run.control ≡ piece.DropNow ∷ (piece.Within line ∷ (piece.Rest ss ∷ todo)))
+NextJoins s (piece.DropNow ∷ (piece.Within line ∷ (piece.Rest ss ∷ todo))) = NextNone ss ⊎
+    Ends s s.run.control
+NextJoins s todo = Unit {0}
 
 -- such an object is built next only where the cells of its variable have just started anew, and nothing was done since
 abbrev pub Follows : Program → State → List Todo → Type 0

@@ -16,4 +16,5 @@ pub mod OpeningLaws
 pub mod Calling
 pub mod OpeningRuns
 pub mod Sparing
+pub mod Seating
 pub mod Addresses

@@ -1,13 +1,13 @@
 -- Code in which the scope of an object that is a variable, and no mutex object, opens right behind the statement that calls a constructor of its
--- class at that variable.
-use Rattle.std.specs.Prelude.{◌≡◌, ℕ, false, List, [], ◌∷◌, Option, Some, None, slice_get}
+-- class at that variable, and such an object that is a field of the object at hand is a part of it right behind the statement that calls one there.
+use Rattle.std.specs.Prelude.{◌≡◌, ℕ, false, [], ◌∷◌, Option, Some, None, slice_get}
 use Rattle.uc_tree.specs.declared.kinds.Base.{Base}
 use Rattle.uc_tree.specs.declared.kinds.Role.{Role}
 use Rattle.uc_tree.specs.declared.kinds.Role.TheVariants as role
 use Rattle.uc_tree.specs.Cells.{declared_cells}
 use Rattle.uc_tree.specs.Objects.{APlain, making, written_at, unwritten_number}
 use Rattle.uc_tree.specs.Programs.{Program}
-use Rattle.uc_tree.specs.Source.{Expr, Variable, OfObject, CallOn, CallUnwritten, CleanUp, Destroys, Stmt, Stmts, Block, Whole, Evaluate, Declare, If, Loop, OfEvents, OfTasks, Nil, Then, Scoped, Built, EventStmt, Try, Enable, Disable, TaskStmt, Accept, Handlers, NoHandlers, MoreHandlers, Clauses, NoClauses, Otherwise, MoreClauses, Routine, Source}
+use Rattle.uc_tree.specs.Source.{Shape, Expr, Variable, OfObject, OwnField, CallOn, CallUnwritten, CleanUp, Destroys, Stmt, Stmts, Block, Whole, Evaluate, Declare, If, Loop, OfEvents, OfTasks, Nil, Then, Scoped, Built, EventStmt, Try, Enable, Disable, TaskStmt, Accept, Handlers, NoHandlers, MoreHandlers, Clauses, NoClauses, Otherwise, MoreClauses, Routine, Source}
 use Rattle.uc_tree.specs.Statements.{Declarator}
 use Rattle.uc_resolve.specs.Resolve.{length_of}
 use Rattle.uc_state_laws.specs.Layout.{AreNoReferences}
@@ -25,10 +25,17 @@ pub record ArePaired (p : Program) (r d : ℕ) : Type 0 where
   pub builds : r ≡ role_number p class role.Constructor (written_at p class role.Constructor)
   pub ends : d ≡ role_number p class role.Destructor (written_at p class role.Destructor)
 
--- what an expression calls at a variable: the routine, and the first cell of the variable
-abbrev pub CallsAt : (ℕ → ℕ → Type 0) → Expr → Type 0
-CallsAt P (OfObject (CallOn r (Variable k) args)) = P r k
-CallsAt P (OfObject (CallUnwritten r (Variable k))) = P r k
+-- where an object is built by itself: at a variable, by its first cell, or at a field of the object at hand
+pub data Spot : Type 0 where
+  Var : ℕ → Spot
+  Own : Shape → ℕ → Spot
+
+-- what an expression calls there: the routine, and where
+abbrev pub CallsAt : (ℕ → Spot → Type 0) → Expr → Type 0
+CallsAt P (OfObject (CallOn r (Variable k) args)) = P r (Var k)
+CallsAt P (OfObject (CallOn r (OfObject (OwnField s i)) args)) = P r (Own s i)
+CallsAt P (OfObject (CallUnwritten r (Variable k))) = P r (Var k)
+CallsAt P (OfObject (CallUnwritten r (OfObject (OwnField s i)))) = P r (Own s i)
 CallsAt P e = ⊥
 
 -- so is it of what a clean-up calls there
@@ -45,6 +52,29 @@ OpensOf P ss = Unit {0}
 -- no such scope opens next
 abbrev pub OpensNone : Stmts → Type 0
 OpensNone ss = OpensOf (λ d k. ⊥) ss
+
+-- so is it of what a clean-up calls at a field of the object at hand, and of the object that is a part of that from there on
+abbrev pub OfPart : (ℕ → Shape → ℕ → Type 0) → CleanUp → Type 0
+OfPart P (Destroys (OfObject (CallOn d (OfObject (OwnField s i)) args))) = P d s i
+OfPart P (Destroys (OfObject (CallUnwritten d (OfObject (OwnField s i))))) = P d s i
+OfPart P c = Unit {0}
+
+abbrev pub PartOf : (ℕ → Shape → ℕ → Type 0) → Stmts → Type 0
+PartOf P (Built c rest) = OfPart P c
+PartOf P ss = Unit {0}
+
+-- no such object is
+abbrev pub PartNone : Stmts → Type 0
+PartNone ss = PartOf (λ d s i. ⊥) ss
+
+-- so is it of the one or of the other
+abbrev pub NextOf : (ℕ → Spot → Type 0) → Stmts → Type 0
+NextOf P (Scoped c rest) = OfPlain (λ d k. P d (Var k)) c
+NextOf P (Built c rest) = OfPart (λ d s i. P d (Own s i)) c
+NextOf P ss = Unit {0}
+
+abbrev pub NextNone : Stmts → Type 0
+NextNone ss = NextOf (λ d x. ⊥) ss
 
 -- so is it of the object that the next statement builds, if its scope opens right behind that
 abbrev pub BuildsOf : (ℕ → ℕ → Type 0) → Stmts → Type 0
@@ -72,20 +102,21 @@ Declares p (Declare line (x ∷ [])) d k = (x.cell ≡ k) × (x.value ≡ None) 
 Declares p a d k = ⊥
 
 module _ (p : Program) where
-  -- an expression calls a constructor at a variable which a destructor of its class destroys
-  abbrev pub Builds : Expr → ℕ → ℕ → Type 0
-  Builds e d k = CallsAt (λ r m. (m ≡ k) × ArePaired p r d) e
+  -- an expression calls a constructor where a destructor of its class destroys
+  abbrev pub Builds : Expr → ℕ → Spot → Type 0
+  Builds e d x = CallsAt (λ r y. (y ≡ x) × ArePaired p r d) e
 
   -- a statement does
-  abbrev pub Before : Stmt → ℕ → ℕ → Type 0
-  Before (Evaluate line e) d k = Builds e d k
-  Before a d k = ⊥
+  abbrev pub Before : Stmt → ℕ → Spot → Type 0
+  Before (Evaluate line e) d x = Builds e d x
+  Before a d x = ⊥
 
-  -- each scope of such an object stands behind a statement that does, and that behind one that declares its variable
+  -- each scope of such an object stands behind a statement that does, and that behind one that declares its variable; and each such part stands behind one
+  -- that does
   abbrev mutual
     pub OpenedStmt : Stmt → Type 0
-    OpenedStmt (Block line body) = OpensNone body × OpenedStmts body × BuildsNone body
-    OpenedStmt (Whole line body) = OpensNone body × OpenedStmts body × BuildsNone body
+    OpenedStmt (Block line body) = NextNone body × OpenedStmts body × BuildsNone body
+    OpenedStmt (Whole line body) = NextNone body × OpenedStmts body × BuildsNone body
     OpenedStmt (If line e a b) = OpenedStmt a × OpenedStmt b
     OpenedStmt (Loop line order e step b) = OpenedStmt b
     OpenedStmt (OfEvents a) = OpenedEvent a
@@ -94,19 +125,19 @@ module _ (p : Program) where
 
     pub OpenedStmts : Stmts → Type 0
     OpenedStmts Nil = Unit {0}
-    OpenedStmts (Then a rest) = OpenedStmt a × OpensOf (Before a) rest × OpenedStmts rest × BuildsOf (Declares p a) rest
-    OpenedStmts (Scoped c rest) = OpensNone rest × OpenedStmts rest × BuildsNone rest
-    OpenedStmts (Built c rest) = OpensNone rest × OpenedStmts rest × BuildsNone rest
+    OpenedStmts (Then a rest) = OpenedStmt a × NextOf (Before a) rest × OpenedStmts rest × BuildsOf (Declares p a) rest
+    OpenedStmts (Scoped c rest) = NextNone rest × OpenedStmts rest × BuildsNone rest
+    OpenedStmts (Built c rest) = NextNone rest × OpenedStmts rest × BuildsNone rest
 
     pub OpenedEvent : EventStmt → Type 0
-    OpenedEvent (Try line body hs) = (OpensNone body × OpenedStmts body × BuildsNone body) × OpenedHandlers hs
+    OpenedEvent (Try line body hs) = (NextNone body × OpenedStmts body × BuildsNone body) × OpenedHandlers hs
     OpenedEvent (Enable line events cell a) = OpenedStmt a
     OpenedEvent (Disable line events cell a) = OpenedStmt a
     OpenedEvent a = Unit {0}
 
     pub OpenedHandlers : Handlers → Type 0
     OpenedHandlers NoHandlers = Unit {0}
-    OpenedHandlers (MoreHandlers resumes event cell line body rest) = (OpensNone body × OpenedStmts body × BuildsNone body) × OpenedHandlers rest
+    OpenedHandlers (MoreHandlers resumes event cell line body rest) = (NextNone body × OpenedStmts body × BuildsNone body) × OpenedHandlers rest
 
     pub OpenedTask : TaskStmt → Type 0
     OpenedTask (Accept line site cs) = OpenedClauses cs
@@ -119,7 +150,7 @@ module _ (p : Program) where
 
   abbrev pub OpenedRoutine : Option Routine → Type 0
   OpenedRoutine None = Unit {0}
-  OpenedRoutine (Some r) = OpensNone r.body × OpenedStmts r.body × BuildsNone r.body
+  OpenedRoutine (Some r) = NextNone r.body × OpenedStmts r.body × BuildsNone r.body
 
   -- the routines of a source
   abbrev pub OpenedSource : Source → Type 0

@@ -2,6 +2,7 @@
 
 ghost use Rattle.uc_place_laws.specs.AsideLaws.{LawPuts, LawSited, LawSteps};
 ghost use Rattle.uc_place_laws.specs.AsideRuns.{LawRuns};
+ghost use Rattle.uc_place_laws.specs.Seating.{LawReaches, LawSeating, LawSeats};
 ghost use Rattle.uc_place_laws.specs.Sparing.{LawSpares, LawSparing};
 
 /// In the source of every program of the grammar that breaks no rule an object is built where its
@@ -45,4 +46,24 @@ pub fn law_spares()
 /// fits.
 pub fn law_sparing()
     ensures { LawSparing }
+{}
+
+/// Where what is bound lies aside, it is a variable of who runs, or lies in the object at hand, which is so
+/// of who called that, and so on, down to a variable behind all objects for whose scopes older activations
+/// of its frame wait; or that is in no frame. So is the object at hand that gets an execution.
+pub fn law_seats()
+    ensures { LawSeats }
+{}
+
+/// So it is in each run of a program of the grammar that breaks no rule, in each state of each ride, and on
+/// the way to each state to which whoever runs comes before it asks, as long as all that was asked before
+/// fits.
+pub fn law_seating()
+    ensures { LawSeating }
+{}
+
+/// So what is bound leaves objects alone for whose scopes older activations of its frame wait, but those in
+/// which it lies: it lies behind each other one.
+pub fn law_reaches()
+    ensures { LawReaches }
 {}

@@ -5,7 +5,7 @@ ghost use Rattle.uc_place_laws.specs.OpeningRuns.{LawRuns};
 
 /// In the source of every program the scope of an object that is a variable, and no mutex object, stands
 /// right behind the statement that calls a constructor at that variable: the one of the class whose
-/// destructor ends the scope.
+/// destructor ends the scope. So it is of a field of the object at hand that is a part of it.
 pub fn law_opened()
     ensures { LawOpened }
 {}
@@ -19,8 +19,10 @@ pub fn law_steps()
 {}
 
 /// In each such state nothing but a constructor of the class is called where the scope of an object opens
-/// next, and that at its variable. Behind each step such a scope opens next only once the value of the
-/// statement before it is dropped, behind the end of the activation that was called.
+/// next, and that at its variable; and where a field is a part next, that at the field. Behind each step
+/// such a scope opens next, and a field is a part, only once the value of the statement before it is
+/// dropped, behind the end of the activation that was called. Where one waits for such an object, the
+/// activation above it has that at hand.
 pub fn law_called()
     ensures { LawCalled }
 {}

@@ -7,6 +7,7 @@ pub mod VariableMarks
 pub mod SpotRooms
 pub mod HandlersFrom
 pub mod Searches
+pub mod Arrays
 pub mod Seats
 pub mod PuttingTodos
 pub mod Steps
@@ -24,3 +25,4 @@ pub mod Worlds
 pub mod PuttingRuns
 pub mod OwnPlaces
 pub mod LoneObjects
+pub mod ApartElements

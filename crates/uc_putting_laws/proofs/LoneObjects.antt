@@ -71,34 +71,34 @@ module _ (g : Setting) where
     IsFree v = IsBuilt (s.run ∷ s.callers) (piece.object_in v) → ⊥
 
     module _ (l : Left g (here s) made s.run.control) where
-      free_site : (v : Value) (y : Site) → HomedAt g.few (here s) y v → IsIn made y → IsFree v
+      free_site : (v : Value) (y : Site) → HomedAt g.few (here s) s.run.elements y v → IsIn made y → IsFree v
       free_site v y h i m =
           let o : ℕ = h.2.number in
-          let u : LiesUnder (spot_at g.few (here s) (site_spot y)) (g.few.home o) = subst (LiesUnder (spot_at g.few (here s) (site_spot y))) (sym h.2.home) (stands_under g.few (here s) y h.0 h.1) in
+          let u : LiesUnder (spot_at g.few (here s) (site_spot y)) (g.few.home o) = subst (LiesUnder (spot_at g.few (here s) (site_spot y))) (sym h.2.home) (stands_under g.few (here s) s.run.elements y h.0 h.1) in
           spot_free g s.env.exec s.run s.callers made this l (site_spot y) i o (subst (λ w. IsBuilt (s.run ∷ s.callers) (piece.object_in w)) h.2.object m) (there u)
 
     -- an object that is at home at a site
-    at_site : (v : Value) (todo : List Todo) (y : Site) → HomedAt g.few (here s) y v → IsIn made y → SeatAt g (here s) made todo y → IsAlone v todo
+    at_site : (v : Value) (todo : List Todo) (y : Site) → HomedAt g.few (here s) s.run.elements y v → IsIn made y → SeatAt g (here s) made todo y → IsAlone v todo
     at_site v todo y h i l =
         let o : ℕ = h.2.number in
-        let u : LiesUnder (spot_at g.few (here s) (site_spot y)) (g.few.home o) = subst (LiesUnder (spot_at g.few (here s) (site_spot y))) (sym h.2.home) (stands_under g.few (here s) y h.0 h.1) in
+        let u : LiesUnder (spot_at g.few (here s) (site_spot y)) (g.few.home o) = subst (LiesUnder (spot_at g.few (here s) (site_spot y))) (sym h.2.home) (stands_under g.few (here s) s.run.elements y h.0 h.1) in
         let below : BelongsBelow g.few s.env.exec (suc s.run.frame) (g.few.home o) = under_spot g.few (here s) made this.own (suc s.run.frame) (omega arith) (site_spot y) i (g.few.home o) u in
         subst (λ w. IsAlone w todo) (sym h.2.object) (below_own g.few s.env.exec (suc s.run.frame) (g.few.home o) below, (λ c m. l.0 (g.few.home o) c (there u) m))
 
     -- what is called next to destroy its object finds it so
-    called : (ms : List Mark) → Holds g.few (here s) ms s.run.operands → Left g (here s) made s.run.control → (r : ℕ) (todo : List Todo) → CallFits g (here s) made r ms todo → is_ending g.source r ≡ true → IsAlone (top (drop (params g.source r) s.run.operands)) todo × IsFree (top (drop (params g.source r) s.run.operands))
+    called : (ms : List Mark) → Holds g.few (here s) s.run.elements ms s.run.operands → Left g (here s) made s.run.control → (r : ℕ) (todo : List Todo) → CallFits g (here s) made r ms todo → is_ending g.source r ≡ true → IsAlone (top (drop (params g.source r) s.run.operands)) todo × IsFree (top (drop (params g.source r) s.run.operands))
     called ms holds l r todo (inl f) e =
         absurd (ends_special (g.table.routine r).this (slice_get g.source.routines r) (subst (λ (b : Bool). CallingRoutine g.table g.source g.special b (g.table.routine r).this (slice_get g.source.routines r)) f (calling.routines r)) e)
     called ms holds l r todo (inr (inl f)) e = absurd (opening_ends (slice_get g.source.routines r) f.0 e)
     called ms holds l r todo (inr (inr f)) e =
-        let h = home_of g.few (here s) (rests (params g.source r) ms) (drop (params g.source r) s.run.operands) (holds_drop g.few (here s) (params g.source r) ms s.run.operands holds) (λ x. IsIn made x × SeatAt g (here s) made todo x × OfObjects x) f in
+        let h = home_of g.few (here s) s.run.elements (rests (params g.source r) ms) (drop (params g.source r) s.run.operands) (holds_drop g.few (here s) s.run.elements (params g.source r) ms s.run.operands holds) (λ x. IsIn made x × SeatAt g (here s) made todo x × OfObjects x) f in
         (at_site (top (drop (params g.source r) s.run.operands)) todo h.0 h.1 h.2.0 h.2.1, free_site l (top (drop (params g.source r) s.run.operands)) h.0 h.1 h.2.0)
 
-    entered : (ms : List Mark) → Holds g.few (here s) ms s.run.operands → Left g (here s) made s.run.control → (r k : ℕ) (todo : List Todo) → k ≡ r → CallFits g (here s) made k ms todo → is_ending g.source r ≡ true → IsAlone (top (drop (routine_of g.source r).params s.run.operands)) todo × IsFree (top (drop (routine_of g.source r).params s.run.operands))
+    entered : (ms : List Mark) → Holds g.few (here s) s.run.elements ms s.run.operands → Left g (here s) made s.run.control → (r k : ℕ) (todo : List Todo) → k ≡ r → CallFits g (here s) made k ms todo → is_ending g.source r ≡ true → IsAlone (top (drop (routine_of g.source r).params s.run.operands)) todo × IsFree (top (drop (routine_of g.source r).params s.run.operands))
     entered ms holds l r k todo q f e =
         subst (λ (n : ℕ). IsAlone (top (drop n s.run.operands)) todo × IsFree (top (drop n s.run.operands))) (params_same (slice_get g.source.routines r)) (called ms holds l r todo (subst (λ (x : ℕ). CallFits g (here s) made x ms todo) q f) e)
 
-    lone : (ms : List Mark) → Holds g.few (here s) ms s.run.operands → Left g (here s) made s.run.control → (l : List Todo) → Ok g (here s) made ms l → LoneObjectAt g.table g.few g.source l s
+    lone : (ms : List Mark) → Holds g.few (here s) s.run.elements ms s.run.operands → Left g (here s) made s.run.control → (l : List Todo) → Ok g (here s) made ms l → LoneObjectAt g.table g.few g.source l s
     lone ms holds n (piece.EnterNow m r ∷ (piece.CallOnNow k ∷ todo)) h = λ e. entered ms holds n r k todo h.0 h.1.0 e
     lone ms holds n (piece.EnterNow m r ∷ (piece.CallUnwrittenNow k ∷ todo)) h = λ e. entered ms holds n r k todo h.0 h.1.0 e
     lone ms holds n (piece.EnterNow m r ∷ todo) h = absurd h.0

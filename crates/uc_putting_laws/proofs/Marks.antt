@@ -20,41 +20,44 @@ use Rattle.uc_putting_laws.specs.CleanedSpots.{Site, One, Each, Under, site_spot
 use Rattle.uc_putting_laws.specs.ObjectsAtHand.{LiesUnder, same_place, further_on, BelongsBelow, in_frame}
 use Rattle.uc_putting_laws.specs.Seats.{IsSeated}
 use Rattle.uc_putting_laws.specs.Calling.{opens_object, PlainExpr, PlaceAt, Binds, CallsAt, MakesAt, MakesEach, EndsAt, EndsEach, EndsNumber, Evaluates, FillsBy, SweepsBy, CleansBy, RaisesBy, CallingStmt, CallingEvent, CallingTask, Opening}
-use Rattle.uc_putting_laws.specs.Putting.{Setting, Around, around, Mark, Any, At, Homed, rest, rests, anys, FirstUnder, FirstAt, FirstHome, Located, Enters, Loads, spot_at, StandsAt, HomedAt, Holds, after, made_marks, Ok, Left, Runs, Waits}
+use Rattle.uc_putting_laws.specs.Putting.{Setting, Around, around, Mark, Any, At, Homed, Counter, rest, rests, anys, FirstUnder, FirstAt, FirstHome, FirstCounter, Located, Enters, Loads, spot_at, StandsAt, HomedAt, Holds, after, made_marks, Ok, Left, Runs, Waits}
 use Rattle.uc_putting_laws.proofs.ObjectsWithin.{below_more, under_below}
 
 -- operands
 
-module _ (few : Few) (A : Around) where
-  pub holds_below : (ms : List Mark) (vs : List Value) → Holds few A ms vs → Holds few A (rest ms) (below vs)
+module _ (few : Few) (A : Around) (many : ℕ) where
+  pub holds_below : (ms : List Mark) (vs : List Value) → Holds few A many ms vs → Holds few A many (rest ms) (below vs)
   holds_below [] vs h = tt
   holds_below (m ∷ ms) vs h = h.1
 
-  pub holds_spread : (ms : List Mark) (vs : List Value) → Holds few A ms vs → Holds few A ms (top vs ∷ below vs)
+  pub holds_spread : (ms : List Mark) (vs : List Value) → Holds few A many ms vs → Holds few A many ms (top vs ∷ below vs)
   holds_spread [] vs h = tt
   holds_spread (m ∷ ms) vs h = h
 
   -- of the first, where it is the place of a spot, or the object that is at home there
-  pub at_of : (ms : List Mark) (vs : List Value) → Holds few A ms vs → (F : Site → Type 0) → FirstAt ms F → (x : Site) × StandsAt few A x (top vs) × F x
+  pub at_of : (ms : List Mark) (vs : List Value) → Holds few A many ms vs → (F : Site → Type 0) → FirstAt ms F → (x : Site) × StandsAt few A many x (top vs) × F x
   at_of (At x ∷ ms) vs h F k = (x, h.0, k)
   at_of [] vs h F k = absurd k
   at_of (Any ∷ ms) vs h F k = absurd k
   at_of (Homed p ∷ ms) vs h F k = absurd k
+  at_of (Counter ∷ ms) vs h F k = absurd k
 
   -- and where it lies at a spot or further, one of so many
-  pub under_of : (ms : List Mark) (vs : List Value) → Holds few A ms vs → (F : ℕ → Spot → Type 0) → FirstUnder ms F → (n : ℕ) × (p : Spot) × ((0 < n) × LiesUnder (spot_at few A p) (top vs)) × F n p
+  pub under_of : (ms : List Mark) (vs : List Value) → Holds few A many ms vs → (F : ℕ → Spot → Type 0) → FirstUnder ms F → (n : ℕ) × (p : Spot) × ((0 < n) × LiesUnder (spot_at few A p) (top vs)) × F n p
   under_of (At (Under o n p) ∷ ms) vs h F k = (n, p, h.0, k)
   under_of (At (One p) ∷ ms) vs h F k = absurd k
   under_of (At (Each n p) ∷ ms) vs h F k = absurd k
   under_of [] vs h F k = absurd k
   under_of (Any ∷ ms) vs h F k = absurd k
   under_of (Homed p ∷ ms) vs h F k = absurd k
+  under_of (Counter ∷ ms) vs h F k = absurd k
 
-  pub home_of : (ms : List Mark) (vs : List Value) → Holds few A ms vs → (F : Site → Type 0) → FirstHome ms F → (x : Site) × HomedAt few A x (top vs) × F x
+  pub home_of : (ms : List Mark) (vs : List Value) → Holds few A many ms vs → (F : Site → Type 0) → FirstHome ms F → (x : Site) × HomedAt few A many x (top vs) × F x
   home_of (Homed x ∷ ms) vs h F k = (x, h.0, k)
   home_of [] vs h F k = absurd k
   home_of (Any ∷ ms) vs h F k = absurd k
   home_of (At p ∷ ms) vs h F k = absurd k
+  home_of (Counter ∷ ms) vs h F k = absurd k
 
 drop_below : (n : ℕ) (vs : List Value) → drop (suc n) vs ≡ below (drop n vs)
 drop_below zero [] = refl
@@ -62,18 +65,18 @@ drop_below zero (v ∷ vs) = refl
 drop_below (suc n) [] = refl
 drop_below (suc n) (v ∷ vs) = drop_below n vs
 
-module _ (few : Few) (A : Around) where
-  pub holds_drop : (k : ℕ) (ms : List Mark) (vs : List Value) → Holds few A ms vs → Holds few A (rests k ms) (drop k vs)
+module _ (few : Few) (A : Around) (many : ℕ) where
+  pub holds_drop : (k : ℕ) (ms : List Mark) (vs : List Value) → Holds few A many ms vs → Holds few A many (rests k ms) (drop k vs)
   holds_drop zero ms [] h = h
   holds_drop zero ms (v ∷ vs) h = h
   holds_drop (suc k) ms vs h =
-      subst (Holds few A (rest (rests k ms))) (sym (drop_below k vs)) (holds_below few A (rests k ms) (drop k vs) (holds_drop k ms vs h))
+      subst (Holds few A many (rest (rests k ms))) (sym (drop_below k vs)) (holds_below few A many (rests k ms) (drop k vs) (holds_drop k ms vs h))
 
   -- so many operands of which nothing is known
-  pub holds_anys : (k : ℕ) (ms : List Mark) (vs : List Value) → Holds few A ms (drop k vs) → Holds few A (anys k ms) vs
+  pub holds_anys : (k : ℕ) (ms : List Mark) (vs : List Value) → Holds few A many ms (drop k vs) → Holds few A many (anys k ms) vs
   holds_anys zero ms [] h = h
   holds_anys zero ms (v ∷ vs) h = h
-  holds_anys (suc k) ms vs h = holds_anys k (Any ∷ ms) vs (tt, subst (Holds few A ms) (drop_below k vs) h)
+  holds_anys (suc k) ms vs h = holds_anys k (Any ∷ ms) vs (tt, subst (Holds few A many ms) (drop_below k vs) h)
 
 pub rests_anys : (n : ℕ) (ms : List Mark) → rests n (anys n ms) ≡ ms
 rests_anys zero ms = refl
@@ -98,16 +101,16 @@ set_top (suc n) v (w ∷ vs) h = set_top n v vs h
 -- places
 
 -- what stands at a site lies at its spot, or further
-pub stands_under : (few : Few) (A : Around) (x : Site) (v : Value) → StandsAt few A x v → LiesUnder (spot_at few A (site_spot x)) v
-stands_under few A (One p) v e = subst (LiesUnder (spot_at few A p)) (sym e) same_place
-stands_under few A (Each n p) v e = subst (LiesUnder (spot_at few A p)) (sym e.2) (further_on (piece.At src.Binding e.0) same_place)
-stands_under few A (Under o n p) v e = e.1
+pub stands_under : (few : Few) (A : Around) (many : ℕ) (x : Site) (v : Value) → StandsAt few A many x v → LiesUnder (spot_at few A (site_spot x)) v
+stands_under few A many (One p) v e = subst (LiesUnder (spot_at few A p)) (sym e) same_place
+stands_under few A many (Each n p) v e = subst (LiesUnder (spot_at few A p)) (sym e.1) (further_on (piece.At src.Binding many) same_place)
+stands_under few A many (Under o n p) v e = e.1
 
 -- one of so many is there
-pub stands_some : (few : Few) (A : Around) (x : Site) (v : Value) → StandsAt few A x v → HasSome x
-stands_some few A (One p) v e = tt
-stands_some few A (Each n p) v e = let l = e.1 in omega (arith, l)
-stands_some few A (Under o n p) v e = e.0
+pub stands_some : (few : Few) (A : Around) (many : ℕ) (x : Site) (v : Value) → StandsAt few A many x v → HasSome x
+stands_some few A many (One p) v e = tt
+stands_some few A many (Each n p) v e = let l = e.0 in omega (arith, l)
+stands_some few A many (Under o n p) v e = e.0
 
 -- it is the execution's own, in a frame below the next one, where the object at hand is, if fields of that are named
 module _ (few : Few) (A : Around) (made : Reach) (own : made.builds ≡ true → BelongsBelow few A.exec A.frame A.this) (d : ℕ) (le : A.frame < d) where
@@ -123,18 +126,33 @@ module _ (few : Few) (A : Around) (made : Reach) (own : made.builds ≡ true →
 none_there : (few : Few) (n : Exec) (d : ℕ) → BelongsBelow few n d piece.Nothing → ⊥
 none_there few n d h = elim h [ ]
 
-pub site_there : (few : Few) (A : Around) (made : Reach) → (made.builds ≡ true → BelongsBelow few A.exec A.frame A.this) → (x : Site) → (vs : List Value) → IsIn made x → StandsAt few A x (top vs) → vs ≡ [] → ⊥
-site_there few A made own x vs i e q =
-    none_there few A.exec (suc A.frame) (subst (BelongsBelow few A.exec (suc A.frame)) (ap top q) (under_spot few A made own (suc A.frame) (omega arith) (site_spot x) i (top vs) (stands_under few A x (top vs) e)))
+pub site_there : (few : Few) (A : Around) (made : Reach) (many : ℕ) → (made.builds ≡ true → BelongsBelow few A.exec A.frame A.this) → (x : Site) → (vs : List Value) → IsIn made x → StandsAt few A many x (top vs) → vs ≡ [] → ⊥
+site_there few A made many own x vs i e q =
+    none_there few A.exec (suc A.frame) (subst (BelongsBelow few A.exec (suc A.frame)) (ap top q) (under_spot few A made own (suc A.frame) (omega arith) (site_spot x) i (top vs) (stands_under few A many x (top vs) e)))
 
--- an index that an array has
+-- an index that an array has; it is this number
 abbrev pub OfIndex : ℕ → Option ℕ → Type 0
 OfIndex n None = Unit {0}
 OfIndex n (Some i) = i < n
 
+abbrev pub IsIndex : ℕ → Option ℕ → Type 0
+IsIndex m None = Unit {0}
+IsIndex m (Some i) = i ≡ m
+
 pub index_below : (n : ℕ) (z : ℤ) → OfIndex n (piece.index_in n z)
 index_below n (pos i) = tested (OfIndex n) (nat_lt i n) (Some i) None (λ e. ltb-true i n e) tt
 index_below n (negsuc i) = tt
+
+pub index_is : (n m : ℕ) → IsIndex m (piece.index_in n (pos m))
+index_is n m = tested (IsIndex m) (nat_lt m n) (Some m) None (λ e. refl) tt
+
+-- the newest operand, where it is the number of the elements that stand
+pub counter_of : (few : Few) (A : Around) (many : ℕ) (ms : List Mark) (vs : List Value) → Holds few A many ms vs → FirstCounter ms → top vs ≡ piece.Number (pos many)
+counter_of few A many (Counter ∷ ms) vs h k = h.0
+counter_of few A many [] vs h k = absurd k
+counter_of few A many (Any ∷ ms) vs h k = absurd k
+counter_of few A many (At x ∷ ms) vs h k = absurd k
+counter_of few A many (Homed x ∷ ms) vs h k = absurd k
 
 -- behind what a routine does nothing is cleaned up but what its caller has to clean up
 module _ (t : Table) (few : Few) (n : Exec) where
@@ -298,11 +316,12 @@ module _ (g : Setting) (A : Around) (made : Reach) where
   first_at [] todo F next h = absurd h
   first_at (Any ∷ ns) todo F next h = absurd h
   first_at (Homed x ∷ ns) todo F next h = absurd h
+  first_at (Counter ∷ ns) todo F next h = absurd h
 
-  enters : (n : ℕ) (k : src.Shape) (x : Site) (todo : List Todo) (F : Site → Type 0) → ((x : Site) → F x → Left g A made todo) → Enters n k x F → Left g A made todo
-  enters n k (Under o m p) todo F next h = next (Under o n p) h
-  enters n src.Binding (One p) todo F next h = next (Each n p) h
-  enters n k x todo F next h = absurd h
+  enters : (C : Type 0) (n : ℕ) (k : src.Shape) (x : Site) (todo : List Todo) (F : Site → Type 0) → ((x : Site) → F x → Left g A made todo) → Enters C n k x F → Left g A made todo
+  enters C n k (Under o m p) todo F next h = next (Under o n p) h
+  enters C n src.Binding (One p) todo F next h = next (Each n p) h.1
+  enters C n k x todo F next h = absurd h
 
   pub left : (ms : List Mark) (todo : List Todo) → Ok g A made ms todo → Left g A made todo
   left ms [] h = tt
@@ -315,11 +334,12 @@ module _ (g : Setting) (A : Around) (made : Reach) where
   left ms (piece.Eval e ∷ todo) (n, inr (inr (inr (inr (inr (inr (inl h))))))) = loaded e todo ms (λ ns k. left ns todo k) h.1
   left ms (piece.Eval e ∷ todo) (n, inr (inr (inr (inr (inr (inr (inr (inl h)))))))) = left (Any ∷ ms) todo h.1
   left ms (piece.Eval e ∷ todo) (n, inr (inr (inr (inr (inr (inr (inr (inr (inl h))))))))) = left (Any ∷ ms) todo h.1
-  left ms (piece.Eval e ∷ todo) (n, inr (inr (inr (inr (inr (inr (inr (inr (inr h))))))))) = left (Any ∷ ms) todo h.1
+  left ms (piece.Eval e ∷ todo) (n, inr (inr (inr (inr (inr (inr (inr (inr (inr (inl h)))))))))) = left (Any ∷ ms) todo h.1
+  left ms (piece.Eval e ∷ todo) (n, inr (inr (inr (inr (inr (inr (inr (inr (inr (inr h)))))))))) = left (Counter ∷ ms) todo h.1
   left ms (piece.LoadNow ∷ todo) (inl h) = left (Any ∷ rest ms) todo h
   left ms (piece.LoadNow ∷ todo) (inr h) = first_at ms todo (λ x. Ok g A made (Homed x ∷ rest ms) todo) (λ x k. left (Homed x ∷ rest ms) todo k) h.1
   left ms (piece.ElementNow n s ∷ todo) (inl h) = left (Any ∷ rest (rest ms)) todo h
-  left ms (piece.ElementNow n s ∷ todo) (inr h) = first_at (rest ms) todo (λ x. Enters n s x (λ y. Ok g A made (At y ∷ rest (rest ms)) todo)) (λ x k. enters n s x todo (λ y. Ok g A made (At y ∷ rest (rest ms)) todo) (λ y l. left (At y ∷ rest (rest ms)) todo l) k) h
+  left ms (piece.ElementNow n s ∷ todo) (inr h) = first_at (rest ms) todo (λ x. Enters (FirstCounter ms) n s x (λ y. Ok g A made (At y ∷ rest (rest ms)) todo)) (λ x k. enters (FirstCounter ms) n s x todo (λ y. Ok g A made (At y ∷ rest (rest ms)) todo) (λ y l. left (At y ∷ rest (rest ms)) todo l) k) h
   left ms (piece.MakeNow c r ∷ todo) h = first_at (rests (params g.source r) ms) todo (λ x. IsIn made x × Ok g A made (made_marks g r (Homed x) ms) todo) (λ x k. left (made_marks g r (Homed x) ms) todo k.1) h
   left ms (piece.BindMadeNow c r ∷ todo) h = first_at (rests (params g.source r) (rest ms)) todo (λ x. IsIn made x × Ok g A made (made_marks g r (Homed x) (rest ms)) todo) (λ x k. left (made_marks g r (Homed x) (rest ms)) todo k.1) h
   left ms (piece.Exit w ∷ todo) h = h

@@ -26,12 +26,12 @@ use Rattle.uc_putting_laws.proofs.PuttingTodos as todos
 use Rattle.uc_putting_laws.proofs.Steps as steps
 use Rattle.uc_putting_laws.proofs.Steps.{here}
 
-module _ (g : Setting) (s : State) (callers : todos.W g s.env.exec s.callers) (env : todos.E g s.env) (made : Reach) (this : IsSeated g.table g.source g.special g.few made s.env.exec s.callers s.run.frame s.run.handles s.run.this) (ms : List Mark) (holds : Holds g.few (here s) ms s.run.operands) where
+module _ (g : Setting) (s : State) (callers : todos.W g s.env.exec s.callers) (env : todos.E g s.env) (made : Reach) (this : IsSeated g.table g.source g.special g.few made s.env.exec s.callers s.run.frame s.run.handles s.run.this) (ms : List Mark) (holds : Holds g.few (here s) s.run.elements ms s.run.operands) where
   abbrev O : List Mark → List Todo → Type 0
   O ns todo = Ok g (here s) made ns todo
 
   abbrev H : List Mark → List Value → Type 0
-  H ns vs = Holds g.few (here s) ns vs
+  H ns vs = Holds g.few (here s) s.run.elements ns vs
 
   one : H (rest ms) (below s.run.operands)
   one = steps.one g s callers env made this ms holds
@@ -63,19 +63,19 @@ module _ (g : Setting) (s : State) (callers : todos.W g s.env.exec s.callers) (e
   bound_under : (n : ℕ) (v : Value) → H (rests (suc n) (rest ms)) (below (drop n (slice_set (below s.run.operands) n v)))
   bound_under n v =
       let vs = below s.run.operands in
-      subst (H (rests (suc n) (rest ms))) (sym (marks.drop_one n (slice_set vs n v) ∙ drop_set n v vs)) (holds_drop g.few (here s) (suc n) (rest ms) vs one)
+      subst (H (rests (suc n) (rest ms))) (sym (marks.drop_one n (slice_set vs n v) ∙ drop_set n v vs)) (holds_drop g.few (here s) s.run.elements (suc n) (rest ms) vs one)
 
-  bound_at : (n : ℕ) (x : Site) → IsIn made x → StandsAt g.few (here s) x (top (drop n (below s.run.operands))) → IsHome g.few (top s.run.operands) (top (drop n (below s.run.operands))) → HomedAt g.few (here s) x (top (drop n (slice_set (below s.run.operands) n (top s.run.operands))))
+  bound_at : (n : ℕ) (x : Site) → IsIn made x → StandsAt g.few (here s) s.run.elements x (top (drop n (below s.run.operands))) → IsHome g.few (top s.run.operands) (top (drop n (below s.run.operands))) → HomedAt g.few (here s) s.run.elements x (top (drop n (slice_set (below s.run.operands) n (top s.run.operands))))
   bound_at n x i e f =
-      let there = set_top n (top s.run.operands) (below s.run.operands) (site_there g.few (here s) made this.own x (drop n (below s.run.operands)) i e) in
+      let there = set_top n (top s.run.operands) (below s.run.operands) (site_there g.few (here s) made s.run.elements this.own x (drop n (below s.run.operands)) i e) in
       (top (drop n (below s.run.operands)), e, subst (λ v. IsHome g.few v (top (drop n (below s.run.operands)))) (sym there) f)
 
   pub bind : (x : Option Routine) (todo : List Todo) → IsHome g.few (top s.run.operands) (top (drop (params_at x) (below s.run.operands))) → FirstAt (rests (params_at x) (rest ms)) (λ y. IsIn made y × O (anys (params_at x) (Homed y ∷ rests (suc (params_at x)) (rest ms))) todo) → PutStep g (monitors.bind_step x todo s)
   bind None todo f h = steps.ends g s callers env made this _ _
   bind (Some x) todo f h =
       let n = x.params in
-      let k = marks.at_of g.few (here s) (rests n (rest ms)) (drop n (below s.run.operands)) (holds_drop g.few (here s) n (rest ms) (below s.run.operands) one) (λ y. IsIn made y × O (anys n (Homed y ∷ rests (suc n) (rest ms))) todo) h in
-      steps.go_in g s callers env made this (anys n (Homed k.0 ∷ rests (suc n) (rest ms))) todo _ _ (holds_anys g.few (here s) n (Homed k.0 ∷ rests (suc n) (rest ms)) (slice_set (below s.run.operands) n (top s.run.operands)) (bound_at n k.0 k.2.0 k.1 f, bound_under n (top s.run.operands))) k.2.1 (steps.write g s callers env made this _ _)
+      let k = marks.at_of g.few (here s) s.run.elements (rests n (rest ms)) (drop n (below s.run.operands)) (holds_drop g.few (here s) s.run.elements n (rest ms) (below s.run.operands) one) (λ y. IsIn made y × O (anys n (Homed y ∷ rests (suc n) (rest ms))) todo) h in
+      steps.go_in g s callers env made this (anys n (Homed k.0 ∷ rests (suc n) (rest ms))) todo _ _ (holds_anys g.few (here s) s.run.elements n (Homed k.0 ∷ rests (suc n) (rest ms)) (slice_set (below s.run.operands) n (top s.run.operands)) (bound_at n k.0 k.2.0 k.1 f, bound_under n (top s.run.operands))) k.2.1 (steps.write g s callers env made this _ _)
 
   pub accept : (mask o site : ℕ) (todo : List Todo) (vs : List Value) → O [] todo → PutStep g (monitors.accept_by mask o site todo vs s)
   accept zero o site todo vs h = steps.anew g s callers env made this _ _ h

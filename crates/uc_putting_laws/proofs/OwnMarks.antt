@@ -150,9 +150,11 @@ first_seat g n frame this o = record {
   alone = λ q. absurd (cc);
   free = λ q. absurd (cc);
   built = λ o m. absurd m;
+  arrays = tt;
+  apart = λ q. absurd (cc);
   spare = λ k v e i st. absurd (none frame k v e i st);
   after = tt;
-  beyond = λ f q. record { cell = 0; spare = λ k v e i st. absurd (none f k v e i st); past = λ h. absurd h; held = λ q. absurd (cc); built = λ o m. absurd m; code = tt };
+  beyond = λ f q. record { cell = 0; spare = λ k v e i st. absurd (none f k v e i st); past = λ h. absurd h; held = λ q. absurd (cc); built = λ o m. absurd m; arrays = tt; code = tt };
 }
   where
     none : (f k : ℕ) (v : Value) (e : ℕ) → LiesIn g.few (variable n f k) v → Stands g.table g.few (OwnMarked g.table n []) (Cell (Obj e)) v → ⊥

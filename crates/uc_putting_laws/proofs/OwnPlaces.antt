@@ -47,16 +47,16 @@ module _ (g : Setting) (s : State) (made : Reach) (this : IsSeated g.table g.sou
   spot_own : (p : Spot) → IsOf made p → (v : Value) → LiesUnder (spot_at g.few (here s) p) v → Belongs g.few s.env.exec v
   spot_own p i v u = below_own g.few s.env.exec (suc s.run.frame) v (under_spot g.few (here s) made this.own (suc s.run.frame) (omega arith) p i v u)
 
-  own_places : (ms : List Mark) → Holds g.few (here s) ms s.run.operands → (l : List Todo) → Ok g (here s) made ms l → OwnPlacesAt g.few g.source l s
+  own_places : (ms : List Mark) → Holds g.few (here s) s.run.elements ms s.run.operands → (l : List Todo) → Ok g (here s) made ms l → OwnPlacesAt g.few g.source l s
   own_places ms holds (piece.BindNow ∷ todo) h =
-      let k = under_of g.few (here s) (rest ms) (below s.run.operands) (holds_below g.few (here s) ms s.run.operands holds) (λ n p. IsOf made p) h.0 in
+      let k = under_of g.few (here s) s.run.elements (rest ms) (below s.run.operands) (holds_below g.few (here s) s.run.elements ms s.run.operands holds) (λ n p. IsOf made p) h.0 in
       spot_own k.1 k.3 (top (below s.run.operands)) k.2.1
   own_places ms holds (piece.BindMadeNow c r ∷ todo) h =
       let n = params g.source r in
       let vs = below s.run.operands in
-      let under = holds_drop g.few (here s) n (rest ms) vs (holds_below g.few (here s) ms s.run.operands holds) in
-      let k = at_of g.few (here s) (rests n (rest ms)) (drop n vs) under (λ x. IsIn made x × Ok g (here s) made (made_marks g r (Homed x) (rest ms)) todo) h in
-      spot_own (site_spot k.0) k.2.0 (top (drop n vs)) (stands_under g.few (here s) k.0 (top (drop n vs)) k.1)
+      let under = holds_drop g.few (here s) s.run.elements n (rest ms) vs (holds_below g.few (here s) s.run.elements ms s.run.operands holds) in
+      let k = at_of g.few (here s) s.run.elements (rests n (rest ms)) (drop n vs) under (λ x. IsIn made x × Ok g (here s) made (made_marks g r (Homed x) (rest ms)) todo) h in
+      spot_own (site_spot k.0) k.2.0 (top (drop n vs)) (stands_under g.few (here s) s.run.elements k.0 (top (drop n vs)) k.1)
   own_places ms holds (piece.SetUpNow r ∷ todo) h = below_own g.few s.env.exec s.run.frame s.run.this (this.own h.0.0)
   own_places ms holds (piece.ForgetNow ∷ todo) h = below_own g.few s.env.exec s.run.frame s.run.this (this.own h.0)
   own_places ms holds l h = tt

@@ -220,13 +220,13 @@ module _ (g : Setting) where
     filled true n e d todo (k, inr (inr y)) q h = (k, inr (inr (inr (inr (inr (inr (inr (inl (inr y, (tt, (tt, (((k, inr (inr y)), q), h))))))))))))
 
     pub sweeps : (e : Expr) (todo : List Todo) → CodeSweep g made (Lones todo) e → Fits [] todo → Fits [] (piece.Eval e ∷ (piece.DropNow ∷ (piece.Sweep e ∷ todo)))
-    sweeps e todo (k, inl y) h = (k, inr (inr (inr (inr (inr (inr (inr (inr (inr (any_number (Lones todo) e y, (tt, ((k, inl y), h))))))))))))
+    sweeps e todo (k, inl y) h = (k, inr (inr (inr (inr (inr (inr (inr (inr (inr (inl (any_number (Lones todo) e y, (tt, ((k, inl y), h)))))))))))))
     sweeps e todo (k, inr (inl y)) h = (k, inr (inr (inr (inl (y, (tt, ((k, inr (inl y)), h)))))))
     sweeps e todo (k, inr (inr y)) h = (k, inr (inr (inr (inr (inr (inr (inr (inr (inl (inr y, (tt, ((k, inr (inr y)), h))))))))))))
 
     -- what a clean-up destroys, where nothing stands around what it ends at a spot
     destroys : (e : Expr) (todo : List Todo) → Counts g e → EndsNumber g.table g.source g.special made (Lones todo) e ⊎ (CallsAt g.table g.source g.special made (Lones todo) e ⊎ EndsAt g.table g.source g.special made (Lones todo) e) → Fits [] todo → Fits [] (piece.Eval e ∷ (piece.DropNow ∷ todo))
-    destroys e todo n (inl k) h = (n, inr (inr (inr (inr (inr (inr (inr (inr (inr (any_number (Lones todo) e k, (tt, h)))))))))))
+    destroys e todo n (inl k) h = (n, inr (inr (inr (inr (inr (inr (inr (inr (inr (inl (any_number (Lones todo) e k, (tt, h))))))))))))
     destroys e todo n (inr (inl k)) h = (n, inr (inr (inr (inl (k, (tt, h))))))
     destroys e todo n (inr (inr k)) h = (n, inr (inr (inr (inr (inr (inr (inr (inr (inl (inl k, (tt, h)))))))))))
 
@@ -256,9 +256,9 @@ module _ (g : Setting) where
     LoneFor c todo = Unit {0}
 
     abbrev CodeClean : CleanUp → List Todo → Type 0
-    CodeClean src.Ends todo = Unit {0}
+    CodeClean src.Ends todo = made.builds ≡ true
     CodeClean src.Forgets todo = made.builds ≡ true
-    CodeClean (src.Frees r) todo = Begins g.table g.source g.special r × IsLone g A todo
+    CodeClean (src.Frees r) todo = Begins g.table g.source g.special r × IsLone g A todo × (made.builds ≡ true)
     CodeClean c todo = CountedClean g.source c
 
     code_clean : (c : CleanUp) (before todo : List Todo) → (IsLone g A before → IsLone g A todo) → CodeScope g A made c before → CodeClean c todo
@@ -267,8 +267,8 @@ module _ (g : Setting) where
     code_clean src.Unwinds before todo f n = n.0
     code_clean src.Forgets before todo f n = n.1
     code_clean src.Leaves before todo f n = n.0
-    code_clean src.Ends before todo f n = tt
-    code_clean (src.Frees r) before todo f n = (n.0, f n.1)
+    code_clean src.Ends before todo f n = n
+    code_clean (src.Frees r) before todo f n = (n.0, f n.1, n.2)
     code_clean (src.Restores k) before todo f n = n.0
 
     cleaned : (c : CleanUp) (todo : List Todo) → CodeClean c todo → LoneFor c todo → Fits [] todo → Fits [] (piece.clean_todo c todo)
@@ -277,9 +277,9 @@ module _ (g : Setting) where
     cleaned src.Unwinds todo n l h = (tt, h)
     cleaned src.Forgets todo n l h = (n, h)
     cleaned src.Leaves todo n l h = (tt, h)
-    cleaned src.Ends todo n l h = (tt, h)
+    cleaned src.Ends todo n l h = (n, h)
     cleaned (src.Frees None) todo n l h = (n.1, h)
-    cleaned (src.Frees (Some r)) todo n l h = (n, h)
+    cleaned (src.Frees (Some r)) todo n l h = ((n.0, n.1), h)
     cleaned (src.Restores k) todo n l h = (tt, h)
 
     -- a clean-up, before which something else may be to do now
@@ -297,7 +297,7 @@ module _ (g : Setting) where
     part_scope (src.Restores k) todo n = n
 
     pub left_cleans : (c : CleanUp) (before todo : List Todo) → (IsLone g A before → IsLone g A todo) → CodeScope g A made c before → LoneFor c todo → Fits [] todo → Fits [] (raising.left_todo c todo)
-    left_cleans (src.Frees r) before todo f n l h = (tt, h)
+    left_cleans (src.Frees r) before todo f n l h = (n.2, h)
     left_cleans c before todo f n l h = cleans c before todo f n l h
 
     -- the scope of a statement within others

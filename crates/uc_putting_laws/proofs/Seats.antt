@@ -1,4 +1,4 @@
--- In which frames fields stand that an activation and those before it have to clean up, and what handlers a search finds there.
+-- In which frames fields stand that an activation and those before it have to clean up, which arrays they build and destroy, and what handlers a search finds there.
 use Rattle.std.proofs.Common.{◌≡◌, ℕ, ◌<◌, ◌≤◌, inl, inr, Bool, true, false, List, [], ◌∷◌, None, refl, sym, subst, arith}
 use Rattle.std.specs.Prelude.{nat_eq}
 use Rattle.std.proofs.lemmas.Bool.{eqb-true, eq-eqb}
@@ -10,10 +10,10 @@ use Rattle.uc_life_laws.specs.Things.{Few, Stands, lies}
 use Rattle.uc_life_laws.specs.Ending.{Spot, OfVariable, OfField}
 use Rattle.uc_putting_laws.specs.CleanedSpots.{HoldsObjects, Reach, IsOf}
 use Rattle.uc_putting_laws.specs.ObjectsAtHand.{OwnedBy, BelongsBelow, same_place, further_on, LiesUnder, LiesIn, there, variable, OwnMarked, lets_go, IsBuilt}
-use Rattle.uc_putting_laws.specs.Seats.{Searched, IsSeated}
+use Rattle.uc_putting_laws.specs.Seats.{ArraysBefore, Searched, IsSeated}
 use Rattle.uc_putting_laws.specs.Putting.{Setting, Around, around, spot_at, Left}
 use Rattle.uc_putting_laws.proofs.ObjectsWithin.{Outermost, outermost, within_under, under_below, in_below, not_below, owned_further, no_circle, below_own}
-use Rattle.uc_putting_laws.proofs.Searches.{guards_left}
+use Rattle.uc_putting_laws.proofs.Arrays.{PastArray, past_array, before_more}
 use Rattle.uc_putting_laws.proofs.OwnMarks.{fields_in, lets_builds, home_below}
 
 no_both : {A : Type 0} (b : Bool) → b ≡ true → b ≡ false → A
@@ -46,6 +46,7 @@ module _ (g : Setting) (n : Exec) (a : Active) (older : List Active) (made : Rea
     pub spare : (k : ℕ) (v : Value) (e : ℕ) → LiesIn g.few (variable n f k) v → Stands g.table g.few (OwnMarked g.table n (a ∷ older)) (Cell (Obj e)) v → k < cell
     pub past : made.builds ≡ true → HoldsObjects g.table made.class → (k : ℕ) (l : Link) (v : Value) → LiesIn g.few (variable n f k) v → LiesIn g.few (further l a.this) v → k < cell
     pub built : (o : ℕ) → IsBuilt (a ∷ older) o → (k : ℕ) → LiesIn g.few (variable n f k) (g.few.home o) → k < cell
+    pub arrays : ArraysBefore cell f (a ∷ older)
     pub code : Searched g.table g.source g.special cell None f (a ∷ older)
 
   -- nothing of the object at hand lies in the frame of the activation
@@ -96,13 +97,18 @@ module _ (g : Setting) (n : Exec) (a : Active) (older : List Active) (made : Rea
       by : Top a.frame k → k < made.low
       by o = of o o.is
 
+  -- behind the array of which it builds or destroys elements
+  pub past : PastArray g (around n a older) made this.after a.control
+  past = past_array g (around n a older) made this.after a.control left
+
   at_frame : RoundIn a.frame
   at_frame = record {
-    cell = made.low;
-    spare = λ k v e i st. frame_spare k v e i st;
+    cell = past.cell;
+    spare = λ k v e i st. let a : k < made.low = frame_spare k v e i st in let b : made.low ≤ past.cell = past.low in omega (arith, a, b);
     past = λ b h k l v i j. absurd (not_here b k l v i j);
-    built = λ o m k l. frame_built o m k l;
-    code = (λ e. guards_left g (around n a older) made a.control left, this.after);
+    built = λ o m k l. let a : k < made.low = frame_built o m k l in let b : made.low ≤ past.cell = past.low in omega (arith, a, b);
+    arrays = (λ e. past.array, before_more made.low past.cell a.frame older past.low this.arrays);
+    code = (λ e. past.guards, past.searched);
   }
 
   elsewhere : (f : ℕ) → (f ≡ a.frame → ⊥) → RoundIn f
@@ -111,6 +117,7 @@ module _ (g : Setting) (n : Exec) (a : Active) (older : List Active) (made : Rea
     spare = λ k v e i st. by k (outermost g.few n g.table f (Slot k ∷ []) (OwnMarked g.table n (a ∷ older)) v e i st);
     past = λ b h k l v i j. (this.beyond f ne).past h k l v i j;
     built = λ o m k l. other o m k l;
+    arrays = (λ e. absurd (ne (sym e)), (this.beyond f ne).arrays);
     code = (λ e. absurd (ne (sym e)), (this.beyond f ne).code);
   }
     where

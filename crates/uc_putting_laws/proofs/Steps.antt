@@ -1,7 +1,7 @@
 -- A quiet step of a state in which what is called is the execution's own leads to one.
 use Rattle.std.proofs.Common.{◌≡◌, ℕ, zero, suc, ◌<◌, ◌≤◌, ◌⊎◌, inl, inr, Bool, true, false, List, [], ◌∷◌, length, drop, Option, Some, None, refl, sym, ap, ◌∙◌, subst, arith}
 use Rattle.std.specs.Prelude.{nat_eq, nat_lt}
-use Rattle.std.proofs.lemmas.Bool.{eqb-true, eq-eqb}
+use Rattle.std.proofs.lemmas.Bool.{eqb-true, eq-eqb, cases_lt}
 use Rattle.uc_tree.specs.declared.limits.TheConstants.{CALLS}
 use Rattle.uc_tree.specs.Source as src
 use Rattle.uc_tree.specs.Source.{Shape, Expr, ObjectExpr, Stmt, Stmts, EventStmt, TaskStmt, Routine, Way, CleanUp, Handlers, Purpose}
@@ -9,6 +9,7 @@ use Rattle.uc_entry.specs.declared.fault.RunFault.{RunFault}
 use Rattle.uc_entry.specs.declared.fault.RunFault.TheVariants.{Index, Depth, NotLive, Unhandled}
 use Rattle.uc_entry.specs.declared.request.Piece.{Piece}
 use Rattle.uc_entry.specs.declared.request.Request.TheVariants as ask
+use Rattle.uc_machine.specs.declared.exec.Owner.TheVariants.{Frame}
 use Rattle.uc_machine.specs.declared.exec.UnwindReason.{UnwindReason}
 use Rattle.uc_machine.specs.declared.exec.UnwindReason.TheVariants as reason
 use Rattle.uc_machine.specs.declared.exec.Visited.{Visited}
@@ -19,7 +20,7 @@ use Rattle.uc_machine.specs.Raising.{Handler, Found}
 use Rattle.uc_machine.specs.Monitors as monitors
 use Rattle.uc_machine.specs.Quiet as quiet
 use Rattle.uc_machine.specs.Pieces as piece
-use Rattle.uc_machine.specs.Pieces.{Link, Value, Number, Object, Nothing, Todo, Sort, Active, State, Env, Step, Asks, Outcome, Gives, Faults, at, in_env, goes, fault, top, below, number, loaded, written}
+use Rattle.uc_machine.specs.Pieces.{Link, Value, Number, Place, Object, Nothing, Todo, Sort, Active, State, Env, Step, Asks, Outcome, Gives, Faults, at, in_env, goes, fault, top, below, number, loaded, written}
 use Rattle.uc_typing.specs.Typing.{Ty}
 use Rattle.uc_state_laws.specs.Counted.{params_at, params, count, CountedClean}
 use Rattle.uc_life_laws.specs.Belonging.{Belongs}
@@ -29,9 +30,9 @@ use Rattle.uc_place_laws.proofs.AsideKeeping as kept
 use Rattle.uc_place_laws.proofs.AsideKeeping.{either}
 use Rattle.uc_putting_laws.specs.CleanedSpots.{Site, One, Each, Under, site_spot, AnySite, AnyPlace, HasSome, spot_of, HoldsObjects, MayHold, LiesInClass, Reach, reach_of, from_variable, apart, IsOf, IsIn, AllBelow, IsOutermost, Ascends}
 use Rattle.uc_putting_laws.specs.ObjectsAtHand.{LiesUnder, same_place, further_on, LiesIn, there, BelongsBelow, in_object, OwnMarked, NoneWithin, IsBuilt}
-use Rattle.uc_putting_laws.specs.Seats.{Searched, Beyond, IsSeated}
+use Rattle.uc_putting_laws.specs.Seats.{AtArray, NotStanding, GuardsCode, Searched, Beyond, IsSeated}
 use Rattle.uc_putting_laws.specs.Calling.{opens_object, opens_at, is_opening, PlainNew, Binds, PlaceAt, CallsAt, MakesAt, MakesEach, EndsAt, EndsEach, EndsNumber, CleansBy}
-use Rattle.uc_putting_laws.specs.Putting.{Setting, Around, around, IsHome, Mark, Any, At, Homed, rest, rests, anys, FirstUnder, FirstAt, FirstHome, IsEnding, OfObjects, OpensRest, Located, Enters, Loads, spot_at, StandsAt, HomedAt, Holds, BehindBy, SeatAt, Counts, Plain, CodeStmt, CodeStmts, CodeHandlers, CodeSweep, CodeSpine, CodeRest, CodeScope, CodeRoutine, made_marks, LeftBy, Ok, Left, Finds, Runs, Waits, PutState, PutStep}
+use Rattle.uc_putting_laws.specs.Putting.{Setting, Around, around, IsHome, Mark, Any, At, Homed, Counter, rest, rests, anys, FirstUnder, FirstAt, FirstHome, IsCounter, IsEnding, OfObjects, OpensRest, Located, Enters, Loads, spot_at, StandsAt, HomedAt, Holds, BehindBy, SeatAt, Counts, Plain, CodeStmt, CodeStmts, CodeHandlers, CodeSweep, CodeSpine, CodeRest, CodeScope, CodeRoutine, made_marks, LeftBy, Ok, Left, Finds, Runs, Waits, PutState, PutStep}
 use Rattle.uc_putting_laws.proofs.CleanedSpots.{apart_outermost, apart_class, next_mark}
 use Rattle.uc_putting_laws.proofs.ObjectsWithin.{in_under, in_object_home, below_own, below_more, not_below, not_standing}
 use Rattle.uc_putting_laws.proofs.VariableMarks.{variable_one}
@@ -40,7 +41,8 @@ use Rattle.uc_putting_laws.proofs.Searches.{FoundCode, PathOf}
 use Rattle.uc_putting_laws.proofs.Seats as seats
 use Rattle.uc_putting_laws.proofs.Seats.{RoundIn}
 use Rattle.uc_putting_laws.proofs.Marks as marks
-use Rattle.uc_putting_laws.proofs.Marks.{place_plain, holds_below, holds_drop, holds_anys, rests_anys, drop_set, set_top, stands_under, under_spot, stands_some, site_there, OfIndex, waits_left}
+use Rattle.uc_putting_laws.proofs.Marks.{place_plain, holds_below, holds_drop, holds_anys, rests_anys, drop_set, set_top, stands_under, under_spot, stands_some, site_there, OfIndex, IsIndex, waits_left}
+use Rattle.uc_putting_laws.proofs.Arrays.{PastArray, before_more, before_fresh, own_apart, older_apart}
 use Rattle.uc_putting_laws.proofs.OwnMarks.{FramesWithin, frames_below, own_below, built_below, first_seat}
 use Rattle.uc_putting_laws.proofs.PuttingTodos as todos
 
@@ -60,7 +62,7 @@ module _ (g : Setting) where
     L todo = Left g (here s) made todo
 
     abbrev pub H : List Mark → List Value → Type 0
-    H ms vs = Holds g.few (here s) ms vs
+    H ms vs = Holds g.few (here s) s.run.elements ms vs
 
     gone : (ms : List Mark) (todo : List Todo) → O ms todo → L todo
     gone ms todo h = todos.left g (here s) made ms todo h
@@ -105,17 +107,19 @@ module _ (g : Setting) where
     outcome ms (Faults f) todo vs k h = stop f todo vs
 
     -- something is known of an element or not
-    pub element : (ms : List Mark) (n : ℕ) (k : Shape) (i : Option ℕ) (todo : List Todo) (v : Value) (vs : List Value) → H ms (v ∷ vs) → OfIndex n i → O (Any ∷ rest ms) todo ⊎ FirstAt ms (λ x. Enters n k x (λ y. O (At y ∷ rest ms) todo)) → PutStep g (piece.element_step k i todo v vs s)
-    element ms n k None todo v vs l b h = stop Index todo vs
-    element ms n k (Some i) todo v vs l b (inl h) = go (Any ∷ rest ms) todo _ (tt, holds_below g.few (here s) ms (v ∷ vs) l) h
-    element ms n k (Some i) todo v vs l b (inr h) =
-        let f = marks.at_of g.few (here s) ms (v ∷ vs) l (λ x. Enters n k x (λ y. O (At y ∷ rest ms) todo)) h in
-        entered n k i todo v vs l b f.0 f.1 f.2
+    pub element : (C : Type 0) (ms : List Mark) (n : ℕ) (k : Shape) (i : Option ℕ) (todo : List Todo) (v : Value) (vs : List Value) → H ms (v ∷ vs) → OfIndex n i → (C → IsIndex s.run.elements i) → O (Any ∷ rest ms) todo ⊎ FirstAt ms (λ x. Enters C n k x (λ y. O (At y ∷ rest ms) todo)) → PutStep g (piece.element_step k i todo v vs s)
+    element C ms n k None todo v vs l b is h = stop Index todo vs
+    element C ms n k (Some i) todo v vs l b is (inl h) = go (Any ∷ rest ms) todo _ (tt, holds_below g.few (here s) s.run.elements ms (v ∷ vs) l) h
+    element C ms n k (Some i) todo v vs l b is (inr h) =
+        let f = marks.at_of g.few (here s) s.run.elements ms (v ∷ vs) l (λ x. Enters C n k x (λ y. O (At y ∷ rest ms) todo)) h in
+        entered n k i todo v vs l b is f.0 f.1 f.2
       where
-        entered : (n : ℕ) (k : Shape) (i : ℕ) (todo : List Todo) (v : Value) (vs : List Value) → H ms (v ∷ vs) → i < n → (x : Site) → StandsAt g.few (here s) x v → Enters n k x (λ y. O (At y ∷ rest ms) todo) → PutStep g (piece.element_step k (Some i) todo v vs s)
-        entered n k i todo v vs l b (Under o m p) e h = go (At (Under o n p) ∷ rest ms) todo _ ((omega (arith, b), further_on (piece.At k i) e.1), holds_below g.few (here s) ms (v ∷ vs) l) h
-        entered n src.Binding i todo v vs l b (One p) e h = go (At (Each n p) ∷ rest ms) todo _ ((i, b, ap (piece.further (piece.At src.Binding i)) e), holds_below g.few (here s) ms (v ∷ vs) l) h
-        entered n k i todo v vs l b x e h = absurd h
+        entered : (n : ℕ) (k : Shape) (i : ℕ) (todo : List Todo) (v : Value) (vs : List Value) → H ms (v ∷ vs) → i < n → (C → i ≡ s.run.elements) → (x : Site) → StandsAt g.few (here s) s.run.elements x v → Enters C n k x (λ y. O (At y ∷ rest ms) todo) → PutStep g (piece.element_step k (Some i) todo v vs s)
+        entered n k i todo v vs l b is (Under o m p) e h = go (At (Under o n p) ∷ rest ms) todo _ ((omega (arith, b), further_on (piece.At k i) e.1), holds_below g.few (here s) s.run.elements ms (v ∷ vs) l) h
+        entered n src.Binding i todo v vs l b is (One p) e h =
+            let same : i ≡ s.run.elements = is h.0 in
+            go (At (Each n p) ∷ rest ms) todo _ ((subst (λ (j : ℕ). j < n) same b, ap (λ (j : ℕ). piece.further (piece.At src.Binding j) v) same ∙ ap (piece.further (piece.At src.Binding s.run.elements)) e), holds_below g.few (here s) s.run.elements ms (v ∷ vs) l) h.1
+        entered n k i todo v vs l b is x e h = absurd h
 
     pub condition : (ms : List Mark) (k : ℕ) (i : Option ℕ) (todo : List Todo) → H ms (below s.run.operands) → O (Any ∷ ms) todo → PutStep g (monitors.condition_step k i todo s)
     condition ms k None todo l h = stop Index todo _
@@ -276,6 +280,8 @@ module _ (g : Setting) where
           free = λ q. absurd (cc);
           spare = (rounds f.frame).spare;
           built = (rounds f.frame).built;
+          arrays = (rounds f.frame).arrays;
+          apart = λ q. absurd (cc);
           after = y.path (rounds f.frame).cell f.frame (rounds f.frame).code;
           beyond = λ d q. record {
             cell = (rounds d).cell;
@@ -283,6 +289,7 @@ module _ (g : Setting) where
             past = λ h. absurd h;
             held = λ q. absurd (cc);
             built = (rounds d).built;
+            arrays = (rounds d).arrays;
             code = y.path (rounds d).cell d (rounds d).code;
           };
         };
@@ -290,7 +297,7 @@ module _ (g : Setting) where
         holds = tt;
         ok = todos.handled g (record { exec = s.env.exec; frame = f.frame; handles = Some f.visited; this = f.this; older = round }) (from_variable (rounds f.frame).cell) f.handler [] (n, y.code (rounds f.frame).cell f.frame (rounds f.frame).code refl) tt;
       };
-      callers = (finds 1 (rests 3 ms) (piece.DropNow ∷ todo) _ (holds_below g.few (here s) (rests 2 ms) _ (holds_below g.few (here s) (rests 1 ms) _ (holds_below g.few (here s) ms _ k))) (tt, h), callers);
+      callers = (finds 1 (rests 3 ms) (piece.DropNow ∷ todo) _ (holds_below g.few (here s) s.run.elements (rests 2 ms) _ (holds_below g.few (here s) s.run.elements (rests 1 ms) _ (holds_below g.few (here s) s.run.elements ms _ k))) (tt, h), callers);
       env = todos.likes g env refl refl refl;
     }
       where
@@ -388,10 +395,10 @@ module _ (g : Setting) where
     -- with what is known of the operands
     module _ (ms : List Mark) (holds : H ms s.run.operands) where
       pub one : H (rest ms) (below s.run.operands)
-      one = holds_below g.few (here s) ms s.run.operands holds
+      one = holds_below g.few (here s) s.run.elements ms s.run.operands holds
 
       pub two : H (rest (rest ms)) (below (below s.run.operands))
-      two = holds_below g.few (here s) (rest ms) (below s.run.operands) one
+      two = holds_below g.few (here s) s.run.elements (rest ms) (below s.run.operands) one
 
       -- expressions
 
@@ -483,9 +490,14 @@ module _ (g : Setting) where
       locates : (e : Expr) (todo : List Todo) → Counts g e → Located e (λ x. O (At x ∷ ms) todo) → PutStep g (quiet.eval_step e todo s)
       locates (src.Variable k) todo n h = go (At (One (OfVariable k)) ∷ ms) _ _ (refl, holds) h
       locates (src.OfObject (src.OwnField k i)) todo n h = go (At (One (OfField k i)) ∷ ms) _ _ (refl, holds) h
-      locates (src.Element m src.Binding (src.Variable k) (src.OfObject src.Counted)) todo n h = go ms _ _ holds (n.0, inr (inr (inr (inr (inr (inl (n.1, inl ((tt, tt), inr h))))))))
-      locates (src.Element m src.Binding (src.OfObject (src.OwnField k i)) (src.OfObject src.Counted)) todo n h = go ms _ _ holds (n.0, inr (inr (inr (inr (inr (inl (n.1, inl ((tt, tt), inr h))))))))
+      locates (src.Element m src.Binding (src.Variable k) (src.OfObject src.Counted)) todo n h = go ms _ _ holds (n.0, inr (inr (inr (inr (inr (inl (n.1, inr (inr (inr (inr (inr (inr (inr (inr (inr (inr (tt, inr (tt, h))))))))))))))))))
+      locates (src.Element m src.Binding (src.OfObject (src.OwnField k i)) (src.OfObject src.Counted)) todo n h = go ms _ _ holds (n.0, inr (inr (inr (inr (inr (inl (n.1, inr (inr (inr (inr (inr (inr (inr (inr (inr (inr (tt, inr (tt, h))))))))))))))))))
       locates e todo n h = absurd h
+
+      -- the number of the elements that stand
+      counts : (e : Expr) (todo : List Todo) → IsCounter e → O (Counter ∷ ms) todo → PutStep g (quiet.eval_step e todo s)
+      counts (src.OfObject src.Counted) todo i h = go (Counter ∷ ms) _ _ (refl, holds) h
+      counts e todo i h = absurd i
 
       loads : (e : Expr) (todo : List Todo) → Counts g e → IsEnding todo → Loads e (λ x. O (Homed x ∷ ms) todo) → PutStep g (quiet.eval_step e todo s)
       loads (src.Load (src.Variable k)) todo n i h = go ms _ _ holds (n, inr (inr (inr (inr (inr (inl (inr (i, h))))))))
@@ -555,22 +567,23 @@ module _ (g : Setting) where
       evals e todo (n, inr (inr (inr (inr (inr (inr (inr (inl (inr b, h))))))))) = makes_each e todo n b h
       evals e todo (n, inr (inr (inr (inr (inr (inr (inr (inr (inl (inl b, h)))))))))) = ends_at_spot e todo n b h
       evals e todo (n, inr (inr (inr (inr (inr (inr (inr (inr (inl (inr b, h)))))))))) = ends_each e todo n b h
-      evals e todo (n, inr (inr (inr (inr (inr (inr (inr (inr (inr h))))))))) = ends_number e todo n h.0 h.1
+      evals e todo (n, inr (inr (inr (inr (inr (inr (inr (inr (inr (inl h)))))))))) = ends_number e todo n h.0 h.1
+      evals e todo (n, inr (inr (inr (inr (inr (inr (inr (inr (inr (inr h)))))))))) = counts e todo h.0 h.1
 
       -- what an object is bound to, and what is loaded to be destroyed, is at home there
       pub load : (todo : List Todo) → (IsEnding todo → IsHome g.few (loaded (top s.run.operands) s.env) (top s.run.operands)) → O ms (piece.LoadNow ∷ todo) → PutStep g (quiet.act g.source piece.LoadNow todo s)
       load todo f (inl h) = go (Any ∷ rest ms) _ _ (tt, one) h
       load todo f (inr h) =
-          let k = marks.at_of g.few (here s) ms s.run.operands holds (λ x. O (Homed x ∷ rest ms) todo) h.1 in
+          let k = marks.at_of g.few (here s) s.run.elements ms s.run.operands holds (λ x. O (Homed x ∷ rest ms) todo) h.1 in
           go (Homed k.0 ∷ rest ms) _ _ ((top s.run.operands, k.1, f h.0), one) k.2
 
       -- calls
 
       pub dropped : (n : ℕ) → H (rests n ms) (drop n s.run.operands)
-      dropped n = holds_drop g.few (here s) n ms s.run.operands holds
+      dropped n = holds_drop g.few (here s) s.run.elements n ms s.run.operands holds
 
       dropped_one : (n : ℕ) → H (rests (suc n) ms) (below (drop n s.run.operands))
-      dropped_one n = holds_below g.few (here s) (rests n ms) (drop n s.run.operands) (dropped n)
+      dropped_one n = holds_below g.few (here s) s.run.elements (rests n ms) (drop n s.run.operands) (dropped n)
 
       -- what is known where the routine x is called, of special ones if b, at an object of the class o
       abbrev pub FitsFor : Bool → Option ℕ → Option Routine → List Todo → Type 0
@@ -593,6 +606,7 @@ module _ (g : Setting) where
         alone : b ≡ true → NoneWithin g.table g.few (Outward g.table s.env.exec s.run.frame s.run.this s.callers todo) v
         lone : b ≡ true → opens_object x.body ≡ true → LoneIn (piece.object_in v) todo
         free : b ≡ true → L todo → (vs : List Value) (q : ℕ) → IsBuilt (Waiting todo vs ∷ s.callers) q → (k : Link) → LiesIn g.few (piece.further k v) (g.few.home q) → ⊥
+        apart : b ≡ true → (vs : List Value) (q : ℕ) → v ≡ Object q → NotStanding s.env.exec (g.few.home q) (Waiting todo vs ∷ s.callers)
         beyond : L todo → (vs : List Value) (f : ℕ) → SeatBeyond b o v todo vs f
 
       -- the frame is one of those of the execution
@@ -609,6 +623,9 @@ module _ (g : Setting) where
       rounds : (todo : List Todo) (vs : List Value) (l : L todo) (f : ℕ) → RoundIn g s.env.exec (Waiting todo vs) s.callers made this l f
       rounds todo vs l f = seats.round_in g s.env.exec (Waiting todo vs) s.callers made this l f
 
+      rounds_past : (todo : List Todo) (vs : List Value) (l : L todo) → PastArray g (here s) made this.after todo
+      rounds_past todo vs l = seats.past g s.env.exec (Waiting todo vs) s.callers made this l
+
       -- what holds no objects has none in its fields
       class_of : (b : Bool) (o : Option ℕ) → HoldsObjects g.table (reach_of b o).class → HoldsObjects g.table o
       class_of true o h = h
@@ -622,8 +639,24 @@ module _ (g : Setting) where
         past = λ h. absurd h;
         held = λ q. absurd (cc);
         built = (rounds todo vs l f).built;
+        arrays = (rounds todo vs l f).arrays;
         code = (rounds todo vs l f).code;
       }
+
+      -- a variable behind two, of which from each on handlers name variables that a search finds
+      record BehindBoth (x : ℕ) (todo : List Todo) (vs : List Value) (l : L todo) : Type 0 where
+        cell : ℕ
+        first : x ≤ cell
+        second : (rounds_past todo vs l).cell ≤ cell
+        guards : GuardsCode g.table g.source g.special cell todo
+        searched : Searched g.table g.source g.special cell s.run.handles s.run.frame s.callers
+
+      behind_both : (x : ℕ) (todo : List Todo) (vs : List Value) (l : L todo) → GuardsCode g.table g.source g.special x todo → Searched g.table g.source g.special x s.run.handles s.run.frame s.callers → BehindBoth x todo vs l
+      behind_both x todo vs l c k = by (cases_lt x (rounds_past todo vs l).cell)
+        where
+          by : (x < (rounds_past todo vs l).cell) ⊎ ((rounds_past todo vs l).cell ≤ x) → BehindBoth x todo vs l
+          by (inl le) = record { cell = (rounds_past todo vs l).cell; first = omega (arith, le); second = omega arith; guards = (rounds_past todo vs l).guards; searched = (rounds_past todo vs l).searched }
+          by (inr le) = record { cell = x; first = omega arith; second = le; guards = c; searched = k }
 
       -- what lies in the object that is found lies at the spot
       abbrev LiesAt : Spot → Value → Type 0
@@ -636,14 +669,18 @@ module _ (g : Setting) where
       beyond_at : (b : Bool) (o : Option ℕ) (x : Site) (p : Spot) (v : Value) (todo : List Todo) → BehindBy g (here s) made todo p x → IsOf made p → (HoldsObjects g.table o → MayHold g.table x) → HasSome x → LiesAt p v → HomeAt x p v → L todo → (vs : List Value) (f : ℕ) → SeatBeyond b o v todo vs f
       beyond_at b o x (OfVariable j) v todo y i may some lies at l vs f = by (nat_eq f s.run.frame) refl
         where
+          both : BehindBoth y.0 todo vs l
+          both = behind_both y.0 todo vs l y.2 y.3
+
           own_frame : SeatBeyond b o v todo vs s.run.frame
           own_frame = record {
-            cell = y.0;
-            spare = λ k w e q st. let a : k < made.low = seats.frame_spare g s.env.exec (Waiting todo vs) s.callers made this l k w e q st in let c : made.low ≤ y.0 = y.1 in omega (arith, a, c);
-            past = λ h k m w q u. let a : k ≡ j = (variable_one g.few s.env.exec s.run.frame k s.run.frame j w q (lies m w u)).1 in let c : j < y.0 = y.4 (may (class_of b o h)) some in omega (arith, a, c);
-            held = λ h q e k w. let z = at q e in let a : k ≡ j = (variable_one g.few s.env.exec s.run.frame k s.run.frame j (g.few.home q) w z.1).1 in let c : j < y.0 = y.4 z.0 some in omega (arith, a, c);
-            built = λ q m k w. let a : k < made.low = seats.frame_built g s.env.exec (Waiting todo vs) s.callers made this l q m k w in let c : made.low ≤ y.0 = y.1 in omega (arith, a, c);
-            code = (λ e. y.2, y.3);
+            cell = both.cell;
+            spare = λ k w e q st. let a : k < made.low = seats.frame_spare g s.env.exec (Waiting todo vs) s.callers made this l k w e q st in let c : made.low ≤ y.0 = y.1 in let d : y.0 ≤ both.cell = both.first in omega (arith, a, c, d);
+            past = λ h k m w q u. let a : k ≡ j = (variable_one g.few s.env.exec s.run.frame k s.run.frame j w q (lies m w u)).1 in let c : j < y.0 = y.4 (may (class_of b o h)) some in let d : y.0 ≤ both.cell = both.first in omega (arith, a, c, d);
+            held = λ h q e k w. let z = at q e in let a : k ≡ j = (variable_one g.few s.env.exec s.run.frame k s.run.frame j (g.few.home q) w z.1).1 in let c : j < y.0 = y.4 z.0 some in let d : y.0 ≤ both.cell = both.first in omega (arith, a, c, d);
+            built = λ q m k w. let a : k < made.low = seats.frame_built g s.env.exec (Waiting todo vs) s.callers made this l q m k w in let c : made.low ≤ y.0 = y.1 in let d : y.0 ≤ both.cell = both.first in omega (arith, a, c, d);
+            arrays = before_more (rounds_past todo vs l).cell both.cell s.run.frame (Waiting todo vs ∷ s.callers) both.second (λ e. (rounds_past todo vs l).array, before_more made.low (rounds_past todo vs l).cell s.run.frame s.callers (rounds_past todo vs l).low this.arrays);
+            code = (λ e. both.guards, both.searched);
           }
 
           other : (f ≡ s.run.frame → ⊥) → SeatBeyond b o v todo vs f
@@ -653,6 +690,7 @@ module _ (g : Setting) where
             past = λ h k m w q u. absurd (ne (variable_one g.few s.env.exec f k s.run.frame j w q (lies m w u)).0);
             held = λ h q e k w. absurd (ne (variable_one g.few s.env.exec f k s.run.frame j (g.few.home q) w (at q e).1).0);
             built = (rounds todo vs l f).built;
+            arrays = (rounds todo vs l f).arrays;
             code = (rounds todo vs l f).code;
           }
 
@@ -665,6 +703,7 @@ module _ (g : Setting) where
         past = λ c k m w q u. (rounds todo vs l f).past i (y (may (class_of b o c)) some) k (piece.FieldAt h j) w q (lies m w u);
         held = λ c q e k w. let z = at q e in (rounds todo vs l f).past i (y z.0 some) k (piece.FieldAt h j) (g.few.home q) w z.1;
         built = (rounds todo vs l f).built;
+        arrays = (rounds todo vs l f).arrays;
         code = (rounds todo vs l f).code;
       }
 
@@ -674,6 +713,7 @@ module _ (g : Setting) where
         alone = λ q k w c h. l.0 w c (in_under g.few (spot_at g.few (here s) p) (piece.further k v) (further_on k u.1) w h);
         lone = λ q o. no_both (opens_object x.body) o e;
         free = λ q c vs d m k w. seats.spot_free g s.env.exec (Waiting todo vs) s.callers made this c p i d m (in_under g.few (spot_at g.few (here s) p) (piece.further k v) (further_on k u.1) (g.few.home d) w);
+        apart = λ q vs d e. absurd (seats.no_object g.few (here s) p v d u.1 e);
         beyond = beyond_at b o (Under o n p) p v todo l.1 i (λ h. h) u.0 (λ k w h. in_under g.few (spot_at g.few (here s) p) (piece.further k v) (further_on k u.1) w h) (λ d q. absurd (seats.no_object g.few (here s) p v d u.1 q));
       }
 
@@ -682,11 +722,11 @@ module _ (g : Setting) where
       holds_some (Each n p) z = tt
       holds_some (Under o n p) z = absurd z
 
-      homed_finding : (z : InFrames) (b : Bool) (c : Option ℕ) (x : Routine) (v : Value) (todo : List Todo) (y : Site) → HomedAt g.few (here s) y v → IsIn made y → SeatAt g (here s) made todo y → OfObjects y → Finding b c x v todo
+      homed_finding : (z : InFrames) (b : Bool) (c : Option ℕ) (x : Routine) (v : Value) (todo : List Todo) (y : Site) → HomedAt g.few (here s) s.run.elements y v → IsIn made y → SeatAt g (here s) made todo y → OfObjects y → Finding b c x v todo
       homed_finding z b c x v todo y h i l m =
           let p : Spot = site_spot y in
           let o : ℕ = h.2.number in
-          let u : LiesUnder (spot_at g.few (here s) p) (g.few.home o) = subst (LiesUnder (spot_at g.few (here s) p)) (sym h.2.home) (stands_under g.few (here s) y h.0 h.1) in
+          let u : LiesUnder (spot_at g.few (here s) p) (g.few.home o) = subst (LiesUnder (spot_at g.few (here s) p)) (sym h.2.home) (stands_under g.few (here s) s.run.elements y h.0 h.1) in
           let below : BelongsBelow g.few s.env.exec (length s.env.frames) (g.few.home o) = under_spot g.few (here s) made this.own (length s.env.frames) (below_next z) p i (g.few.home o) u in
           let none : NoneWithin g.table g.few (Outward g.table s.env.exec s.run.frame s.run.this s.callers todo) (Object o) = λ k w c j. l.0 w c (in_object_home g.few (spot_at g.few (here s) p) o (there u) k w j) in
           let lone : LoneIn o todo = (below_own g.few s.env.exec (length s.env.frames) (g.few.home o) below, (λ c m. l.0 (g.few.home o) c (there u) m)) in
@@ -696,20 +736,24 @@ module _ (g : Setting) where
             alone = λ q. subst (NoneWithin g.table g.few (Outward g.table s.env.exec s.run.frame s.run.this s.callers todo)) (sym h.2.object) none;
             lone = λ q e. subst (λ w. LoneIn (piece.object_in w) todo) (sym h.2.object) lone;
             free = λ q n vs d t k w. seats.spot_free g s.env.exec (Waiting todo vs) s.callers made this n p i d t (lies k (g.few.home d) w);
-            beyond = beyond_at b c y p v todo l.1 i (λ h. holds_some y m) (stands_some g.few (here s) y h.0 h.1) lies (λ d q. (holds_some y m, subst (λ (x : ℕ). LiesIn g.few (spot_at g.few (here s) p) (g.few.home x)) (seats.same_object o d (sym h.2.object ∙ q)) (there u)));
+            apart = λ q vs d e.
+                let same : o ≡ d = seats.same_object o d (sym h.2.object ∙ e) in
+                let home : h.0 ≡ g.few.home d = sym h.2.home ∙ ap g.few.home same in
+                (subst (λ x. AtArray (λ m k. (d : Shape) (j : ℕ) → j < m → j < s.run.elements → x ≡ Place (Frame s.env.exec s.run.frame) (piece.At d j ∷ (piece.Slot k ∷ [])) → ⊥) todo) home (own_apart g.few (here s) s.run.elements made y h.0 m h.1 i s.env.exec todo), subst (λ x. NotStanding s.env.exec x s.callers) home (older_apart g.few (here s) s.run.elements made y h.0 m h.1 i s.env.exec s.callers this.arrays));
+            beyond = beyond_at b c y p v todo l.1 i (λ h. holds_some y m) (stands_some g.few (here s) s.run.elements y h.0 h.1) lies (λ d q. (holds_some y m, subst (λ (x : ℕ). LiesIn g.few (spot_at g.few (here s) p) (g.few.home x)) (seats.same_object o d (sym h.2.object ∙ q)) (there u)));
           }
 
       no_finding : (b : Bool) (o : Option ℕ) (x : Routine) (v : Value) (todo : List Todo) → b ≡ false → Finding b o x v todo
       no_finding b o x v todo e =
-          record { own = λ q. no_both b q e; alone = λ q. no_both b q e; lone = λ q o. no_both b q e; free = λ q. no_both b q e; beyond = plain_beyond b o v todo e }
+          record { own = λ q. no_both b q e; alone = λ q. no_both b q e; lone = λ q o. no_both b q e; free = λ q. no_both b q e; apart = λ q. no_both b q e; beyond = plain_beyond b o v todo e }
 
       finding : (z : InFrames) (b : Bool) (o : Option ℕ) (x : Routine) (todo : List Todo) → FitsFor b o (Some x) todo → Finding b o x (top (drop x.params s.run.operands)) todo
       finding z b o x todo (inl e) = no_finding b o x (top (drop x.params s.run.operands)) todo e
       finding z b o x todo (inr (inl k)) =
-          let h = marks.under_of g.few (here s) (rests x.params ms) (drop x.params s.run.operands) (dropped x.params) (λ n p. IsOf made p × SeatAt g (here s) made todo (Under o n p)) k.1 in
+          let h = marks.under_of g.few (here s) s.run.elements (rests x.params ms) (drop x.params s.run.operands) (dropped x.params) (λ n p. IsOf made p × SeatAt g (here s) made todo (Under o n p)) k.1 in
           plain_finding z b o x (top (drop x.params s.run.operands)) todo k.0 h.0 h.1 h.2 h.3.0 h.3.1
       finding z b o x todo (inr (inr k)) =
-          let h = marks.home_of g.few (here s) (rests x.params ms) (drop x.params s.run.operands) (dropped x.params) (LoneNamed todo) k in
+          let h = marks.home_of g.few (here s) s.run.elements (rests x.params ms) (drop x.params s.run.operands) (dropped x.params) (LoneNamed todo) k in
           homed_finding z b o x (top (drop x.params s.run.operands)) todo h.0 h.1 h.2.0 h.2.1 h.2.2
 
       -- a routine begins in a frame of its own, in which no field stands that is to be cleaned up
@@ -718,6 +762,8 @@ module _ (g : Setting) where
         own = f.own;
         alone = f.alone;
         free = λ q. f.free q (gone (Any ∷ ns) todo h) vs;
+        apart = λ q d e. f.apart q vs d e;
+        arrays = before_fresh 0 (length s.env.frames) round (frames_below (length s.env.frames) round (let c = z.count in omega (arith, c)) (z.low, z.within));
         spare = λ k w e i st. absurd (not_standing g.few s.env.exec g.table (length s.env.frames) (piece.Slot k ∷ []) (OwnMarked g.table s.env.exec round) below _ w i st);
         built = λ q m k w. absurd (not_below g.few s.env.exec (length s.env.frames) (length s.env.frames) (piece.Slot k ∷ []) (omega arith) (g.few.home q) w (let c = z.count in below_more g.few s.env.exec (length round) (length s.env.frames) (omega (arith, c)) (g.few.home q) (built_below g s.env.exec round (record { made = made; rest = gone (Any ∷ ns) todo h; seat = this }, waits_left g s.env.exec s.callers callers) (z.low, z.within) q m)));
         after = searches.fresh g.table g.source g.special 0 None (length s.env.frames) round (frames_below (length s.env.frames) round (let c = z.count in omega (arith, c)) (z.low, z.within));

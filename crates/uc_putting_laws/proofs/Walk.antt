@@ -1,5 +1,5 @@
 -- Every quiet step of a state in which what is called is the execution's own, and answers to it.
-use Rattle.std.proofs.Common.{◌≡◌, ℕ, true, false, inl, List, [], ◌∷◌, ◌++◌, drop, Option, Some, None, refl, subst}
+use Rattle.std.proofs.Common.{◌≡◌, ℕ, true, false, inl, List, [], ◌∷◌, ◌++◌, drop, Option, Some, None, refl, sym, subst}
 use Rattle.std.specs.Prelude.{nat_lt, slice_get, if◌then◌else◌}
 use Rattle.uc_tree.specs.Source as src
 use Rattle.uc_tree.specs.Source.{Routine, routine_or_none, routine_of}
@@ -28,9 +28,9 @@ use Rattle.uc_place_laws.proofs.AsideKeeping.{either}
 use Rattle.uc_putting_laws.specs.CleanedSpots.{NoSite, Reach, reach_of, from_variable, apart}
 use Rattle.uc_putting_laws.specs.Seats.{Searched, IsSeated}
 use Rattle.uc_putting_laws.specs.Calling.{CallingStmts}
-use Rattle.uc_putting_laws.specs.Putting.{Setting, Around, Mark, Any, Holds, rest, rests, OpensRest, Counts, Plain, CodeStmt, CodeRoutine, Ok, Left, Finds, FindsFor, Runs, Waits, PutMembers, PutState, PutStep}
+use Rattle.uc_putting_laws.specs.Putting.{Setting, Around, Mark, Any, FirstCounter, Holds, rest, rests, OpensRest, Counts, Plain, CodeStmt, CodeRoutine, Ok, Left, Finds, FindsFor, Runs, Waits, PutMembers, PutState, PutStep}
 use Rattle.uc_putting_laws.specs.PuttingLaws.{FairAt, Fair}
-use Rattle.uc_putting_laws.proofs.Marks.{holds_below, holds_spread, index_below, left}
+use Rattle.uc_putting_laws.proofs.Marks.{holds_below, holds_spread, IsIndex, index_below, index_is, counter_of, left}
 use Rattle.uc_putting_laws.proofs.OwnMarks.{frames_within, first_seat}
 use Rattle.uc_putting_laws.proofs.PuttingTodos as todos
 use Rattle.uc_putting_laws.proofs.Searches.{FoundCode, found_code}
@@ -41,9 +41,9 @@ use Rattle.uc_putting_laws.proofs.MonitorSteps as monitor_steps
 use Rattle.uc_putting_laws.proofs.Lone.{scope_lone, part_lone, lone_behind, lone_stmt}
 
 module _ (program : Program) (g : Setting) (laid : IsLaidOut (Sized program) g.table) (known : (n : ℕ) → CodeRoutine g (g.special n) (g.table.routine n).this (slice_get g.source.routines n)) where
-  module _ (s : State) (st : StackState (Sized program) s) (fair : Fair g s) (callers : AllWait (Runs g) (Waits g) s.env.exec s.callers) (env : NamedEnv (Runs g) (Waits g) s.env) (made : Reach) (this : IsSeated g.table g.source g.special g.few made s.env.exec s.callers s.run.frame s.run.handles s.run.this) (ms : List Mark) (holds : Holds g.few (here s) ms s.run.operands) where
+  module _ (s : State) (st : StackState (Sized program) s) (fair : Fair g s) (callers : AllWait (Runs g) (Waits g) s.env.exec s.callers) (env : NamedEnv (Runs g) (Waits g) s.env) (made : Reach) (this : IsSeated g.table g.source g.special g.few made s.env.exec s.callers s.run.frame s.run.handles s.run.this) (ms : List Mark) (holds : Holds g.few (here s) s.run.elements ms s.run.operands) where
     abbrev H : List Mark → List Value → Type 0
-    H ns vs = Holds g.few (here s) ns vs
+    H ns vs = Holds g.few (here s) s.run.elements ns vs
 
     abbrev O : List Mark → List Todo → Type 0
     O ns todo = Ok g (here s) made ns todo
@@ -55,10 +55,10 @@ module _ (program : Program) (g : Setting) (laid : IsLaidOut (Sized program) g.t
     anew = steps.anew g s callers env made this
 
     one : H (rest ms) (below s.run.operands)
-    one = holds_below g.few (here s) ms s.run.operands holds
+    one = holds_below g.few (here s) s.run.elements ms s.run.operands holds
 
     two : H (rest (rest ms)) (below (below s.run.operands))
-    two = holds_below g.few (here s) (rest ms) (below s.run.operands) one
+    two = holds_below g.few (here s) s.run.elements (rest ms) (below s.run.operands) one
 
     -- the same with an unwinding before it
     unwound : (c : src.CleanUp) (ps : List Todo) → todos.LoneFor g (here s) made c ps → todos.LoneFor g (here s) made c (piece.Unwind ∷ ps)
@@ -81,7 +81,7 @@ module _ (program : Program) (g : Setting) (laid : IsLaidOut (Sized program) g.t
     acts : (p : Todo) (todo : List Todo) → s.run.control ≡ p ∷ todo → Ok g (here s) made ms (p ∷ todo) → PutStep g (quiet.act g.source p todo s)
     acts (piece.Eval a) todo c h = steps.evals g s callers env made this ms holds a todo h
     acts piece.LoadNow todo c h = steps.load g s callers env made this ms holds todo (fair_at (piece.LoadNow ∷ todo) c) h
-    acts (piece.ElementNow m k) todo c h = steps.element g s callers env made this (rest ms) m k _ todo _ _ (holds_spread g.few (here s) (rest ms) (below s.run.operands) one) (index_below m (number (top s.run.operands))) h
+    acts (piece.ElementNow m k) todo c h = steps.element g s callers env made this (FirstCounter ms) (rest ms) m k _ todo _ _ (holds_spread g.few (here s) s.run.elements (rest ms) (below s.run.operands) one) (index_below m (number (top s.run.operands))) (λ c. subst (λ v. IsIndex s.run.elements (piece.index_in m (number v))) (sym (counter_of g.few (here s) s.run.elements ms s.run.operands holds c)) (index_is m s.run.elements)) h
     acts (piece.FieldNow k i) todo c h = go (Any ∷ rest ms) _ _ (tt, one) h.1
     acts piece.NegateNow todo c h = steps.outcome g s callers env made this (rest ms) _ todo _ one h.1
     acts piece.NotNow todo c h = go (Any ∷ rest ms) _ _ (tt, one) h.1
@@ -237,7 +237,7 @@ module _ (g : Setting) where
   new_put h (p ∷ todo) = tt
 
   -- with operands more it goes on
-  found : (s : State) (many : ℕ) (ms : List Mark) (vs : List Value) → (f : Finds g many s.env.exec s.callers s.run) → Holds g.few (here s) ms vs → Ok g (here s) f.made ms s.run.control → Runs g s.env.exec s.callers (record s.run { operands = vs })
+  found : (s : State) (many : ℕ) (ms : List Mark) (vs : List Value) → (f : Finds g many s.env.exec s.callers s.run) → Holds g.few (here s) s.run.elements ms vs → Ok g (here s) f.made ms s.run.control → Runs g s.env.exec s.callers (record s.run { operands = vs })
   found s many ms vs f h k = record { made = f.made; this = f.this; marks = ms; holds = h; ok = k }
 
   entered_put : (m : Option Members) (o : ℕ) (s : State) → PutMembers g (home.Object o) m → Finds g 1 s.env.exec s.callers s.run → AllWait (Runs g) (Waits g) s.env.exec s.callers → NamedEnv (Runs g) (Waits g) s.env → PutState g (with_operand (piece.Object o) (entered m o s))

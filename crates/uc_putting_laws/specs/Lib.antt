@@ -8,3 +8,5 @@ pub mod PuttingRuns
 pub mod Fields
 pub mod OwnPlaces
 pub mod LoneObjects
+pub mod ApartElements
+pub mod Filling

@@ -1,6 +1,6 @@
 -- To-do lists before which the places of the objects that are built and destroyed lie among the operands: what is called there is the execution's
 -- own, and nothing that is to be cleaned up stands around mutex objects in it.
-use Rattle.std.specs.Prelude.{◌≡◌, ℕ, zero, suc, ◌<◌, ◌≤◌, ◌⊎◌, Bool, true, false, List, [], ◌∷◌, Option, Some, None}
+use Rattle.std.specs.Prelude.{◌≡◌, ℕ, zero, suc, pos, ◌<◌, ◌≤◌, ◌⊎◌, Bool, true, false, List, [], ◌∷◌, Option, Some, None}
 use Rattle.uc_tree.specs.declared.limits.TheConstants.{DESTRUCTOR}
 use Rattle.uc_tree.specs.Source.{Shape, Binding, Expr, Exprs, Variable, Element, Load, OfObject, OwnField, Counted, Item, Target, Declared, CleanUp, Ends, Frees, Stmt, Stmts, Handlers, Clauses, Routine, Source}
 use Rattle.uc_entry.specs.declared.request.Request.{Request}
@@ -10,7 +10,7 @@ use Rattle.uc_machine.specs.declared.exec.Home.{Home}
 use Rattle.uc_machine.specs.declared.exec.Owner.TheVariants.{Frame}
 use Rattle.uc_machine.specs.declared.exec.Visited.{Visited}
 use Rattle.uc_machine.specs.Pieces as piece
-use Rattle.uc_machine.specs.Pieces.{Slot, FieldAt, Value, Place, Object, further, Todo, Sort, sort, Active, State, Members, Step, Goes, Ticks, Asks, top, below}
+use Rattle.uc_machine.specs.Pieces.{Slot, FieldAt, Value, Number, Place, Object, further, Todo, Sort, sort, Active, State, Members, Step, Goes, Ticks, Asks, top, below}
 use Rattle.uc_answer_laws.specs.Suiting.{Form, form_of_request}
 use Rattle.uc_typing.specs.Typing.{Cell, Obj, Table}
 use Rattle.uc_state_laws.specs.Counted.{params, count, CountedExpr, CountedExprs, CountedMaybe, CountedItems, CountedTargets, CountedDeclared, CountedClean, CountedStmt, CountedStmts, CountedHandlers, CountedClauses}
@@ -48,11 +48,12 @@ pub record IsHome (few : Few) (v place : Value) : Type 0 where
   pub object : v ≡ Object number
   pub home : few.home number ≡ place
 
--- what is known of an operand: nothing, that it is a place at a site, or an object that is at home there
+-- what is known of an operand: nothing, that it is a place at a site, or an object that is at home there, or the number of elements that stand of an array
 pub data Mark : Type 0 where
   Any : Mark
   At : Site → Mark
   Homed : Site → Mark
+  Counter : Mark
 
 abbrev pub rest : List Mark → List Mark
 rest [] = []
@@ -81,6 +82,15 @@ FirstAt ms next = ⊥
 abbrev pub FirstHome : List Mark → (Site → Type 0) → Type 0
 FirstHome (Homed x ∷ ms) next = next x
 FirstHome ms next = ⊥
+
+-- the first is that number; so is what an expression stands for
+abbrev pub FirstCounter : List Mark → Type 0
+FirstCounter (Counter ∷ ms) = Unit {0}
+FirstCounter ms = ⊥
+
+abbrev pub IsCounter : Expr → Type 0
+IsCounter (OfObject Counted) = Unit {0}
+IsCounter e = ⊥
 
 -- the destruction of an object comes next
 abbrev pub IsEnding : List Todo → Type 0
@@ -113,11 +123,11 @@ Located (Element n Binding (Variable k) (OfObject Counted)) next = next (Each n 
 Located (Element n Binding (OfObject (OwnField h i)) (OfObject Counted)) next = next (Each n (OfField h i))
 Located e next = ⊥
 
--- that of an element, behind that of its array, or of what is no mutex object there
-abbrev pub Enters : ℕ → Shape → Site → (Site → Type 0) → Type 0
-Enters n s (Under o m p) next = next (Under o n p)
-Enters n Binding (One p) next = next (Each n p)
-Enters n s x next = ⊥
+-- that of an element, behind that of its array, or of what is no mutex object there; `C`: it is the one that is counted
+abbrev pub Enters : Type 0 → ℕ → Shape → Site → (Site → Type 0) → Type 0
+Enters C n s (Under o m p) next = next (Under o n p)
+Enters C n Binding (One p) next = C × next (Each n p)
+Enters C n s x next = ⊥
 
 -- what is there is loaded
 abbrev pub Loads : Expr → (Site → Type 0) → Type 0
@@ -129,25 +139,28 @@ module _ (few : Few) (A : Around) where
   spot_at (OfVariable k) = Place (Frame A.exec A.frame) (Slot k ∷ [])
   spot_at (OfField h i) = further (FieldAt h i) A.this
 
-  -- a place at a site
-  abbrev pub StandsAt : Site → Value → Type 0
-  StandsAt (One p) v = v ≡ spot_at p
-  StandsAt (Each n p) v = (j : ℕ) × (j < n) × (v ≡ further (piece.At Binding j) (spot_at p))
-  StandsAt (Under o n p) v = (0 < n) × LiesUnder (spot_at p) v
+  -- where so many elements stand
+  module _ (many : ℕ) where
+    -- a place at a site, of an array that of the element that is counted
+    abbrev pub StandsAt : Site → Value → Type 0
+    StandsAt (One p) v = v ≡ spot_at p
+    StandsAt (Each n p) v = (many < n) × (v ≡ further (piece.At Binding many) (spot_at p))
+    StandsAt (Under o n p) v = (0 < n) × LiesUnder (spot_at p) v
 
-  -- an object that is at home there
-  abbrev pub HomedAt : Site → Value → Type 0
-  HomedAt x v = (place : Value) × StandsAt x place × IsHome few v place
+    -- an object that is at home there
+    abbrev pub HomedAt : Site → Value → Type 0
+    HomedAt x v = (place : Value) × StandsAt x place × IsHome few v place
 
-  abbrev pub Meets : Mark → Value → Type 0
-  Meets Any v = Unit {0}
-  Meets (At x) v = StandsAt x v
-  Meets (Homed x) v = HomedAt x v
+    abbrev pub Meets : Mark → Value → Type 0
+    Meets Any v = Unit {0}
+    Meets (At x) v = StandsAt x v
+    Meets (Homed x) v = HomedAt x v
+    Meets Counter v = v ≡ Number (pos many)
 
-  -- of the newest operands, the first mark for the newest; of what lies below nothing is known
-  abbrev pub Holds : List Mark → List Value → Type 0
-  Holds [] vs = Unit {0}
-  Holds (m ∷ ms) vs = Meets m (top vs) × Holds ms (below vs)
+    -- of the newest operands, the first mark for the newest; of what lies below nothing is known
+    abbrev pub Holds : List Mark → List Value → Type 0
+    Holds [] vs = Unit {0}
+    Holds (m ∷ ms) vs = Meets m (top vs) × Holds ms (below vs)
 
 -- nothing that is to be cleaned up by what is to do and by activations that wait stands around a mutex object that lies at a site, or in one that is at
 -- home there
@@ -338,6 +351,8 @@ module _ (g : Setting) where
     CodePiece (piece.SetUpNow r) ms todo = (made.builds ≡ true) × (g.special r ≡ false)
     CodePiece (piece.EnterNow m r) ms todo = IsCallOf r todo
     CodePiece piece.MadeNow ms todo = IsLone A todo
+    CodePiece piece.GoneNow ms todo = made.builds ≡ true
+    CodePiece piece.GiveUpNow ms todo = made.builds ≡ true
     CodePiece (piece.SpawnNow r) ms todo = (g.special r ≡ false) × IsLone A todo
     CodePiece (piece.ChildNow r) ms todo = g.special r ≡ false
     CodePiece p ms todo = Unit {0}
@@ -370,11 +385,12 @@ module _ (g : Setting) where
           ((IsEnding todo × Loads e (λ x. Ok (Homed x ∷ ms) todo)) ⊎
           (((MakesAt g.table g.source g.special made (SeatAt A made todo) e ⊎ MakesEach g.table g.source g.special made (SeatAt A made todo) e) × Ok (Any ∷ ms) todo) ⊎
           (((EndsAt g.table g.source g.special made (SeatAt A made todo) e ⊎ EndsEach g.table g.source g.special made (SeatAt A made todo) e) × Ok (Any ∷ ms) todo) ⊎
-          (EndsNumber g.table g.source g.special made AnySite e × Ok (Any ∷ ms) todo))))))))))
+          ((EndsNumber g.table g.source g.special made AnySite e × Ok (Any ∷ ms) todo) ⊎
+          (IsCounter e × Ok (Counter ∷ ms) todo)))))))))))
       Ok ms (piece.LoadNow ∷ todo) = Ok (Any ∷ rest ms) todo ⊎
           (IsEnding todo × FirstAt ms (λ x. Ok (Homed x ∷ rest ms) todo))
       Ok ms (piece.ElementNow n k ∷ todo) = Ok (Any ∷ rest (rest ms)) todo ⊎
-          FirstAt (rest ms) (λ x. Enters n k x (λ y. Ok (At y ∷ rest (rest ms)) todo))
+          FirstAt (rest ms) (λ x. Enters (FirstCounter ms) n k x (λ y. Ok (At y ∷ rest (rest ms)) todo))
       Ok ms (piece.MakeNow c r ∷ todo) =
           FirstAt (rests (params g.source r) ms) (λ x. IsIn made x × Ok (made_marks r (Homed x) ms) todo)
       Ok ms (piece.BindMadeNow c r ∷ todo) =
@@ -393,7 +409,7 @@ module _ (g : Setting) where
     pub made : Reach
     pub this : IsSeated g.table g.source g.special g.few made n older a.frame a.handles a.this
     pub marks : List Mark
-    pub holds : Holds g.few (around n a older) marks a.operands
+    pub holds : Holds g.few (around n a older) a.elements marks a.operands
     pub ok : Ok (around n a older) made (anys many marks) a.control
 
   abbrev pub Runs : Exec → List Active → Active → Type 0

@@ -5,6 +5,7 @@ ghost use Rattle.uc_putting_laws.specs.OwnPlaces.{LawOwnPlaces};
 ghost use Rattle.uc_putting_laws.specs.PuttingRuns.{LawRuns};
 ghost use Rattle.uc_putting_laws.specs.Fields.{LawSole};
 ghost use Rattle.uc_putting_laws.specs.LoneObjects.{LawLoneObjects};
+ghost use Rattle.uc_putting_laws.specs.ApartElements.{LawApartElements};
 
 /// In the source of every program of the grammar that breaks no rule constructors and destructors are
 /// called at variables and at fields of the object at hand alone, by what builds the object or by a
@@ -51,4 +52,10 @@ pub fn law_own_places()
 /// operands.
 pub fn law_lone_objects()
     ensures { LawLoneObjects }
+{}
+
+/// Where an object goes, it is at home in no element that still stands of an array of mutex objects, a variable, of
+/// which older activations of the execution build or destroy others.
+pub fn law_apart_elements()
+    ensures { LawApartElements }
 {}

@@ -1,5 +1,5 @@
 -- Step by step nothing else is owed to what is let go of, where nobody else has it at hand.
-use Rattle.std.proofs.Common.{◌≡◌, ℕ, true, false, List, [], subst}
+use Rattle.std.proofs.Common.{◌≡◌, ℕ, true, false, List, [], subst, ap, ◌∙◌}
 use Rattle.uc_tree.specs.Programs.{Program}
 use Rattle.uc_entry.specs.declared.entry.Options.{Options}
 use Rattle.uc_entry.specs.declared.request.Asked.{Asked}
@@ -52,8 +52,8 @@ module _ (p : Program) (formed : IsFormed p) (ok : breaks_of p ≡ []) (few : Fe
   inner = (law_inner p formed ok).source
 
   module _ (own : ℕ) (news : Tests) (mine : (h : Home) (k : Aspect) → news h k own ≡ false) (other : (h : Home) (q : ℕ) → (own ≡ q → ⊥) → (h ≡ Object q → ⊥) → news h Other q ≡ true) (away : (h : Home) (k : Aspect) (q : ℕ) → news h k q ≡ true → h ≡ Object q → ⊥) where
-    here : (s : State) → KnowsState (table_of p) few [] s → StepApart (table_of p) few (source_of p) s → Deep (source_of p) news s → Alone (source_of p) s
-    here s k h d = law_apart (table_of p) few (source_of p) news s k d (h k)
+    here : (s : State) → KnowsState (table_of p) few [] s → StepApart (table_of p) few (source_of p) s → Deep (source_of p) news s → StandsState (part_of p) (source_of p) own s → Alone (source_of p) s
+    here s k h d v = law_apart (table_of p) few (source_of p) news s (λ i. ap (news s.env.exec.home i) v.own ∙ mine s.env.exec.home i) k d (h k)
 
     deeper : (s : State) → Alone (source_of p) s → Deep (source_of p) news s → StandsState (part_of p) (source_of p) own s → DeepStep (source_of p) news s (quiet (source_of p) s)
     deeper s a d v =
@@ -65,12 +65,12 @@ module _ (p : Program) (formed : IsFormed p) (ok : breaks_of p ≡ []) (few : Fe
     ride_alone : {s u : State} {q k : ℕ} {a : Asked} (r : Rides (source_of p) s q u k a) → RideMeets (Meets (table_of p) few) (source_of p) s q u k a r → RideMeets (StepApart (table_of p) few (source_of p)) (source_of p) s q u k a r → ((v : State) (l : Leads (source_of p) s v) → LeadsMeet (Meets (table_of p) few) (source_of p) s v l → KnowsState (table_of p) few [] v) → Deep (source_of p) news s → StandsState (part_of p) (source_of p) own s → RideAlone (source_of p) s q u k a r
     ride_alone slices m h known d v = tt
     ride_alone (goes_on {s} e r) m h known d v =
-        let a = here s (known s way.stays tt) h.0 d in
+        let a = here s (known s way.stays tt) h.0 d v in
         (a, ride_alone r m.1 h.1 (λ x l y. known x (way.goes e l) (m.0, y)) (subst (DeepStep (source_of p) news s) e (deeper s a d v)) (subst (StandsStep (part_of p) (source_of p) own s) e (stands s v)))
     ride_alone (ticks {s} e r) m h known d v =
-        let a = here s (known s way.stays tt) h.0 d in
+        let a = here s (known s way.stays tt) h.0 d v in
         (a, ride_alone r m.1 h.1 (λ x l y. known x (way.ticks e l) (m.0, y)) (subst (DeepStep (source_of p) news s) e (deeper s a d v)) (subst (StandsStep (part_of p) (source_of p) own s) e (stands s v)))
-    ride_alone (asks {s} e) m h known d v = here s (known s way.stays tt) h d
+    ride_alone (asks {s} e) m h known d v = here s (known s way.stays tt) h d v
 
   module _ (input : List ℕ) (opts : Options) (range : InRange opts) (first : MainPasses (table_of p) few ((table_of p).routine (source_of p).main).this 0) where
     along : {j : Journal} {w : World} (r : Runs (source_of p) input opts j w) → RunFits (source_of p) input opts j w r → is_over j ≡ false → PassesBelow few opts j → RunMeets (Meets (table_of p) few) (source_of p) input opts j w r → RunAlone (source_of p) input opts j w r → (q t n : ℕ) (s : State) (asked : Asked) (d : AsksIn (source_of p) opts j w q t n s asked) → RideMeets (Meets (table_of p) few) (source_of p) (answered (source_of p) d.given (drawn j w t)) (left opts j t) s n asked d.rides → RideMeets (StepApart (table_of p) few (source_of p)) (source_of p) (answered (source_of p) d.given (drawn j w t)) (left opts j t) s n asked d.rides → RideAlone (source_of p) (answered (source_of p) d.given (drawn j w t)) (left opts j t) s n asked d.rides

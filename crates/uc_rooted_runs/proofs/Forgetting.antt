@@ -32,7 +32,7 @@ use Rattle.uc_typing.specs.Typing.{Ty, Obj, Table}
 use Rattle.uc_life_laws.specs.Things.{Few, AtVariable, Nowhere, Marks, InTodo, Base, Variables}
 use Rattle.uc_life_laws.specs.LifeStates.{SlotBy, ParkedBy, HandBy, MembersBy}
 use Rattle.uc_life_laws.specs.Lasting.{lasting, lasting_numbers, MayForget, RunForgets, ForgetsAt}
-use Rattle.uc_life_laws.specs.Rooted.{IsPlace, FreshKeeps, FreshLast}
+use Rattle.uc_life_laws.specs.Rooted.{IsBase, FreshKeeps, FreshLast}
 use Rattle.uc_life_laws.proofs.Rooted.{law_rooted}
 use Rattle.uc_life_laws.specs.Placed.{Placed, put, placed, stacked}
 use Rattle.uc_rooted_runs.specs.FreshStates.{FreshBy, FreshEx, KeepsFresh}
@@ -161,7 +161,7 @@ module _ (t : Table) (few : Few) (j : Journal) (a : List Entry) (x : World) (w :
       at q (Some m) e h =
           parked_map FreshEx Kept (home.Object q) m.parked (λ n y i h. keeps n y (λ o g. let same = same_object q o (sym i ∙ g) in subst (λ o. is_gone o j ≡ false → is_gone o (j ++ a) ≡ false) same (not_taken q m e)) h) h
 
-module _ (t : Table) (few : Few) (own : Exec → Value → Ty → Bool) (yet : Exec → List Active → Value → Ty → Bool) (rank : Exec → ℕ) (source : Source) (input : List ℕ) (opts : Options) (places : (n : Exec) (w : Value) (b : Ty) → Base few n w b → IsPlace w) where
+module _ (t : Table) (few : Few) (own : Exec → Value → Ty → Bool) (yet : Exec → List Active → Value → Ty → Bool) (rank : Exec → ℕ) (source : Source) (input : List ℕ) (opts : Options) (places : (n : Exec) (w : Value) (b : Ty) → Base few n w b → IsBase w b) where
   -- the act that asks that an object go
   module _ (j : Journal) (w : World) (p n k : ℕ) (s : State) (asked : Asked) (on : is_over (j ++ act opts source.sites input j p n k asked) ≡ false) (o : ℕ) (e : asked.request ≡ ask.Gone o) where
     one : act opts source.sites input j p n k asked ≡ asking kind.Gone p n (cost k asked.line) o (pos 0) (pos 0) ∷ []

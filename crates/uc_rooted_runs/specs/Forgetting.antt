@@ -16,7 +16,7 @@ use Rattle.uc_state_laws.specs.Opens.{RunMeets}
 use Rattle.uc_typing.specs.Typing.{Ty, Table}
 use Rattle.uc_life_laws.specs.Things.{Few, Base}
 use Rattle.uc_life_laws.specs.Lasting.{RunForgets}
-use Rattle.uc_life_laws.specs.Rooted.{IsPlace, Rooted}
+use Rattle.uc_life_laws.specs.Rooted.{IsBase, Rooted}
 use Rattle.uc_rooted_runs.specs.FreshStates.{KeepsFresh}
 
 -- behind an act by which an object goes
@@ -40,13 +40,13 @@ module _ (t : Table) (few : Few) (own : Exec → Value → Ty → Bool) (yet : E
   RunRoots input opts _ _ (more {j} {w} {a} {w' = x} r o m) = RunRoots input opts j w r ×
       MayRoot opts input j w a x m
 
--- then nobody has at hand what has gone, as long as all that was asked so far fits, what executions have of others are places, no step binds what
+-- then nobody has at hand what has gone, as long as all that was asked so far fits, what executions have of others are places, or objects that are not whole, no step binds what
 -- stands in a frame of one that has not begun, and ends leave no marks
 abbrev pub LawForgetting : Type 0
 LawForgetting =
     (t : Table) (few : Few) (own : Exec → Value → Ty → Bool) (yet : Exec → List Active → Value → Ty → Bool)
     (rank : Exec → ℕ) (source : Source) (input : List ℕ) (opts : Options) (j : Journal) (w : World)
     (r : Runs source input opts j w) → InRange opts → RunFits source input opts j w r → is_over j ≡ false →
-    ((n : Exec) (w : Value) (b : Ty) → Base few n w b → IsPlace w) →
+    ((n : Exec) (w : Value) (b : Ty) → Base few n w b → IsBase w b) →
     RunMeets (KeepsFresh source) source input opts j w r →
     RunRoots t few own yet rank source input opts j w r → RunForgets t few source input opts j w r

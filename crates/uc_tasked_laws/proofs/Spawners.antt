@@ -170,7 +170,7 @@ module _ (p : Program) where
   same_some : {A : Type 0} {x y : A} → Some x ≡ Some y → x ≡ y
   same_some h = cc
 
-  begins : (n i : ℕ) (q : Routine) → slice_get (source_of p).routines n ≡ Some q → ((table_of p).routine n).this ≡ Some i → ((table_of p).routine n).inward ≡ Makes → of_kind is_task (class_at p i) ≡ true → Begins q.body
+  pub begins : (n i : ℕ) (q : Routine) → slice_get (source_of p).routines n ≡ Some q → ((table_of p).routine n).this ≡ Some i → ((table_of p).routine n).inward ≡ Makes → of_kind is_task (class_at p i) ≡ true → Begins q.body
   begins n i q e this inward h = by (in_step p n q e)
     where
       by : InStep p (routines_of p) (unwritten_of p) n n q (slice_get (all_sigs p) n) → Begins q.body

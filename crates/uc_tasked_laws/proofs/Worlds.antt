@@ -134,7 +134,7 @@ module _ (g : Program) (source : Source) (told : Told) (known : (n : ℕ) → Co
 
 -- an act that lets a task begin
 
-over_by : (j : Journal) (e : Entry) → is_ending e.kind ≡ true → is_over (j ++ e ∷ []) ≡ true
+pub over_by : (j : Journal) (e : Entry) → is_ending e.kind ≡ true → is_over (j ++ e ∷ []) ≡ true
 unfolding is_over
 over_by j e h =
     list_any-append (λ x. is_ending x.kind) j (e ∷ []) ∙ (ap (λ b. list_any (λ x. is_ending x.kind) j || (b || false)) h ∙ or_true (list_any (λ x. is_ending x.kind) j))
@@ -154,7 +154,7 @@ module _ (j : Journal) (p t : ℕ) (k : Cost) (line o : ℕ) where
   row_spawns true h = not_pending (j ++ spawn_entry ∷ []) o (spawned_by o j spawn_entry (number spawn_entry.a) refl refl)
   row_spawns false h = no_both (is_over (j ++ fault_entry ∷ [])) (over_by j fault_entry refl) h
 
-spawns_now : (opts : Options) (sites : List Site) (input : List ℕ) (j : Journal) (p t n : ℕ) (asked : Asked) (o : ℕ) → asked.request ≡ ask.Spawn o → is_over (j ++ act opts sites input j p t n asked) ≡ false → is_pending (j ++ act opts sites input j p t n asked) o ≡ false
+pub spawns_now : (opts : Options) (sites : List Site) (input : List ℕ) (j : Journal) (p t n : ℕ) (asked : Asked) (o : ℕ) → asked.request ≡ ask.Spawn o → is_over (j ++ act opts sites input j p t n asked) ≡ false → is_pending (j ++ act opts sites input j p t n asked) o ≡ false
 spawns_now opts sites input j p t n asked o e on =
     let is : act opts sites input j p t n asked ≡ row opts sites input j p t (cost n asked.line) asked.line (ask.Spawn o) = (going_row opts sites input j p t n asked on).0 ∙ ap (row opts sites input j p t (cost n asked.line) asked.line) e in
     subst (λ l. is_pending (j ++ l) o ≡ false) (sym is) (row_spawns j p t (cost n asked.line) asked.line o (nat_lt (task_count j) TASKS) (subst (λ l. is_over (j ++ l) ≡ false) is on))

@@ -1,0 +1,4 @@
+pub mod LentCells
+pub mod LentSteps
+pub mod LentWalk
+pub mod LentWorlds

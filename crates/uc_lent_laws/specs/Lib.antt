@@ -1,0 +1,2 @@
+pub mod LentStates
+pub mod LentRuns

@@ -1,0 +1,2 @@
+_Monitor M { public: void a() { } };
+void uMain::main() { M m; for (int i = 0; i < 1000; i += 1) m.a(); }

@@ -1,0 +1,3 @@
+_Monitor M { public: int f() { return 7; } };
+int call(M & m) { return m.f(); }
+void uMain::main() { int n = call(m); M m; }

@@ -1,0 +1,4 @@
+//! Probes.
+#![tactic(auto)]
+
+pub mod probe;

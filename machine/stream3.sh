@@ -1,0 +1,6 @@
+cd /work/helpers/h-r3
+python3 /work/tools/seed.py /work/helpers/h-r3 uc_step uc_classes uc_nesting > /tmp/gate/seed-3.txt 2>&1
+export LIMIT=6000 BATCH=40
+python3 /work/tools/try.py /work/helpers/h-r3 uc_step element_destroyed_twice line_off_by_one store_done_twice throw_is_a_raise sum_of_a_difference tick_goes_unseen set_writes_the_operand_below sweep_begins_at_the_first too_great_a_condition_is_the_last one_element_too_many wait_on_the_number_that_it_tells text_dropped building_given_up_is_a_call zero_jumps_on_others no_return_overflows yield_asks_for_a_slice forgotten_coroutine_is_live signal_blocks_its_task task_that_is_held_up_ends bind_writes_a_number task_inside_asks_again tick_is_not_counted wait_tells_no_number unwritten_mutex_call_is_deep unwritten_call_counts task_accepts_without_a_true_guard spawned_task_is_free unwinding_goes_on object_that_is_gone_stays_entered store_to_the_value sum_wraps one_op_stays_next
+python3 /work/tools/try.py /work/helpers/h-r3 uc_classes reference_to_void value_parameter_of_a_class public_fields_of_all
+python3 /work/tools/try.py /work/helpers/h-r3 uc_nesting
